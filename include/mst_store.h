@@ -5,7 +5,8 @@
  * A store is used through its passes alone. mst_open makes a store of the empty map and puts a pass
  * into each hand of an array; a thread works through a hand of its own. Reads wait for no one. One
  * pass at a time has the turn to write. Meanwhile a try of another one returns MST_BUSY; mst_put,
- * mst_remove, mst_apply and mst_migrate below wait. The store is freed when its last pass is closed.
+ * mst_remove, mst_apply and mst_migrate below wait. The store is freed when its last pass is
+ * closed.
  *
  *     mst_pass passes[2] = {MST_PASS_CLOSED, MST_PASS_CLOSED};
  *     uint8_t old[MST_VALUE_LONGEST], root[MST_ROOT_LENGTH];
@@ -30,9 +31,9 @@
  *     exception nor longjmp leads out of them, and no thread is cancelled within a call
  *     (pthread_cancel with asynchronous cancellation). A thread whose cancellation is deferred may
  *     be cancelled where a call that waits sleeps: then nothing is written;
- *   - a thread has stack left for a call: 16 KiB are enough over maps of random keys. Keys that were
- *     chosen to make a tree deep, of at most 129 layers, take less than 128 KiB, a batch 144 KiB,
- *     and a call then nests less than 140 functions;
+ *   - a thread has stack left for a call: 16 KiB are enough over maps of random keys. Keys that
+ *     were chosen to make a tree deep, of at most 129 layers, take less than 128 KiB, a batch 144
+ *     KiB, and a call then nests less than 140 functions;
  *   - no call is made in a signal handler, or in the forked child of a process with threads.
  *
  * A length that is out of its limits is refused without a look at the bytes, however great it is,
@@ -110,7 +111,8 @@ typedef struct mst_pass {
 
 /*
  * A room, the caller's buffer for an answer, is too short. A put or a remove has been made all the
- * same, and only the old value is lost: a room of MST_VALUE_LONGEST bytes is never too short for it.
+ * same, and only the old value is lost: a room of MST_VALUE_LONGEST bytes is never too short for
+ * it.
  */
 #define MST_SHORT_ROOM (-2)
 
@@ -188,8 +190,8 @@ int32_t mst_close(mst_pass *pass);
 
 /*
  * Returns the length of the key's value, 0 to 64, and its bytes stand first in the room. Otherwise
- * returns MST_CLOSED; MST_BAD_KEY; MST_ABSENT; MST_SHORT_ROOM if the room is shorter than the value.
- * With each of these the room is as it was.
+ * returns MST_CLOSED; MST_BAD_KEY; MST_ABSENT; MST_SHORT_ROOM if the room is shorter than the
+ * value. With each of these the room is as it was.
  */
 int32_t mst_get(mst_pass *pass, const uint8_t *key, size_t key_length,
                 uint8_t *room, size_t room_length);
@@ -198,8 +200,8 @@ int32_t mst_get(mst_pass *pass, const uint8_t *key, size_t key_length,
  * Finds the pair of the least key above `key`, or of the least key of all if key_length is 0.
  * Returns the value's length: its bytes stand first in room, those of the key first in key_room,
  * and *next_length is the key's length. Otherwise returns MST_CLOSED; MST_BAD_KEY if the key is
- * longer than 32 bytes; MST_ABSENT if there is no such pair; MST_SHORT_ROOM if one of the two rooms is
- * too short. With each of these both rooms and *next_length are as they were.
+ * longer than 32 bytes; MST_ABSENT if there is no such pair; MST_SHORT_ROOM if one of the two rooms
+ * is too short. With each of these both rooms and *next_length are as they were.
  */
 int32_t mst_next(mst_pass *pass, const uint8_t *key, size_t key_length,
                  uint8_t *key_room, size_t key_room_length, size_t *next_length,
@@ -208,13 +210,13 @@ int32_t mst_next(mst_pass *pass, const uint8_t *key, size_t key_length,
 /*
  * Finds the first pairs, at most `limit`, whose keys are at least `from` and below `to`, by rising
  * keys. A bound of length 0 does not bind. For the pairs behind a key, page by page, there is
- * mst_page_after below. Returns MST_OK: *count is the number of the pairs and
- * *length that of their bytes, which stand first in the room, one pair after the other: the length
- * of the key in two bytes, the high one first, that of the value in two bytes, the key, the value.
- * mst_pair_at below reads them. Returns MST_CLOSED; MST_BAD_KEY if a bound is longer than 32 bytes;
- * MST_MEMORY: the room, *count and *length are as they were. Returns MST_SHORT_ROOM if the room is too
- * short: *count and *length are those of all these pairs, and the room is as it was. By the next
- * call a free pass may find more; a pinned one finds these.
+ * mst_page_after below. Returns MST_OK: *count is the number of the pairs and *length that of their
+ * bytes, which stand first in the room, one pair after the other: the length of the key in two
+ * bytes, the high one first, that of the value in two bytes, the key, the value. mst_pair_at below
+ * reads them. Returns MST_CLOSED; MST_BAD_KEY if a bound is longer than 32 bytes; MST_MEMORY: the
+ * room, *count and *length are as they were. Returns MST_SHORT_ROOM if the room is too short:
+ * *count and *length are those of all these pairs, and the room is as it was. By the next call a
+ * free pass may find more; a pinned one finds these.
  */
 int32_t mst_range(mst_pass *pass, const uint8_t *from, size_t from_length,
                   const uint8_t *to, size_t to_length, uint32_t limit,
@@ -230,8 +232,8 @@ int32_t mst_root(mst_pass *pass, uint8_t *root, size_t root_length);
  * Makes the proof of the key's answer, which mst_verify judges in the format and by the root digest
  * of the same version. Returns MST_OK: its bytes stand first in the room, and *length is their
  * number. Returns MST_CLOSED, MST_BAD_KEY, MST_MEMORY: room and *length are as they were. Returns
- * MST_SHORT_ROOM if the room is too short: *length is the length of the proof, and the room is as it
- * was. By the next call the proof of a free pass may be longer; that of a pinned one stays.
+ * MST_SHORT_ROOM if the room is too short: *length is the length of the proof, and the room is as
+ * it was. By the next call the proof of a free pass may be longer; that of a pinned one stays.
  */
 int32_t mst_prove(mst_pass *pass, const uint8_t *key, size_t key_length,
                   uint8_t *room, size_t room_length, size_t *length);
@@ -384,10 +386,10 @@ size_t mst_edit_remove(uint8_t *room, size_t at, const uint8_t *key, size_t key_
 /* ---- writes that wait for the turn ---- */
 
 /*
- * As mst_try_put, but waits instead of returning MST_BUSY: it tries again after a moment, then after
- * giving the processor up, then after sleeps, from a microsecond up to a millisecond. Passes that
- * wait have no order: none is promised the next turn. For a wait of another kind, such as one with
- * an end, call mst_try_put in a loop of your own.
+ * As mst_try_put, but waits instead of returning MST_BUSY: it tries again after a moment, then
+ * after giving the processor up, then after sleeps, from a microsecond up to a millisecond. Passes
+ * that wait have no order: none is promised the next turn. For a wait of another kind, such as one
+ * with an end, call mst_try_put in a loop of your own.
  */
 int32_t mst_put(mst_pass *pass, const uint8_t *key, size_t key_length,
                 const uint8_t *value, size_t value_length, uint8_t *room, size_t room_length);

@@ -249,7 +249,8 @@ class pass : public reader {
     // Each of these is by a call that tries or by the one that waits.
     tried put_by(decltype(mst_put) call, std::string_view key, std::string_view value) {
         std::uint8_t room[MST_VALUE_LONGEST];
-        int code = call(at(), bytes(key), key.size(), bytes(value), value.size(), room, sizeof room);
+        int code = call(at(), bytes(key), key.size(), bytes(value), value.size(), room,
+                        sizeof room);
         if (code == MST_BUSY) return tried{true, std::nullopt};
         return tried{false, told(code, room)};
     }

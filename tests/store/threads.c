@@ -64,7 +64,7 @@ static void *writer(void *pass) {
         uint64_t value = (uint64_t)i;
         key_bytes(key, (uint32_t)(i % KEYS));
         int32_t told = mst_put(pass, key, 4, (const uint8_t *)&value, 8, old, sizeof old);
-        while (told == MST_NO_FREE_ROWS) { /* a pinned version holds them: they will be free again */
+        while (told == MST_NO_FREE_ROWS) { /* a pinned version holds them until its pin ends */
             sched_yield();
             told = mst_put(pass, key, 4, (const uint8_t *)&value, 8, old, sizeof old);
         }

@@ -1,8 +1,8 @@
 //! The library's calls as include/mst_store.h declares them, and its numbers.
 use std::fmt;
 
-/// A hand: what holds a pass, or nothing. It moves as any value of Rust does: the place that it left
-/// is not used again, so there is never a second hand for the pass.
+/// A hand: what holds a pass, or nothing. It moves as any value of Rust does: the place that it
+/// left is not used again, so there is never a second hand for the pass.
 #[repr(C)]
 pub struct Hand {
     at: *mut u8,
