@@ -6,3 +6,9 @@ pub mod Told
 pub mod Ranges
 pub mod Batches
 pub mod Opened
+pub mod ShardedStates
+pub mod ShardedHolding
+pub mod ShardedOwning
+pub mod ShardedSplits
+pub mod ShardedTold
+pub mod ShardedOpened

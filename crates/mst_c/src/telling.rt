@@ -68,7 +68,7 @@ fn tell_proof(proof: &[u8], room: &mut [u8], size: &mut usize) -> i32
     0
 }
 
-fn unwritten_code(fault: Unwritten) -> i32
+pub(crate) fn unwritten_code(fault: Unwritten) -> i32
     ensures code { result ≡ code_of_unwritten fault }
 {
     match fault {
@@ -95,7 +95,7 @@ fn tell_rows(rows: Result<Option<u32>, Uncounted>, count: &mut u32) -> i32
     }
 }
 
-fn done(done: bool) -> i32
+pub(crate) fn done(done: bool) -> i32
     ensures code { result ≡ done_code done }
 {
     if done { 0 } else { WRONG_STATE }

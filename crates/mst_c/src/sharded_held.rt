@@ -1,0 +1,185 @@
+//! What a hand of a sharded map holds: a handle or a snapshot, beside a share of its map.
+ghost use Rattle.std.specs.Prelude.{◌≡◌, ◌≤◌, true, Some, None};
+ghost use Rattle.mst_key.specs.declared.history.Change.TheVariants.{Put, Remove};
+ghost use Rattle.mst_c.specs.declared.sharded_held.Sharing.TheVariants as sharing;
+ghost use Rattle.mst_c.specs.ShardedHolding.{shards_in, Gets, Writes, PinsShards, Releases};
+ghost use Rattle.mst_c.specs.ShardedStates.{PinsNone};
+
+use crate::held::Unwritten;
+use crate::sharded_hand::{ShardedHand, ShardedTaken, give};
+use mst_key::{Key, Value};
+use mst_sharded::{SharedHandle, SharedSnapshot};
+use std::alloc::Global;
+use std::marker::Model;
+use std::mem::replace;
+
+/// A handle, a snapshot, or none while it is in use.
+#[derive(Drop)]
+pub enum Sharing {
+    Away,
+    Handle(SharedHandle<Global>),
+    Snapshot(SharedSnapshot<Global>),
+}
+
+/// A handle or a snapshot, each with its share of the map.
+#[derive(Drop)]
+pub struct ShardedHeld {
+    sharing: Sharing,
+}
+
+/// Contracts see the handle or the snapshot.
+impl Model for ShardedHeld {
+    ghost use Rattle.mst_c.specs.declared.sharded_held.Sharing.{Sharing};
+    ghost use Rattle.mst_c.specs.ShardedStates.{IsThere};
+
+    ghost Value = { Sharing };
+
+    ghost view = { λ h. h.sharing };
+
+    ghost invariant = { λ h. IsThere h.sharing };
+}
+
+/// A handle goes into an empty hand. Nothing else makes a `ShardedHeld`, so no other body has one
+/// to put in the place of what it took out of a hand.
+pub(crate) fn hand_out(alloc: Global, handle: SharedHandle<Global>, hand: &mut ShardedHand) -> bool
+    requires empty { hand.old.held ≡ None }
+    ensures held { result ≡ true → hand.new.held ≡ Some (sharing.Handle handle) }
+{
+    let sharing = Sharing::Handle(handle);
+    match Box::new(alloc, ShardedHeld { sharing }) {
+        Ok(held) => {
+            give(hand, ShardedTaken::of(held));
+            true
+        }
+        Err(_) => false,
+    }
+}
+
+/// The value of a key, by a handle.
+fn get_now(mut handle: SharedHandle<Global>, key: &Key) -> (SharedHandle<Global>, Option<Value>)
+    ensures gets { Gets key.now (sharing.Handle handle) result.1 (sharing.Handle result.0) }
+{
+    let found = handle.get(key);
+    (handle, found)
+}
+
+/// The value of a key, by a snapshot.
+fn get_pinned(
+    mut snapshot: SharedSnapshot<Global>,
+    key: &Key,
+) -> (SharedSnapshot<Global>, Option<Value>)
+    ensures gets { Gets key.now (sharing.Snapshot snapshot) result.1 (sharing.Snapshot result.0) }
+{
+    let found = snapshot.get(key);
+    (snapshot, found)
+}
+
+impl ShardedHeld {
+    /// How many shards there are.
+    pub(crate) fn shards(&self) -> usize
+        ensures count { result ≡ shards_in self.now }
+        ensures most { result ≤ 1024 }
+    {
+        match &self.sharing {
+            Sharing::Away => unreachable!(),
+            Sharing::Handle(handle) => handle.shards(),
+            Sharing::Snapshot(snapshot) => snapshot.shards(),
+        }
+    }
+
+    /// The value of a key.
+    pub(crate) fn get(&mut self, key: &Key) -> Option<Value>
+        ensures gets { Gets key.now self.old result self.new }
+    {
+        match replace(&mut self.sharing, Sharing::Away) {
+            Sharing::Away => unreachable!(),
+            Sharing::Handle(handle) => {
+                let (handle, found) = get_now(handle, key);
+                self.sharing = Sharing::Handle(handle);
+                found
+            }
+            Sharing::Snapshot(snapshot) => {
+                let (snapshot, found) = get_pinned(snapshot, key);
+                self.sharing = Sharing::Snapshot(snapshot);
+                found
+            }
+        }
+    }
+
+    /// Gives the key the value, if this is a handle.
+    pub(crate) fn try_put(&mut self, key: &Key, value: &Value) -> Result<Option<Value>, Unwritten>
+        ensures writes { Writes key.now (Put key.now value.now) self.old result self.new }
+    {
+        match replace(&mut self.sharing, Sharing::Away) {
+            Sharing::Away => unreachable!(),
+            Sharing::Handle(mut handle) => {
+                let put = handle.try_put(key, value);
+                self.sharing = Sharing::Handle(handle);
+                match put {
+                    Ok(old) => Ok(old),
+                    Err(fault) => Err(Unwritten::Store(fault)),
+                }
+            }
+            Sharing::Snapshot(snapshot) => {
+                self.sharing = Sharing::Snapshot(snapshot);
+                Err(Unwritten::Pins)
+            }
+        }
+    }
+
+    /// Takes the key out of the map, if this is a handle.
+    pub(crate) fn try_remove(&mut self, key: &Key) -> Result<Option<Value>, Unwritten>
+        ensures writes { Writes key.now (Remove key.now) self.old result self.new }
+    {
+        match replace(&mut self.sharing, Sharing::Away) {
+            Sharing::Away => unreachable!(),
+            Sharing::Handle(mut handle) => {
+                let removed = handle.try_remove(key);
+                self.sharing = Sharing::Handle(handle);
+                match removed {
+                    Ok(old) => Ok(old),
+                    Err(fault) => Err(Unwritten::Store(fault)),
+                }
+            }
+            Sharing::Snapshot(snapshot) => {
+                self.sharing = Sharing::Snapshot(snapshot);
+                Err(Unwritten::Pins)
+            }
+        }
+    }
+
+    /// Pins the current version of each shard, if this is a handle.
+    pub(crate) fn snapshot(&mut self) -> bool
+        ensures pins { PinsShards self.old result self.new }
+    {
+        match replace(&mut self.sharing, Sharing::Away) {
+            Sharing::Away => unreachable!(),
+            Sharing::Handle(handle) => {
+                self.sharing = Sharing::Snapshot(handle.snapshot());
+                true
+            }
+            Sharing::Snapshot(snapshot) => {
+                self.sharing = Sharing::Snapshot(snapshot);
+                false
+            }
+        }
+    }
+
+    /// Ends the pins, if this is a snapshot.
+    pub(crate) fn release(&mut self) -> bool
+        ensures releases { Releases self.old result self.new }
+        ensures free { PinsNone self.new }
+    {
+        match replace(&mut self.sharing, Sharing::Away) {
+            Sharing::Away => unreachable!(),
+            Sharing::Handle(handle) => {
+                self.sharing = Sharing::Handle(handle);
+                false
+            }
+            Sharing::Snapshot(snapshot) => {
+                self.sharing = Sharing::Handle(snapshot.release());
+                true
+            }
+        }
+    }
+}
