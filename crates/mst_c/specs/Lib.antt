@@ -12,3 +12,4 @@ pub mod ShardedOwning
 pub mod ShardedSplits
 pub mod ShardedTold
 pub mod ShardedOpened
+pub mod ShardedProving

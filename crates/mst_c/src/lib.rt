@@ -19,6 +19,8 @@
 //! | -24 | rows are not counted, since some pass pins a version |
 //! | -25 | the bytes are no list of edits |
 //! | -26 | the bytes are no splits of a sharded map |
+//! | -27 | the shards of a snapshot are in different formats |
+//! | -28 | a shard has a key of another |
 //!
 //! The tests are made in this order: the hand, the key, the value, the pass, and the rooms last.
 #![tactic(auto)]
@@ -29,6 +31,7 @@ ghost use Rattle.mst_c.specs.Formats.{format_named, FormatTold, MigrateTold};
 ghost use Rattle.mst_c.specs.Opened.{Opened, IsSize, AllEmpty};
 ghost use Rattle.mst_c.specs.Ranges.{RangeTold};
 ghost use Rattle.mst_c.specs.ShardedOpened.{ShardsOpened, NoneHeld};
+ghost use Rattle.mst_c.specs.ShardedProving as sharded_proving;
 ghost use Rattle.mst_c.specs.ShardedSplits.{PacksSplits};
 ghost use Rattle.mst_c.specs.ShardedTold as sharded;
 ghost use Rattle.mst_c.specs.Told.{GetTold, PutTold, RootTold, ProveTold, PinTold, UnpinTold, CloseTold, RemoveTold, VersionTold, RowsTold, NextTold};
@@ -43,9 +46,11 @@ mod opening;
 mod packing;
 mod parts;
 mod ranging;
+mod sharded_asking;
 mod sharded_hand;
 mod sharded_held;
 mod sharded_opening;
+mod sharded_proving;
 mod sharded_splits;
 mod sharded_telling;
 mod telling;
@@ -360,4 +365,30 @@ pub extern "C" fn mst_sharded_release(alloc: Global, hand: &mut ShardedHand) -> 
     ensures told { sharded.ReleaseTold hand.old.held result hand.new.held }
 {
     sharded_telling::release(alloc, hand)
+}
+
+/// Returns 32, the length of the root digest of all shards, and its bytes stand first in the room.
+/// Returns -7; -8 for a handle; -27, -28, -22, -9; -2 for a room of less than 32 bytes.
+#[unsafe(no_mangle)]
+pub extern "C" fn mst_sharded_root(alloc: Global, hand: &mut ShardedHand, root: &mut [u8]) -> i32
+    ensures told { sharded_proving.RootTold hand.old.held root.old result root.new hand.new.held }
+{
+    sharded_proving::root(alloc, hand, root)
+}
+
+/// Makes the proof of the key's answer against the root digest of the same snapshot. Returns 0: its
+/// bytes stand first in the room, and their number in `length`. Returns -2: `length` is their
+/// number, and the room stays. Returns -7, -5, and -8 for a handle, -27, -28, -22, -9: both stay.
+#[unsafe(no_mangle)]
+pub extern "C" fn mst_sharded_prove(
+    alloc: Global,
+    hand: &mut ShardedHand,
+    key: &[u8],
+    room: &mut [u8],
+    length: &mut usize,
+) -> i32
+    ensures told { sharded_proving.ProveTold hand.old.held key.now room.old length.old result
+        room.new length.new hand.new.held }
+{
+    sharded_proving::prove(alloc, hand, key, room, length)
 }

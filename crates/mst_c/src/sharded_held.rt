@@ -1,11 +1,14 @@
 //! What a hand of a sharded map holds: a handle or a snapshot, beside a share of its map.
-ghost use Rattle.std.specs.Prelude.{◌≡◌, ◌≤◌, true, Some, None};
+ghost use Rattle.std.specs.Prelude.{◌≡◌, ◌≤◌, true, Some, None, Ok, Err, IfOk, IfErr};
 ghost use Rattle.mst_key.specs.declared.history.Change.TheVariants.{Put, Remove};
+ghost use Rattle.mst_sharded_proof.specs.Theorem.{HasShardedRoot};
 ghost use Rattle.mst_c.specs.declared.sharded_held.Sharing.TheVariants as sharing;
 ghost use Rattle.mst_c.specs.ShardedHolding.{shards_in, Gets, Writes, PinsShards, Releases};
+ghost use Rattle.mst_c.specs.ShardedProving.{Lists, Proof};
 ghost use Rattle.mst_c.specs.ShardedStates.{PinsNone};
 
 use crate::held::Unwritten;
+use crate::sharded_asking::{Unlisted, proof_of, root_of};
 use crate::sharded_hand::{ShardedHand, ShardedTaken, give};
 use mst_key::{Key, Value};
 use mst_sharded::{SharedHandle, SharedSnapshot};
@@ -181,5 +184,25 @@ impl ShardedHeld {
                 true
             }
         }
+    }
+
+    /// The root digest, if this is a snapshot.
+    pub(crate) fn root(&mut self, alloc: Global) -> Result<[u8; 32], Unlisted>
+        ensures lists { Lists HasShardedRoot self.old result self.new }
+    {
+        let (sharing, told) = root_of(replace(&mut self.sharing, Sharing::Away), alloc);
+        self.sharing = sharing;
+        told
+    }
+
+    /// The proof of the key's answer, if this is a snapshot.
+    pub(crate) fn prove(&mut self, alloc: Global, key: &Key) -> Result<Vec<u8, Global>, Unlisted>
+        ensures ok { IfOk result
+            (λ bytes. Lists (Proof key.now) self.old (Ok bytes.items) self.new) }
+        ensures err { IfErr result (λ fault. Lists (Proof key.now) self.old (Err fault) self.new) }
+    {
+        let (sharing, told) = proof_of(replace(&mut self.sharing, Sharing::Away), alloc, key);
+        self.sharing = sharing;
+        told
     }
 }

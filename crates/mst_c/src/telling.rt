@@ -29,7 +29,7 @@ pub(crate) const BAD_SHAPE: i32 = -10;
 pub(crate) const BAD_BATCH: i32 = -25;
 
 /// Puts bytes first, and keeps those after them.
-fn put(room: &mut [u8], bytes: &[u8])
+pub(crate) fn put(room: &mut [u8], bytes: &[u8])
     requires fits { length bytes.now ≤ length room.old }
     ensures room { room.new ≡ bytes.now ++ drop (length bytes.now) room.old }
 {
@@ -55,7 +55,7 @@ pub(crate) fn tell(value: &Option<Value>, room: &mut [u8]) -> i32
 }
 
 /// Sets `size` to the length of the proof. The proof then stands first in the room, if it fits.
-fn tell_proof(proof: &[u8], room: &mut [u8], size: &mut usize) -> i32
+pub(crate) fn tell_proof(proof: &[u8], room: &mut [u8], size: &mut usize) -> i32
     ensures code { result ≡ bytes_code (length room.old) (Some proof.now) }
     ensures room { room.new ≡ room_after room.old (Some proof.now) }
     ensures size { size.new ≡ length proof.now }

@@ -1,0 +1,76 @@
+-- The root digest, the proofs and the directory of a snapshot, and what C is told of them.
+use Rattle.std.specs.Prelude.{◌≡◌, ℕ, ℤ, pos, negsuc, nat_lt, if◌then◌else◌, List, ◌++◌, length, drop, Option, Some, None, Result, Ok, Err}
+use Rattle.mst_key.specs.Bytes.{IsKey}
+use Rattle.mst_key.specs.Map.{Pair}
+use Rattle.mst_key.specs.declared.format.Format.{Format}
+use Rattle.mst_sharded_proof.specs.Frame.{sharded_proof}
+use Rattle.mst_sharded_proof.specs.Theorem.{HasShardedRoot}
+use Rattle.mst_sharded.specs.Directory.{LacksDirectory, OfClean}
+use Rattle.mst_sharded.specs.declared.faults.DirectoryFault.TheVariants.{Mixed, Stray, VersionsSpent, Memory}
+use Rattle.mst_c.specs.declared.sharded_held.Sharing.{Sharing}
+use Rattle.mst_c.specs.declared.sharded_held.Sharing.TheVariants.{Away, Handle, Snapshot}
+use Rattle.mst_c.specs.declared.sharded_asking.Unlisted.{Unlisted}
+use Rattle.mst_c.specs.declared.sharded_asking.Unlisted.TheVariants.{PinsNone, Directory}
+use Rattle.mst_c.specs.ShardedTold.{Nothing}
+use Rattle.mst_c.specs.Told.{bytes_code, room_after, size_after}
+
+-- A snapshot whose shards are in one format, and have keys of their intervals alone, answers for
+-- this format and the map of all shards together. Otherwise it has no directory, or a growth was
+-- refused. It stays, and so does a handle, which answers nothing
+abbrev pub Lists : {R : Type 0} → (Format → List Pair → List (List ℕ) → R → Type 0) → Sharing
+    → Result R Unlisted → Sharing → Type 0
+Lists Says Away result s = ⊥
+Lists Says (Handle h) (Err PinsNone) s = s ≡ Handle h
+Lists Says (Handle h) (Err (Directory fault)) s = ⊥
+Lists Says (Handle h) (Ok answer) s = ⊥
+Lists Says (Snapshot h) (Ok answer) s =
+    (s ≡ Snapshot h) × OfClean (λ format m. Says format m h.splits answer) h
+Lists Says (Snapshot h) (Err (Directory fault)) s = (s ≡ Snapshot h) × LacksDirectory fault h
+Lists Says (Snapshot h) (Err PinsNone) s = ⊥
+
+-- the answers: the root digest of a sharded map, and the proof of a key
+abbrev pub Proof : List ℕ → Format → List Pair → List (List ℕ) → List ℕ → Type 0
+Proof key format m splits bytes = bytes ≡ sharded_proof format m splits key
+
+abbrev pub unlisted_code : Unlisted → ℤ
+unlisted_code PinsNone = negsuc 7
+unlisted_code (Directory Mixed) = negsuc 26
+unlisted_code (Directory Stray) = negsuc 27
+unlisted_code (Directory VersionsSpent) = negsuc 21
+unlisted_code (Directory (Memory refused)) = negsuc 8
+
+-- 32 for a digest that there is room for, -2 where there is not
+abbrev pub root_code : ℕ → Result (List ℕ) Unlisted → ℤ
+root_code room (Ok digest) = if nat_lt room 32 then negsuc 1 else pos 32
+root_code room (Err fault) = unlisted_code fault
+
+abbrev pub root_room : List ℕ → Result (List ℕ) Unlisted → List ℕ
+root_room room (Ok digest) = if nat_lt (length room) 32 then room else digest ++ drop 32 room
+root_room room (Err fault) = room
+
+-- -7 for an empty hand, otherwise the answer of the snapshot
+abbrev pub RootTold : Option Sharing → List ℕ → ℤ → List ℕ → Option Sharing → Type 0
+RootTold None room code room' hand = Nothing (negsuc 6) None room code room' hand
+RootTold (Some s) room code room' hand =
+    (r : Result (List ℕ) Unlisted) × (t : Sharing) × (hand ≡ Some t) × Lists HasShardedRoot s r t
+    × (code ≡ root_code (length room) r) × (room' ≡ root_room room r)
+
+-- bytes that were asked for, or none
+abbrev pub bytes_of : Result (List ℕ) Unlisted → Option (List ℕ)
+bytes_of (Ok bytes) = Some bytes
+bytes_of (Err fault) = None
+
+abbrev pub proof_code : ℕ → Result (List ℕ) Unlisted → ℤ
+proof_code room (Ok bytes) = bytes_code room (Some bytes)
+proof_code room (Err fault) = unlisted_code fault
+
+-- -7 for an empty hand, -5 for what is no key, otherwise the answer of the snapshot
+abbrev pub ProveTold : Option Sharing → List ℕ → List ℕ → ℕ → ℤ → List ℕ → ℕ → Option Sharing
+    → Type 0
+ProveTold None key room size code room' size' hand = Nothing (negsuc 6) None room code room' hand
+    × (size' ≡ size)
+ProveTold (Some s) key room size code room' size' hand =
+    (¬ (IsKey key) → Nothing (negsuc 4) (Some s) room code room' hand × (size' ≡ size))
+    × (IsKey key → (r : Result (List ℕ) Unlisted) × (t : Sharing) × (hand ≡ Some t)
+    × Lists (Proof key) s r t × (code ≡ proof_code (length room) r)
+    × (room' ≡ room_after room (bytes_of r)) × (size' ≡ size_after size (bytes_of r)))
