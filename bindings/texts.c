@@ -58,6 +58,9 @@ static const char *of_store(int32_t told) {
     case MST_NO_FREE_ROWS: return "fewer rows are free than the write or the migration needs";
     case MST_ROWS_PINNED: return "a version is pinned, so the rows are not counted";
     case MST_BAD_BATCH: return "the bytes are no batch of edits";
+    case MST_BAD_SPLITS: return "the bytes are no splits of a sharded map";
+    case MST_MIXED_FORMATS: return "the shards are in different formats";
+    case MST_STRAY_KEY: return "a shard has a key of another";
     default: return NULL;
     }
 }

@@ -157,6 +157,18 @@ typedef struct mst_pass {
 /* The bytes are no batch: an edit is of no known kind, cut short, or a remove with a value. */
 #define MST_BAD_BATCH (-25)
 
+/*
+ * The bytes are no splits of a sharded map: a length is that of no key, the last key is cut short,
+ * the keys do not rise strictly from above the key of one zero byte, or are more than 1,023.
+ */
+#define MST_BAD_SPLITS (-26)
+
+/* Shards of the snapshot are in different formats, so it has no root digest and no proofs. */
+#define MST_MIXED_FORMATS (-27)
+
+/* A shard has a key outside of its interval. No call makes one so. */
+#define MST_STRAY_KEY (-28)
+
 /* ---- the library itself ---- */
 
 /* Returns the version of the library that is linked, as MST_VERSION_TEXT is that of this header. */
@@ -403,6 +415,162 @@ int32_t mst_apply(mst_pass *pass, const uint8_t *edits, size_t length, size_t *p
 
 /* As mst_try_migrate, but waits as mst_put does. */
 int32_t mst_migrate(mst_pass *pass, uint32_t format);
+
+/* ---- sharded maps ---- */
+
+/*
+ * A sharded map is one map whose keys are split into intervals, its shards, each of which is a
+ * store of its own. So it has more keys than a store has rows, and writers of different shards do
+ * not wait for each other. It is used through its handles alone. A handle reads and writes, each
+ * key in its shard; a snapshot, into which a handle turns, has one version of each shard. No order
+ * between shards is promised: a snapshot pins one shard after the other, so of two writes to
+ * different shards it may show the later one alone.
+ *
+ *     mst_handle handles[2] = {MST_HANDLE_CLOSED, MST_HANDLE_CLOSED};
+ *     uint8_t splits[2 * MST_SPLIT_LONGEST], old[MST_VALUE_LONGEST], root[MST_ROOT_LENGTH];
+ *     size_t length = 0;
+ *     length = mst_split(splits, length, (const uint8_t *)"h", 1);
+ *     length = mst_split(splits, length, (const uint8_t *)"p", 1);
+ *     if (mst_sharded_open(1, 1000, splits, length, handles, 2) != MST_OK)    // three shards
+ *         give_up();
+ *     mst_sharded_put(&handles[0], key, key_length, value, value_length, old, sizeof old);
+ *     mst_sharded_snapshot(&handles[1]);
+ *     mst_sharded_root(&handles[1], root, sizeof root);     // of all shards
+ *     mst_sharded_release(&handles[1]);
+ *     mst_sharded_close(&handles[0]);
+ *     mst_sharded_close(&handles[1]);                       // the map is gone
+ *
+ * What is owed for the hands of passes is owed for those of handles too.
+ */
+
+/* A hand of a sharded map: what holds a handle or a snapshot for its thread, or nothing. */
+typedef struct mst_handle {
+    void *at; /* the library's alone */
+} mst_handle;
+
+/* A hand that holds nothing. */
+#ifdef __cplusplus
+#define MST_HANDLE_CLOSED {}
+#else
+#define MST_HANDLE_CLOSED {0}
+#endif
+
+/* The most bytes that a split takes: a byte for its length, and a key. */
+#define MST_SPLIT_LONGEST (1 + MST_KEY_LONGEST)
+
+/* The most splits of a sharded map. */
+#define MST_SPLITS_MOST 1023
+
+/*
+ * Opens a sharded map of the empty map in format 1 or 2, and puts a handle into each of the `count`
+ * hands. What a hand held before is closed, whatever the call returns. Each shard is a store with
+ * `rows` rows and `count` passes. The splits stand in `splits_length` bytes, one after the other:
+ * each is a byte for the length of a key, and the key. They rise strictly, from above the key of
+ * one zero byte. The keys from a split on, and below the next one, are those of a shard, so there
+ * is one shard more than splits. mst_split below writes a split.
+ *
+ * Returns MST_OK; MST_UNKNOWN_FORMAT for another format; MST_BAD_SPLITS; MST_BAD_SHAPE if rows or
+ * count are out of their limits; MST_MEMORY, also before the order of the splits or the shape is
+ * looked at, if there is none for their list. If it does not return MST_OK, all hands are empty.
+ */
+int32_t mst_sharded_open(uint32_t format, uint32_t rows, const uint8_t *splits,
+                         size_t splits_length, mst_handle *handles, size_t count);
+
+/*
+ * Closes the handle or the snapshot, whose pins end first. Returns MST_OK, and then the hand is
+ * empty, or MST_CLOSED. The map is freed with its last handle.
+ */
+int32_t mst_sharded_close(mst_handle *handle);
+
+/* Returns how many shards the map has, 1 to 1,024; or MST_CLOSED. */
+int32_t mst_sharded_shards(mst_handle *handle);
+
+/*
+ * As mst_get: a handle reads the current version of the key's shard, a snapshot the one that it
+ * pins. Returns what mst_get returns.
+ */
+int32_t mst_sharded_get(mst_handle *handle, const uint8_t *key, size_t key_length,
+                        uint8_t *room, size_t room_length);
+
+/*
+ * As mst_try_put, in the key's shard. Returns what mst_try_put returns, MST_WRONG_STATE for a
+ * snapshot, and MST_BUSY only if another handle has the turn of this shard.
+ */
+int32_t mst_sharded_try_put(mst_handle *handle, const uint8_t *key, size_t key_length,
+                            const uint8_t *value, size_t value_length,
+                            uint8_t *room, size_t room_length);
+
+/* As mst_try_remove, in the key's shard. Returns what mst_sharded_try_put returns, without
+ * MST_BAD_VALUE. */
+int32_t mst_sharded_try_remove(mst_handle *handle, const uint8_t *key, size_t key_length,
+                               uint8_t *room, size_t room_length);
+
+/*
+ * Turns the handle into a snapshot, which pins the current version of each shard, one shard after
+ * the other: until mst_sharded_release each read is of these. Returns MST_OK, MST_CLOSED, or
+ * MST_WRONG_STATE for a snapshot. It takes no memory.
+ */
+int32_t mst_sharded_snapshot(mst_handle *handle);
+
+/* Turns the snapshot into a handle: its pins end. Returns MST_OK, MST_CLOSED, or MST_WRONG_STATE
+ * for a handle. */
+int32_t mst_sharded_release(mst_handle *handle);
+
+/*
+ * Returns 32, the length of the root digest of all shards together, and its bytes stand first in
+ * `root`. It depends on the content, the format and the splits alone. Returns MST_CLOSED;
+ * MST_WRONG_STATE for a handle; MST_MIXED_FORMATS, MST_STRAY_KEY, MST_MEMORY; MST_VERSIONS_SPENT if
+ * the handle's list of shards has changed 2^63 - 1 times; MST_NO_ROOM if root_length is less than
+ * 32.
+ */
+int32_t mst_sharded_root(mst_handle *handle, uint8_t *root, size_t root_length);
+
+/*
+ * Makes the proof of the key's answer, which mst_verify_sharded judges in the format and by the
+ * root digest of the same snapshot. Returns MST_OK: its bytes stand first in the room, and *length
+ * is their number. Returns MST_CLOSED, MST_BAD_KEY, and what mst_sharded_root returns but
+ * MST_NO_ROOM: room and *length are as they were. Returns MST_NO_ROOM if the room is too short:
+ * *length is the length of the proof, and the room is as it was.
+ */
+int32_t mst_sharded_prove(mst_handle *handle, const uint8_t *key, size_t key_length,
+                          uint8_t *room, size_t room_length, size_t *length);
+
+/*
+ * Writes a split at `at` bytes into the room, which needs MST_SPLIT_LONGEST bytes from there, and
+ * returns where the next one goes. After the last split that is the length of all. Of a key that is
+ * longer than 32 bytes it writes only a length, so that mst_sharded_open refuses it.
+ */
+static inline size_t mst_split(uint8_t *room, size_t at, const uint8_t *key, size_t key_length) {
+    if (key_length > MST_KEY_LONGEST) {
+        room[at] = 0xFF;
+        return at + 1;
+    }
+    room[at] = MST_AS(uint8_t, key_length);
+    for (size_t i = 0; i < key_length; i++)
+        room[at + 1 + i] = key[i];
+    return at + 1 + key_length;
+}
+
+/* As mst_sharded_try_put, but tries again instead of returning MST_BUSY. */
+static inline int32_t mst_sharded_put(mst_handle *handle, const uint8_t *key, size_t key_length,
+                                      const uint8_t *value, size_t value_length,
+                                      uint8_t *room, size_t room_length) {
+    int32_t told;
+    while ((told = mst_sharded_try_put(handle, key, key_length, value, value_length,
+                                       room, room_length)) == MST_BUSY)
+        MST_PAUSE();
+    return told;
+}
+
+/* As mst_sharded_try_remove, but tries again instead of returning MST_BUSY. */
+static inline int32_t mst_sharded_remove(mst_handle *handle, const uint8_t *key,
+                                         size_t key_length, uint8_t *room, size_t room_length) {
+    int32_t told;
+    while ((told = mst_sharded_try_remove(handle, key, key_length,
+                                          room, room_length)) == MST_BUSY)
+        MST_PAUSE();
+    return told;
+}
 
 #ifdef __cplusplus
 }

@@ -32,6 +32,13 @@ var (
 	ErrNoFreeRows = errors.New("mst: fewer rows are free than the write needs")
 	// ErrRowsPinned says that some pass pins a version, so that rows are not counted.
 	ErrRowsPinned = errors.New("mst: a version is pinned, so rows are not counted")
+	// ErrSplits says that splits are at most 1,023 keys that rise strictly, from above that of one
+	// zero byte.
+	ErrSplits = errors.New("mst: splits are at most 1023 keys that rise from above the least")
+	// ErrMixedFormats says that the shards of a snapshot are in different formats.
+	ErrMixedFormats = errors.New("mst: the shards are in different formats")
+	// ErrStrayKey says that a shard has a key of another. No handle makes one so.
+	ErrStrayKey = errors.New("mst: a shard has a key of another")
 )
 
 var refusals = map[C.int32_t]error{
@@ -46,6 +53,9 @@ var refusals = map[C.int32_t]error{
 	C.MST_VERSIONS_SPENT: ErrVersionsSpent,
 	C.MST_NO_FREE_ROWS:   ErrNoFreeRows,
 	C.MST_ROWS_PINNED:    ErrRowsPinned,
+	C.MST_BAD_SPLITS:     ErrSplits,
+	C.MST_MIXED_FORMATS:  ErrMixedFormats,
+	C.MST_STRAY_KEY:      ErrStrayKey,
 }
 
 // refusal is the error for a number that a call returned.

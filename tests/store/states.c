@@ -134,7 +134,7 @@ static void texts(void) {
     static const int32_t others[] = {0, 64, INT32_MAX, -4 - 1000, INT32_MIN, -29, -99, -1000};
     EXPECT(says(MST_BAD_KEY, "a key has 1 to 32 bytes"));
     EXPECT(says(MST_BUSY, "another pass has the turn"));
-    for (int32_t told = -1; told >= -25; told--) {
+    for (int32_t told = -1; told >= -28; told--) {
         EXPECT(!says(told, mst_error_text(-30)) && !says(told, mst_error_text(0)));
         for (int32_t other = told + 1; other < 0; other++)
             EXPECT(!says(told, mst_error_text(other)));

@@ -21,6 +21,15 @@ class Hand(ctypes.Structure):
 HAND = ctypes.POINTER(Hand)
 
 
+class ShardedHand(ctypes.Structure):
+    """What holds a handle of a sharded map or a snapshot. It stays where it is, as a Hand does."""
+
+    _fields_ = [("at", ctypes.c_void_p)]
+
+
+SHARDED_HAND = ctypes.POINTER(ShardedHand)
+
+
 def _signatures() -> Dict[str, Tuple[Any, ...]]:
     hand, size, text = HAND, ctypes.c_size_t, ctypes.c_char_p
     pointer = ctypes.POINTER
@@ -51,6 +60,22 @@ def _signatures() -> Dict[str, Tuple[Any, ...]]:
     }
 
 
+def _sharded_signatures() -> Dict[str, Tuple[Any, ...]]:
+    hand, size, text = SHARDED_HAND, ctypes.c_size_t, ctypes.c_char_p
+    return {
+        "mst_sharded_open": (ctypes.c_uint32, ctypes.c_uint32, text, size, hand, size),
+        "mst_sharded_close": (hand,),
+        "mst_sharded_shards": (hand,),
+        "mst_sharded_get": (hand, text, size, text, size),
+        "mst_sharded_try_put": (hand, text, size, text, size, text, size),
+        "mst_sharded_try_remove": (hand, text, size, text, size),
+        "mst_sharded_snapshot": (hand,),
+        "mst_sharded_release": (hand,),
+        "mst_sharded_root": (hand, text, size),
+        "mst_sharded_prove": (hand, text, size, text, size, ctypes.POINTER(size)),
+    }
+
+
 def _path() -> str:
     """Returns the path of the shared library: in the folder MST_STORE_DIR if that is set, otherwise
     in this package, or where make puts it; if it is in none, the name by which the system finds one
@@ -71,7 +96,7 @@ def _load() -> ctypes.CDLL:
     except OSError as error:
         raise ImportError(f"{error}: install {SONAME}, run `make -C bindings`, or set "
                           "MST_STORE_DIR to the folder of libmst_store.so") from error
-    for name, types in _signatures().items():
+    for name, types in {**_signatures(), **_sharded_signatures()}.items():
         call = getattr(found, name)
         call.argtypes, call.restype = types, ctypes.c_int32
     found.mst_library_version.argtypes, found.mst_library_version.restype = (), ctypes.c_char_p

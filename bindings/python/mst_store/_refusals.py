@@ -19,6 +19,9 @@ VERSIONS_SPENT = -22
 NO_FREE_ROWS = -23
 ROWS_PINNED = -24
 BAD_BATCH = -25
+BAD_SPLITS = -26
+MIXED_FORMATS = -27
+STRAY_KEY = -28
 
 _REASONS = {
     UNKNOWN_FORMAT: "no format has this number",
@@ -33,6 +36,9 @@ _REASONS = {
     NO_FREE_ROWS: "the write or the migration needs more rows than are free",
     ROWS_PINNED: "some pass pins a version, so the rows are not counted",
     BAD_BATCH: "the bytes are no batch of edits",
+    BAD_SPLITS: "splits are at most 1023 keys that rise strictly, from above the least key",
+    MIXED_FORMATS: "the shards are in different formats",
+    STRAY_KEY: "a shard has a key of another",
 }
 
 

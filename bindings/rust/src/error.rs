@@ -30,6 +30,12 @@ pub enum Error {
     NoFreeRows,
     /// Some pass pins a version, so the rows are not counted.
     RowsPinned,
+    /// Splits are at most 1,023 keys that rise strictly, from above that of one zero byte.
+    BadSplits,
+    /// The shards of a snapshot are in different formats.
+    MixedFormats,
+    /// A shard has a key outside of its interval. No handle makes one so.
+    StrayKey,
     /// A number that the header does not give for the call: the library and this crate do not fit.
     Other(i32),
 }
@@ -48,6 +54,9 @@ impl Error {
             Error::VersionsSpent => -22,
             Error::NoFreeRows => -23,
             Error::RowsPinned => -24,
+            Error::BadSplits => -26,
+            Error::MixedFormats => -27,
+            Error::StrayKey => -28,
             Error::Other(code) => code,
         }
     }
@@ -63,6 +72,9 @@ impl Error {
             -22 => Error::VersionsSpent,
             -23 => Error::NoFreeRows,
             -24 => Error::RowsPinned,
+            -26 => Error::BadSplits,
+            -27 => Error::MixedFormats,
+            -28 => Error::StrayKey,
             other => Error::Other(other),
         }
     }
@@ -99,6 +111,11 @@ impl fmt::Display for Error {
             Error::RowsPinned => {
                 out.write_str("some pass pins a version, so the rows are not counted")
             }
+            Error::BadSplits => {
+                out.write_str("splits are at most 1023 keys that rise, from above the least")
+            }
+            Error::MixedFormats => out.write_str("the shards are in different formats"),
+            Error::StrayKey => out.write_str("a shard has a key of another"),
             Error::Other(code) => write!(out, "the library answered {code}"),
         }
     }

@@ -66,12 +66,15 @@ mod edits;
 mod error;
 mod format;
 mod raw;
+mod raw_sharded;
 mod reads;
+mod sharded;
 
 pub use edits::Edit;
 pub use error::{Error, TryError};
 pub use format::Format;
 pub use reads::{Items, Pair, Reads};
+pub use sharded::{open_sharded, Handle, Snapshot};
 
 use raw::Hand;
 use std::ffi::CStr;

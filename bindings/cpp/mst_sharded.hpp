@@ -1,0 +1,195 @@
+// Sharded maps from C++17: one map over many stores, each for an interval of keys, with one root
+// digest.
+//
+//     auto handles = mst::open_sharded(1000, 2, {"h", "p"});    // three shards of 1,000 rows
+//     handles[0].put("apple", "30");
+//     auto then = handles[1].snapshot();                        // each shard pinned
+//     auto root = then.root();                                  // of all shards
+//
+// A handle is one thread's at a time; it is moved, never copied, and closes itself. The map is
+// freed with its last handle. All else is as in mst_store.hpp.
+#pragma once
+#include "mst_store.hpp"
+
+namespace mst {
+
+namespace detail {
+
+// A hand of a sharded map, and the room for proofs.
+struct sharded_held {
+    mst_handle handle = MST_HANDLE_CLOSED;
+    std::vector<std::uint8_t> room;
+};
+
+inline int require(int code) {
+    if (code < 0) throw refused(code);
+    return code;
+}
+
+} // namespace detail
+
+// The reads that a handle and a snapshot both have. The hand lies on the heap, so that a handle may
+// be moved or closed while it is pinned.
+class sharded_reader {
+protected:
+    std::shared_ptr<detail::sharded_held> hand;
+
+    sharded_reader() noexcept = default;
+    explicit sharded_reader(std::shared_ptr<detail::sharded_held> of) noexcept
+        : hand(std::move(of)) {}
+    ~sharded_reader() = default;
+
+    mst_handle *at() const {
+        if (hand == nullptr) throw refused(MST_CLOSED);
+        return &hand->handle;
+    }
+
+    static std::optional<std::string> told(int code, const std::uint8_t *room) {
+        if (code == MST_ABSENT) return std::nullopt;
+        auto length = static_cast<std::size_t>(detail::require(code));
+        return std::string(reinterpret_cast<const char *>(room), length);
+    }
+
+public:
+    sharded_reader(const sharded_reader &) = delete;
+    sharded_reader &operator=(const sharded_reader &) = delete;
+
+    // Returns how many shards there are.
+    std::size_t shards() const {
+        return static_cast<std::size_t>(detail::require(mst_sharded_shards(at())));
+    }
+
+    // Returns the value of the key, or nothing if the key is absent.
+    std::optional<std::string> get(std::string_view key) {
+        std::uint8_t room[MST_VALUE_LONGEST];
+        return told(mst_sharded_get(at(), detail::bytes(key), key.size(), room, sizeof room), room);
+    }
+};
+
+// A handle while it pins a version of each shard: all reads are of these. The pins end with the
+// object, or with its handle: then reads by the object are refused. It is used in the thread of its
+// handle.
+class [[nodiscard]] snapshot : public sharded_reader {
+    friend class handle;
+    explicit snapshot(std::shared_ptr<detail::sharded_held> of) : sharded_reader(std::move(of)) {
+        detail::require(mst_sharded_snapshot(at()));
+    }
+
+public:
+    snapshot(snapshot &&other) noexcept : sharded_reader(std::move(other.hand)) {}
+    snapshot &operator=(snapshot &&) = delete;
+    ~snapshot() { release(); }
+
+    // Returns the root digest of all shards. It depends on their pairs, their format and the splits
+    // alone.
+    digest root() {
+        digest root;
+        detail::require(mst_sharded_root(at(), root.data(), root.size()));
+        return root;
+    }
+
+    // Returns the proof of the key's answer, for mst_verify_sharded and the format and root digest
+    // of this snapshot.
+    std::vector<std::uint8_t> prove(std::string_view key) {
+        mst_handle *from = at();
+        auto &room = hand->room;
+        if (room.empty()) room.resize(4096);
+        for (;;) {
+            std::size_t length = 0;
+            int code = mst_sharded_prove(from, detail::bytes(key), key.size(), room.data(),
+                                         room.size(), &length);
+            if (code == MST_OK) return {room.data(), room.data() + length};
+            if (code != MST_NO_ROOM) throw refused(code);
+            room.resize(std::max(length, 2 * room.size()));
+        }
+    }
+
+    // Ends the pins before the object ends. No read may follow: it is refused.
+    void release() noexcept {
+        if (auto of = std::move(hand)) mst_sharded_release(&of->handle);
+    }
+};
+
+// A handle of a sharded map: reads of the current versions, and writes, each in its key's shard.
+class handle : public sharded_reader {
+    friend std::vector<handle> open_sharded(std::uint32_t, std::size_t,
+                                            const std::vector<std::string> &, format);
+
+    template <typename Try> static auto wait(Try once) {
+        for (;;) {
+            if (auto done = once()) return done;
+            std::this_thread::yield();
+        }
+    }
+
+public:
+    handle() noexcept = default;
+    handle(handle &&other) noexcept : sharded_reader(std::move(other.hand)) {}
+    handle &operator=(handle &&other) noexcept {
+        if (this != &other) {
+            close();
+            hand = std::move(other.hand);
+        }
+        return *this;
+    }
+    ~handle() { close(); }
+
+    // Closes the handle before the object ends, and ends its pins if it has any. All later calls
+    // are refused.
+    void close() noexcept {
+        if (auto of = std::move(hand)) mst_sharded_close(&of->handle);
+    }
+
+    // Gives the key the value, if no other handle has the turn of the key's shard.
+    tried try_put(std::string_view key, std::string_view value) {
+        std::uint8_t room[MST_VALUE_LONGEST];
+        int code = mst_sharded_try_put(at(), detail::bytes(key), key.size(), detail::bytes(value),
+                                       value.size(), room, sizeof room);
+        if (code == MST_BUSY) return tried{true, std::nullopt};
+        return tried{false, told(code, room)};
+    }
+
+    // Takes the key out, if no other handle has the turn of the key's shard.
+    tried try_remove(std::string_view key) {
+        std::uint8_t room[MST_VALUE_LONGEST];
+        int code = mst_sharded_try_remove(at(), detail::bytes(key), key.size(), room, sizeof room);
+        if (code == MST_BUSY) return tried{true, std::nullopt};
+        return tried{false, told(code, room)};
+    }
+
+    // As try_put, but waits for the turn. Returns the value that the key had before.
+    std::optional<std::string> put(std::string_view key, std::string_view value) {
+        return wait([&] { return try_put(key, value); }).old;
+    }
+
+    // As try_remove, but waits for the turn. Returns the value that the key had before.
+    std::optional<std::string> remove(std::string_view key) {
+        return wait([&] { return try_remove(key); }).old;
+    }
+
+    // Pins the current version of each shard, one shard after the other.
+    mst::snapshot snapshot() { return mst::snapshot(hand); }
+};
+
+// Opens a sharded map of the empty map and returns its 1 to 32 handles. The splits are at most
+// 1,023 keys that rise strictly, from above that of one zero byte: the keys from one of them on,
+// and below the next, are those of a shard, which has 4 to 65,535 rows.
+inline std::vector<handle> open_sharded(std::uint32_t rows, std::size_t handles,
+                                        const std::vector<std::string> &splits,
+                                        format in = format::one) {
+    std::vector<std::uint8_t> packed(MST_SPLIT_LONGEST * splits.size());
+    std::size_t length = 0;
+    for (const auto &split : splits)
+        length = mst_split(packed.data(), length, detail::bytes(split), split.size());
+    if (handles > MST_PASSES_MOST) handles = MST_PASSES_MOST + 1; // as refused as any greater one
+    std::vector<handle> all(handles);
+    std::vector<mst_handle> hands(handles); // null, as MST_HANDLE_CLOSED
+    for (auto &one : all) one.hand = std::make_shared<detail::sharded_held>();
+    detail::require(mst_sharded_open(static_cast<std::uint32_t>(in), rows, packed.data(), length,
+                                     hands.data(), handles));
+    // what the hands hold moves, once: those of the array are not looked at again
+    for (std::size_t i = 0; i < handles; i++) all[i].hand->handle = hands[i];
+    return all;
+}
+
+} // namespace mst

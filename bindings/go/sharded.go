@@ -1,0 +1,239 @@
+package mst
+
+// #include "mst_store.h"
+import "C"
+
+import (
+	"runtime"
+	"sync"
+)
+
+// SplitsMost is the most splits of a sharded map.
+const SplitsMost = C.MST_SPLITS_MOST
+
+// Handle is a handle of a sharded map, from OpenSharded. Its writes are refused with ErrPinned
+// while it has a snapshot, and its reads are those of the snapshot then. Goroutines that share a
+// handle wait for each other.
+type Handle struct {
+	mutex sync.Mutex
+	hand  C.mst_handle
+	// How many snapshots there were, and whether the last one still pins.
+	snapshots uint64
+	isPinned  bool
+	room      [C.MST_VALUE_LONGEST]byte
+	// The room for proofs, which grows with the longest.
+	long []byte
+}
+
+// Snapshot is a handle while it pins a version of each shard: all its reads are of these, which
+// keep their rows. After Release the error of a read is ErrClosed.
+type Snapshot struct {
+	of     *Handle
+	number uint64
+}
+
+// packedSplits are the splits as the library takes them. A key that is too long is refused by its
+// length.
+func packedSplits(splits [][]byte) []byte {
+	var packed []byte
+	for _, split := range splits {
+		if len(split) > KeyLongest {
+			return append(packed, 0xFF)
+		}
+		packed = append(append(packed, byte(len(split))), split...)
+	}
+	return packed
+}
+
+// OpenSharded opens a sharded map of the empty map in a format, and returns its 1 to 32 handles.
+// The splits are at most SplitsMost keys that rise strictly, from above that of one zero byte: the
+// keys from one of them on, and below the next, are those of a shard, a store of 4 to 65,535 rows.
+// The map is freed when all handles are closed. The error is ErrFormat, ErrSplits, ErrShape, or
+// ErrMemory.
+func OpenSharded(format Format, rows, handles int, splits [][]byte) ([]*Handle, error) {
+	// 33 handles are as refused as any other number out of the limits.
+	if handles < 0 || handles > PassesMost {
+		handles = PassesMost + 1
+	}
+	packed := packedSplits(splits)
+	hands := make([]C.mst_handle, handles+1)
+	told := C.mst_sharded_open(C.uint32_t(format), word(rows), at(packed), size(packed), &hands[0],
+		C.size_t(handles))
+	if told != C.MST_OK {
+		return nil, refusal(told)
+	}
+	made := make([]*Handle, handles)
+	for place := range made {
+		// The hand moves: its old place is not used again.
+		made[place] = &Handle{hand: hands[place]}
+		runtime.SetFinalizer(made[place], (*Handle).Close)
+	}
+	return made, nil
+}
+
+// Close closes the handle, and ends its pins if it has any. A second close returns ErrClosed and
+// has no other effect. The runtime closes a handle that nothing refers to any more, at some time.
+func (h *Handle) Close() error {
+	h.mutex.Lock()
+	defer h.mutex.Unlock()
+	h.isPinned = false
+	if told := C.mst_sharded_close(&h.hand); told != C.MST_OK {
+		return refusal(told)
+	}
+	runtime.SetFinalizer(h, nil)
+	return nil
+}
+
+// Shards returns how many shards there are. The error is ErrClosed.
+func (h *Handle) Shards() (int, error) {
+	h.mutex.Lock()
+	defer h.mutex.Unlock()
+	told := C.mst_sharded_shards(&h.hand)
+	if told < 0 {
+		return 0, refusal(told)
+	}
+	return int(told), nil
+}
+
+// value is the value that a call has written to the room, by the number that it returned.
+func (h *Handle) value(told C.int32_t) (value []byte, present bool, err error) {
+	switch {
+	case told >= 0:
+		return copied(h.room[:told]), true, nil
+	case told == C.MST_ABSENT:
+		return nil, false, nil
+	}
+	return nil, false, refusal(told)
+}
+
+func (h *Handle) get(key []byte) (value []byte, present bool, err error) {
+	return h.value(C.mst_sharded_get(&h.hand, at(key), size(key), at(h.room[:]), size(h.room[:])))
+}
+
+// Get returns the value of the key, if the key is present. The error is ErrClosed or ErrKey.
+func (h *Handle) Get(key []byte) (value []byte, present bool, err error) {
+	h.mutex.Lock()
+	defer h.mutex.Unlock()
+	return h.get(key)
+}
+
+// TryPut gives the key the value, if no other handle has the turn of the key's shard. It returns
+// the value that the key had before, if it was present. The error is ErrClosed, ErrKey, ErrValue,
+// ErrPinned, ErrBusy, ErrVersionsSpent, or ErrRowsSpent.
+func (h *Handle) TryPut(key, value []byte) (old []byte, present bool, err error) {
+	h.mutex.Lock()
+	defer h.mutex.Unlock()
+	return h.value(C.mst_sharded_try_put(&h.hand, at(key), size(key), at(value), size(value),
+		at(h.room[:]), size(h.room[:])))
+}
+
+// TryRemove takes the key out, if no other handle has the turn of the key's shard. It returns the
+// value that the key had before, if it was present. The error is that of TryPut, but for ErrValue.
+func (h *Handle) TryRemove(key []byte) (old []byte, present bool, err error) {
+	h.mutex.Lock()
+	defer h.mutex.Unlock()
+	return h.value(C.mst_sharded_try_remove(&h.hand, at(key), size(key), at(h.room[:]),
+		size(h.room[:])))
+}
+
+// Put is as TryPut, but waits for the turn.
+func (h *Handle) Put(key, value []byte) (old []byte, present bool, err error) {
+	waitForTurn(func() error {
+		old, present, err = h.TryPut(key, value)
+		return err
+	})
+	return old, present, err
+}
+
+// Remove is as TryRemove, but waits for the turn.
+func (h *Handle) Remove(key []byte) (old []byte, present bool, err error) {
+	waitForTurn(func() error {
+		old, present, err = h.TryRemove(key)
+		return err
+	})
+	return old, present, err
+}
+
+// Snapshot pins the current version of each shard, one shard after the other: until Release all
+// reads by the handle and by the result are of these. The error is ErrClosed, or ErrPinned if the
+// handle has a snapshot already.
+func (h *Handle) Snapshot() (*Snapshot, error) {
+	h.mutex.Lock()
+	defer h.mutex.Unlock()
+	if told := C.mst_sharded_snapshot(&h.hand); told != C.MST_OK {
+		return nil, refusal(told)
+	}
+	h.snapshots, h.isPinned = h.snapshots+1, true
+	made := &Snapshot{of: h, number: h.snapshots}
+	runtime.SetFinalizer(made, (*Snapshot).Release)
+	return made, nil
+}
+
+// take gets the handle for a call, which then gives it back.
+func (s *Snapshot) take() (*Handle, error) {
+	s.of.mutex.Lock()
+	if !s.of.isPinned || s.of.snapshots != s.number {
+		s.of.mutex.Unlock()
+		return nil, ErrClosed
+	}
+	return s.of, nil
+}
+
+// Get returns the value of the key, if the key is present. The error is ErrClosed or ErrKey.
+func (s *Snapshot) Get(key []byte) (value []byte, present bool, err error) {
+	h, err := s.take()
+	if err != nil {
+		return nil, false, err
+	}
+	defer h.mutex.Unlock()
+	return h.get(key)
+}
+
+// Root returns the root digest of all shards. The error is ErrClosed, ErrMixedFormats,
+// ErrVersionsSpent, or ErrMemory.
+func (s *Snapshot) Root() (root Root, err error) {
+	h, err := s.take()
+	if err != nil {
+		return root, err
+	}
+	defer h.mutex.Unlock()
+	if told := C.mst_sharded_root(&h.hand, at(root[:]), size(root[:])); told < 0 {
+		return root, refusal(told)
+	}
+	return root, nil
+}
+
+// Prove returns the proof of the key's answer, for a verifier of sharded maps and the format and
+// the root digest of this snapshot. The error may also be ErrKey.
+func (s *Snapshot) Prove(key []byte) ([]byte, error) {
+	h, err := s.take()
+	if err != nil {
+		return nil, err
+	}
+	defer h.mutex.Unlock()
+	for {
+		var length C.size_t
+		told := C.mst_sharded_prove(&h.hand, at(key), size(key), at(h.long), size(h.long), &length)
+		switch told {
+		case C.MST_OK:
+			return copied(h.long[:length]), nil
+		case C.MST_NO_ROOM:
+			h.long = make([]byte, length)
+		default:
+			return nil, refusal(told)
+		}
+	}
+}
+
+// Release ends the pins. It has no effect if they have ended before, by a Release or with the
+// handle. The runtime ends the pins of a Snapshot that nothing refers to any more, at some time.
+func (s *Snapshot) Release() {
+	h, err := s.take()
+	if err != nil {
+		return
+	}
+	defer h.mutex.Unlock()
+	h.isPinned = false
+	C.mst_sharded_release(&h.hand)
+	runtime.SetFinalizer(s, nil)
+}

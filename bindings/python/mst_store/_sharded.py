@@ -1,0 +1,155 @@
+"""Sharded maps, their handles and snapshots."""
+from __future__ import annotations
+
+import ctypes
+import operator
+import os
+import threading
+from contextlib import contextmanager
+from typing import Any, Iterable, Iterator, List, NoReturn, Optional
+
+from ._library import KEY_LONGEST, ROOT_LENGTH, SHARDED_HAND, VALUE_LONGEST, ShardedHand
+from ._library import lib as _lib
+from ._passes import Format, Octets, _octets, _until_free, _word
+from ._refusals import ABSENT, NO_ROOM
+from ._refusals import refuse as _refuse
+
+
+def _packed(splits: Iterable[Octets]) -> bytes:
+    # A key that is too long is refused by its length, so that is enough.
+    keys = map(_octets, splits)
+    return b"".join(bytes((min(len(key), 255),)) + key[: KEY_LONGEST + 1] for key in keys)
+
+
+class Handle:
+    """A handle of a sharded map, from open_sharded. Its reads are of the current version of each
+    shard, or of those that are pinned."""
+
+    def __init__(self, hand: Any) -> None:
+        if not isinstance(hand, SHARDED_HAND):
+            raise TypeError("a handle comes from open_sharded")
+        self._hand, self._process = hand, os.getpid()
+        # A hand is in one call at a time, and the rooms below are shared by its calls.
+        self._lock = threading.Lock()
+        self._room = ctypes.create_string_buffer(VALUE_LONGEST)
+        self._long_room = ctypes.create_string_buffer(4096)  # grows with the longest proof
+
+    def _value(self, code: int) -> Optional[bytes]:
+        if code >= 0:
+            return self._room.raw[:code]
+        if code != ABSENT:
+            _refuse(code)
+        return None
+
+    def shards(self) -> int:
+        """Returns how many shards there are."""
+        with self._lock:
+            return _answer(_lib.mst_sharded_shards(self._hand))
+
+    def get(self, key: Octets) -> Optional[bytes]:
+        """Returns the value of the key, or None if the key is absent."""
+        key = _octets(key)
+        with self._lock:
+            return self._value(_lib.mst_sharded_get(
+                self._hand, key, len(key), self._room, VALUE_LONGEST))
+
+    def try_put(self, key: Octets, value: Octets) -> Optional[bytes]:
+        """Gives the key the value, or raises Busy if another handle has the turn of the key's
+        shard. Returns the value before, or None if the key is new."""
+        key, value = _octets(key), _octets(value)
+        with self._lock:
+            return self._value(_lib.mst_sharded_try_put(
+                self._hand, key, len(key), value, len(value), self._room, VALUE_LONGEST))
+
+    def try_remove(self, key: Octets) -> Optional[bytes]:
+        """Takes the key out, or raises Busy. Returns the value that it had, or None if it was
+        absent."""
+        key = _octets(key)
+        with self._lock:
+            return self._value(_lib.mst_sharded_try_remove(
+                self._hand, key, len(key), self._room, VALUE_LONGEST))
+
+    def put(self, key: Octets, value: Octets) -> Optional[bytes]:
+        """As try_put, but tries until it gets the turn."""
+        return _until_free(self.try_put, key, value)
+
+    def remove(self, key: Octets) -> Optional[bytes]:
+        """As try_remove, but tries until it gets the turn."""
+        return _until_free(self.try_remove, key)
+
+    @contextmanager
+    def snapshot(self) -> Iterator[Handle]:
+        """Pins the current version of each shard, one shard after the other: inside the `with`,
+        each read by this handle is of these, and it has a root digest and proofs."""
+        with self._lock:
+            _answer(_lib.mst_sharded_snapshot(self._hand))
+        try:
+            yield self
+        finally:
+            # If the handle was closed inside, this call is refused, and no pin is left.
+            with self._lock:
+                _lib.mst_sharded_release(self._hand)
+
+    def root(self) -> bytes:
+        """Returns the root digest of all shards of a snapshot, of 32 bytes."""
+        with self._lock:
+            _answer(_lib.mst_sharded_root(self._hand, self._room, VALUE_LONGEST))
+            return self._room.raw[:ROOT_LENGTH]
+
+    def prove(self, key: Octets) -> bytes:
+        """Returns the proof of the key's answer in a snapshot, for a verifier of sharded maps and
+        the format and root digest of the same snapshot."""
+        key, length = _octets(key), ctypes.c_size_t()
+        with self._lock:
+            while True:
+                room = self._long_room
+                code = _lib.mst_sharded_prove(
+                    self._hand, key, len(key), room, len(room), ctypes.byref(length))
+                if code != NO_ROOM:
+                    _answer(code)
+                    return ctypes.string_at(room, length.value)
+                self._long_room = ctypes.create_string_buffer(length.value)
+
+    def close(self) -> None:
+        """Closes the handle. Later calls raise Refused with CLOSED; a second close has no
+        effect."""
+        with self._lock:
+            _lib.mst_sharded_close(self._hand)
+
+    def __enter__(self) -> Handle:
+        return self
+
+    def __exit__(self, *_: object) -> None:
+        self.close()
+
+    def __reduce__(self) -> NoReturn:
+        # A copy would have the same hand, and close it when it goes.
+        raise TypeError("a handle is neither copied nor pickled")
+
+    def __del__(self) -> None:
+        # As for a pass: no other call can be under way, and a forked child calls nothing by itself.
+        if _lib is not None and getattr(self, "_process", None) == os.getpid():
+            _lib.mst_sharded_close(self._hand)
+
+
+def _answer(code: int) -> int:
+    if code < 0:
+        _refuse(code)
+    return code
+
+
+def open_sharded(
+    rows: int, handles: int, splits: Iterable[Octets], format: int = Format.ONE
+) -> List[Handle]:
+    """Opens a sharded map of the empty map and returns its handles.
+
+    The splits are at most 1,023 keys that rise strictly, from above b"\\0": the keys from one of
+    them on, and below the next, are those of a shard. Each shard has 4 to 65,535 rows, and there
+    are 1 to 32 handles. Otherwise Refused is raised.
+    """
+    # 33 hands are as refused as any greater number.
+    count = min(max(operator.index(handles), 0), 33)
+    hands, packed = (ShardedHand * count)(), _packed(splits)
+    _answer(_lib.mst_sharded_open(
+        _word(format), _word(rows), packed, len(packed), hands, count))
+    return [Handle(ctypes.pointer(hands[at])) for at in range(count)]

@@ -1,0 +1,75 @@
+//! The calls of sharded maps as include/mst_store.h declares them.
+
+/// A hand of a sharded map: what holds a handle or a snapshot, or nothing. It moves as a hand of a
+/// pass does.
+#[repr(C)]
+#[derive(Debug)]
+pub(crate) struct ShardedHand {
+    at: *mut u8,
+}
+
+impl ShardedHand {
+    pub(crate) const EMPTY: ShardedHand = ShardedHand { at: std::ptr::null_mut() };
+}
+
+// Safety: as for a hand of a pass.
+unsafe impl Send for ShardedHand {}
+
+impl Drop for ShardedHand {
+    fn drop(&mut self) {
+        // Safety: the hand was empty before its first call, and is not used again. An empty hand is
+        // refused with no effect.
+        unsafe { mst_sharded_close(self) };
+    }
+}
+
+extern "C" {
+    pub(crate) fn mst_sharded_open(
+        format: u32,
+        rows: u32,
+        splits: *const u8,
+        splits_length: usize,
+        handles: *mut ShardedHand,
+        count: usize,
+    ) -> i32;
+    pub(crate) fn mst_sharded_close(handle: *mut ShardedHand) -> i32;
+    pub(crate) fn mst_sharded_shards(handle: *mut ShardedHand) -> i32;
+    pub(crate) fn mst_sharded_get(
+        handle: *mut ShardedHand,
+        key: *const u8,
+        key_length: usize,
+        room: *mut u8,
+        room_length: usize,
+    ) -> i32;
+    pub(crate) fn mst_sharded_try_put(
+        handle: *mut ShardedHand,
+        key: *const u8,
+        key_length: usize,
+        value: *const u8,
+        value_length: usize,
+        room: *mut u8,
+        room_length: usize,
+    ) -> i32;
+    pub(crate) fn mst_sharded_try_remove(
+        handle: *mut ShardedHand,
+        key: *const u8,
+        key_length: usize,
+        room: *mut u8,
+        room_length: usize,
+    ) -> i32;
+    pub(crate) fn mst_sharded_snapshot(handle: *mut ShardedHand) -> i32;
+    pub(crate) fn mst_sharded_release(handle: *mut ShardedHand) -> i32;
+    pub(crate) fn mst_sharded_root(
+        handle: *mut ShardedHand,
+        root: *mut u8,
+        root_length: usize,
+    ) -> i32;
+    pub(crate) fn mst_sharded_prove(
+        handle: *mut ShardedHand,
+        key: *const u8,
+        key_length: usize,
+        room: *mut u8,
+        room_length: usize,
+        length: *mut usize,
+    ) -> i32;
+}

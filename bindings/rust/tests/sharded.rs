@@ -1,0 +1,87 @@
+//! Answers of sharded maps beside those of a BTreeMap.
+use mst_store::{open_sharded, Error, Format, Handle};
+use std::collections::BTreeMap;
+use std::thread;
+
+/// Keys of one byte, in 16 shards.
+fn splits() -> Vec<Vec<u8>> {
+    (1..16).map(|number| vec![16 * number]).collect()
+}
+
+fn opened(format: Format, rows: u32, handles: usize) -> Vec<Handle> {
+    let splits = splits();
+    let parts: Vec<&[u8]> = splits.iter().map(Vec::as_slice).collect();
+    open_sharded(format, rows, handles, &parts).unwrap()
+}
+
+#[test]
+fn answers_are_those_of_a_map() {
+    let mut handles = opened(Format::One, 256, 2);
+    let (mut reader, mut writer) = (handles.remove(0), handles.remove(0));
+    let (mut map, mut seed) = (BTreeMap::new(), 7u64);
+    assert_eq!((reader.shards(), writer.shards()), (16, 16));
+    for step in 0..4000u64 {
+        seed = seed.wrapping_mul(6364136223846793005).wrapping_add(1442695040888963407);
+        let key = vec![(seed >> 40) as u8];
+        if seed >> 62 == 0 {
+            assert_eq!(writer.remove(&key), Ok(map.remove(&key)));
+        } else {
+            let value = step.to_be_bytes().to_vec();
+            assert_eq!(writer.put(&key, &value), Ok(map.insert(key.clone(), value)));
+        }
+        assert_eq!(reader.get(&key), Ok(map.get(&key).cloned()));
+    }
+    let mut then = reader.snapshot();
+    let root = then.root().unwrap();
+    for key in 0..=255u8 {
+        writer.put(&[key], b"later").unwrap();
+        assert_eq!(then.get(&[key]), Ok(map.get(&vec![key]).cloned()));
+    }
+    assert_eq!(then.root(), Ok(root));
+    assert!(!then.prove(b"a").unwrap().is_empty());
+    drop(then);
+    assert_eq!(reader.get(b"a"), Ok(Some(b"later".to_vec())));
+}
+
+#[test]
+fn refusals() {
+    let of = |splits: &[&[u8]]| open_sharded(Format::One, 16, 1, splits).map(|_| ()).unwrap_err();
+    assert_eq!(of(&[b""]), Error::BadSplits);
+    assert_eq!(of(&[b"\0"]), Error::BadSplits);
+    assert_eq!(of(&[b"b", b"b"]), Error::BadSplits);
+    assert_eq!(of(&[&[1; 33]]), Error::BadSplits);
+    assert_eq!(of(&[&[1; 300]]), Error::BadSplits);
+    assert_eq!(Error::BadSplits.code(), -26);
+    assert_eq!(open_sharded(Format::Two, 3, 1, &[]).map(|_| ()), Err(Error::BadShape));
+    assert_eq!(open_sharded(Format::Two, 16, 33, &[]).map(|_| ()), Err(Error::BadShape));
+    let mut handle = opened(Format::Two, 16, 1).remove(0);
+    assert_eq!(handle.get(b""), Err(Error::BadKey));
+    assert_eq!(handle.put(b"a", &[0; 65]), Err(Error::BadValue));
+    assert_eq!(handle.snapshot().prove(b""), Err(Error::BadKey));
+    // a snapshot that was leaked ends with the next one
+    std::mem::forget(handle.snapshot());
+    assert_eq!(handle.put(b"a", b"1"), Err(Error::WrongState));
+    drop(handle.snapshot());
+    assert_eq!(handle.put(b"a", b"1"), Ok(None));
+}
+
+#[test]
+fn threads_write_side_by_side() {
+    let mut threads = Vec::new();
+    let mut handles = opened(Format::One, 1000, 4);
+    let mut last = handles.pop().unwrap();
+    for (at, mut handle) in handles.into_iter().enumerate() {
+        threads.push(thread::spawn(move || {
+            for number in 0..64u8 {
+                handle.put(&[number * 4 + at as u8], &[at as u8]).unwrap();
+            }
+        }));
+    }
+    for thread in threads {
+        thread.join().unwrap();
+    }
+    for number in 0..=255u8 {
+        let wanted = (number % 4 < 3).then(|| vec![number % 4]);
+        assert_eq!(last.get(&[number]), Ok(wanted));
+    }
+}

@@ -1,0 +1,119 @@
+// Sharded maps from C++: their answers beside those of std::map, their proofs beside the verifier.
+#include "mst_sharded.hpp"
+#include "mst_verifier.h"
+#include "tests.h"
+
+#include <map>
+#include <random>
+#include <thread>
+
+namespace {
+
+using known = std::map<std::string, std::string>;
+
+std::string one_byte(unsigned number) { return std::string(1, static_cast<char>(number)); }
+
+std::vector<std::string> sixteen() {
+    std::vector<std::string> splits;
+    for (unsigned number = 16; number < 256; number += 16) splits.push_back(one_byte(number));
+    return splits;
+}
+
+std::optional<std::string> found(const known &map, const std::string &key) {
+    auto at = map.find(key);
+    return at == map.end() ? std::nullopt : std::optional<std::string>(at->second);
+}
+
+template <typename Call> bool is_refused(int code, Call call) {
+    try {
+        call();
+    } catch (const mst::refused &refusal) {
+        return refusal.code() == code;
+    }
+    return false;
+}
+
+void audit(mst::handle &handle, const known &map, mst::format format) {
+    auto then = handle.snapshot();
+    auto root = then.root();
+    for (unsigned number = 0; number < 256; number += 5) {
+        auto key = one_byte(number);
+        auto proof = then.prove(key);
+        std::uint8_t room[MST_VALUE_LONGEST];
+        int told = mst_verify_sharded(static_cast<std::uint32_t>(format), root.data(), root.size(),
+                                      mst::detail::bytes(key), key.size(), proof.data(),
+                                      proof.size(), room, sizeof room);
+        auto wanted = found(map, key);
+        EXPECT(then.get(key) == wanted);
+        EXPECT(told == (wanted ? static_cast<int>(wanted->size()) : MST_ABSENT));
+    }
+}
+
+void against_a_map(mst::format format) {
+    auto handles = mst::open_sharded(256, 2, sixteen(), format);
+    std::mt19937 chance(7);
+    known map;
+    EXPECT(handles[0].shards() == 16);
+    for (int step = 0; step < 2000; step++) {
+        auto key = one_byte(chance() % 256);
+        auto before = found(map, key);
+        if (chance() % 3 == 0) {
+            EXPECT(handles[1].remove(key) == before);
+            map.erase(key);
+        } else {
+            map[key] = std::to_string(step);
+            EXPECT(handles[1].put(key, map[key]) == before);
+        }
+        EXPECT(handles[0].get(key) == found(map, key));
+        if (step % 200 == 0) audit(handles[0], map, format);
+    }
+}
+
+void refusals() {
+    auto with = [](std::vector<std::string> splits) {
+        return [splits] { (void)mst::open_sharded(16, 1, splits); };
+    };
+    EXPECT(is_refused(MST_BAD_SPLITS, with({""})));
+    EXPECT(is_refused(MST_BAD_SPLITS, with({"b", "b"})));
+    EXPECT(is_refused(MST_BAD_SPLITS, with({"c", "b"})));
+    EXPECT(is_refused(MST_BAD_SPLITS, with({std::string(33, 'a')})));
+    EXPECT(is_refused(MST_BAD_SHAPE, [] { (void)mst::open_sharded(3, 1, {}); }));
+    EXPECT(is_refused(MST_BAD_SHAPE, [] { (void)mst::open_sharded(16, 33, {}); }));
+    auto handle = std::move(mst::open_sharded(16, 1, {"m"})[0]);
+    EXPECT(is_refused(MST_BAD_KEY, [&] { (void)handle.get(""); }));
+    {
+        auto then = handle.snapshot();
+        EXPECT(is_refused(MST_WRONG_STATE, [&] { (void)handle.put("a", "1"); }));
+        EXPECT(is_refused(MST_WRONG_STATE, [&] { (void)handle.snapshot(); }));
+        then.release();
+        EXPECT(is_refused(MST_CLOSED, [&] { (void)then.root(); }));
+    }
+    EXPECT(!handle.put("a", "1"));
+    auto moved = std::move(handle);
+    EXPECT(moved.get("a") == "1");
+    moved.close();
+    EXPECT(is_refused(MST_CLOSED, [&] { (void)moved.get("a"); }));
+}
+
+void threads() {
+    auto handles = mst::open_sharded(1000, 4, sixteen());
+    std::vector<std::thread> all;
+    for (unsigned at = 0; at < 4; at++)
+        all.emplace_back([&handles, at] {
+            for (unsigned number = at; number < 256; number += 4)
+                handles[at].put(one_byte(number), one_byte(at));
+        });
+    for (auto &thread : all) thread.join();
+    for (unsigned number = 0; number < 256; number++)
+        EXPECT(handles[0].get(one_byte(number)) == one_byte(number % 4));
+}
+
+} // namespace
+
+int main() {
+    against_a_map(mst::format::one);
+    against_a_map(mst::format::two);
+    refusals();
+    threads();
+    return ended("sharded in C++");
+}

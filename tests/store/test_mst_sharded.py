@@ -1,0 +1,105 @@
+"""Sharded maps from Python: their answers beside those of a dict, their proofs beside the
+verifier."""
+import copy
+import os
+import pickle
+import random
+import sys
+import threading
+import unittest
+
+import mst_store
+from mst_store import Format, Handle, Refused, open_sharded
+
+HERE = os.path.dirname(os.path.abspath(__file__))
+sys.path.append(os.path.join(HERE, "..", "..", "by_hand", "python"))
+import mst_verifier  # noqa: E402
+
+SPLITS = [bytes([number]) for number in range(16, 256, 16)]
+
+
+class Sharded(unittest.TestCase):
+    def refused(self, code, call, *given):
+        with self.assertRaises(Refused) as caught:
+            call(*given)
+        self.assertEqual(caught.exception.code, code)
+
+    def test_answers_and_proofs_are_those_of_a_dict(self):
+        for format in Format:
+            chance, known = random.Random(7), {}
+            reader, writer = open_sharded(256, 2, SPLITS, format)
+            self.assertEqual((reader.shards(), writer.shards()), (16, 16))
+            for step in range(1500):
+                key = bytes([chance.randrange(256)])
+                if chance.randrange(3) == 0:
+                    self.assertEqual(writer.remove(key), known.pop(key, None))
+                else:
+                    value = chance.randbytes(chance.randrange(65))
+                    self.assertEqual(writer.put(key, value), known.get(key))
+                    known[key] = value
+                self.assertEqual(reader.get(key), known.get(key))
+                if step % 100 == 0:
+                    self.audit(format, reader, writer, dict(known))
+
+    def audit(self, format, reader, writer, known):
+        with reader.snapshot() as then:
+            writer.put(b"z", b"of a later version")
+            root = then.root()
+            for number in range(0, 256, 5):
+                key = bytes([number])
+                self.assertEqual(then.get(key), known.get(key))
+                told = mst_verifier.verify_sharded(int(format), root, key, then.prove(key))
+                self.assertEqual(told, known.get(key))
+        if b"z" in known:
+            writer.put(b"z", known[b"z"])
+        else:
+            writer.remove(b"z")
+
+    def test_the_root_depends_on_the_content(self):
+        one, other = open_sharded(64, 1, [b"m"])[0], open_sharded(999, 1, [b"m"])[0]
+        one.put(b"a", b"1")
+        one.put(b"x", b"2")
+        one.remove(b"a")
+        other.put(b"x", b"2")
+        with one.snapshot(), other.snapshot():
+            self.assertEqual(one.root(), other.root())
+
+    def test_refusals(self):
+        self.refused(mst_store.UNKNOWN_FORMAT, open_sharded, 16, 1, [], 3)
+        for splits in ([b""], [b"\0"], [b"b", b"b"], [b"b", b"a"], [bytes(33)], [bytes(300)],
+                       [bytes([1 + at // 256, at % 256]) for at in range(1024)]):
+            self.refused(mst_store.BAD_SPLITS, open_sharded, 16, 1, splits)
+        for rows, handles in ((3, 1), (65536, 1), (16, 0), (16, 33), (16, 2**70), (-1, 1)):
+            self.refused(mst_store.BAD_SHAPE, open_sharded, rows, handles, [])
+        handle = open_sharded(16, 1, [b"m"])[0]
+        self.refused(mst_store.BAD_KEY, handle.get, b"")
+        self.refused(mst_store.BAD_VALUE, handle.put, b"a", bytes(65))
+        self.refused(mst_store.WRONG_STATE, handle.root)
+        with handle.snapshot() as then:
+            self.refused(mst_store.WRONG_STATE, then.put, b"a", b"1")
+            self.refused(mst_store.WRONG_STATE, then.snapshot().__enter__)
+        handle.close()
+        handle.close()
+        self.refused(mst_store.CLOSED, handle.get, b"a")
+        self.assertRaises(TypeError, Handle, None)
+        self.assertRaises(TypeError, copy.copy, handle)
+        self.assertRaises(TypeError, pickle.dumps, handle)
+
+    def test_threads_write_side_by_side(self):
+        handles = open_sharded(1000, 4, SPLITS)
+
+        def work(at):
+            for number in range(64):
+                handles[at].put(bytes([number * 4 + at]), bytes([at]))
+
+        threads = [threading.Thread(target=work, args=(at,)) for at in range(4)]
+        for thread in threads:
+            thread.start()
+        for thread in threads:
+            thread.join()
+        for number in range(256):
+            self.assertEqual(handles[0].get(bytes([number])), bytes([number % 4]))
+
+
+if __name__ == "__main__":
+    unittest.main()
