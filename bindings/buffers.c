@@ -1,4 +1,4 @@
-/* The pairs and the edits that stand in a caller's buffer. */
+/* The pairs, edits and splits that stand in a caller's buffer. */
 #include "mst_store.h"
 #include <string.h>
 
@@ -53,4 +53,14 @@ size_t mst_edit_put(uint8_t *room, size_t at, const uint8_t *key, size_t key_len
 
 size_t mst_edit_remove(uint8_t *room, size_t at, const uint8_t *key, size_t key_length) {
     return edit_at(room, at, REMOVE, key, key_length, NULL, 0);
+}
+
+/* Of a key that is too long it writes a length alone that no split has. */
+size_t mst_split(uint8_t *room, size_t at, const uint8_t *key, size_t key_length) {
+    int fits = key_length <= MST_KEY_LONGEST;
+    room[at] = fits ? (uint8_t)key_length : 0xFF;
+    if (!fits)
+        return at + 1;
+    copy(room + at + 1, key, key_length);
+    return at + 1 + key_length;
 }

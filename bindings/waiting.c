@@ -88,3 +88,24 @@ int32_t mst_migrate(mst_pass *pass, uint32_t format) {
         wait_more(&waited);
     return told;
 }
+
+int32_t mst_sharded_put(mst_handle *handle, const uint8_t *key, size_t key_length,
+                        const uint8_t *value, size_t value_length,
+                        uint8_t *room, size_t room_length) {
+    struct waited waited = {0, 0};
+    int32_t told;
+    while ((told = mst_sharded_try_put(handle, key, key_length, value, value_length,
+                                       room, room_length)) == MST_BUSY)
+        wait_more(&waited);
+    return told;
+}
+
+int32_t mst_sharded_remove(mst_handle *handle, const uint8_t *key, size_t key_length,
+                           uint8_t *room, size_t room_length) {
+    struct waited waited = {0, 0};
+    int32_t told;
+    while ((told = mst_sharded_try_remove(handle, key, key_length,
+                                          room, room_length)) == MST_BUSY)
+        wait_more(&waited);
+    return told;
+}

@@ -520,7 +520,7 @@ int32_t mst_sharded_release(mst_handle *handle);
  * Returns 32, the length of the root digest of all shards together, and its bytes stand first in
  * `root`. It depends on the content, the format and the splits alone. Returns MST_CLOSED;
  * MST_WRONG_STATE for a handle; MST_MIXED_FORMATS, MST_STRAY_KEY, MST_MEMORY; MST_VERSIONS_SPENT if
- * the handle's list of shards has changed 2^63 - 1 times; MST_NO_ROOM if root_length is less than
+ * the handle's list of shards has changed 2^63 - 1 times; MST_SHORT_ROOM if root_length is less than
  * 32.
  */
 int32_t mst_sharded_root(mst_handle *handle, uint8_t *root, size_t root_length);
@@ -529,7 +529,7 @@ int32_t mst_sharded_root(mst_handle *handle, uint8_t *root, size_t root_length);
  * Makes the proof of the key's answer, which mst_verify_sharded judges in the format and by the
  * root digest of the same snapshot. Returns MST_OK: its bytes stand first in the room, and *length
  * is their number. Returns MST_CLOSED, MST_BAD_KEY, and what mst_sharded_root returns but
- * MST_NO_ROOM: room and *length are as they were. Returns MST_NO_ROOM if the room is too short:
+ * MST_SHORT_ROOM: room and *length are as they were. Returns MST_SHORT_ROOM if the room is too short:
  * *length is the length of the proof, and the room is as it was.
  */
 int32_t mst_sharded_prove(mst_handle *handle, const uint8_t *key, size_t key_length,
@@ -540,37 +540,16 @@ int32_t mst_sharded_prove(mst_handle *handle, const uint8_t *key, size_t key_len
  * returns where the next one goes. After the last split that is the length of all. Of a key that is
  * longer than 32 bytes it writes only a length, so that mst_sharded_open refuses it.
  */
-static inline size_t mst_split(uint8_t *room, size_t at, const uint8_t *key, size_t key_length) {
-    if (key_length > MST_KEY_LONGEST) {
-        room[at] = 0xFF;
-        return at + 1;
-    }
-    room[at] = MST_AS(uint8_t, key_length);
-    for (size_t i = 0; i < key_length; i++)
-        room[at + 1 + i] = key[i];
-    return at + 1 + key_length;
-}
+size_t mst_split(uint8_t *room, size_t at, const uint8_t *key, size_t key_length);
 
-/* As mst_sharded_try_put, but tries again instead of returning MST_BUSY. */
-static inline int32_t mst_sharded_put(mst_handle *handle, const uint8_t *key, size_t key_length,
-                                      const uint8_t *value, size_t value_length,
-                                      uint8_t *room, size_t room_length) {
-    int32_t told;
-    while ((told = mst_sharded_try_put(handle, key, key_length, value, value_length,
-                                       room, room_length)) == MST_BUSY)
-        MST_PAUSE();
-    return told;
-}
+/* As mst_sharded_try_put, but waits as mst_put does. */
+int32_t mst_sharded_put(mst_handle *handle, const uint8_t *key, size_t key_length,
+                        const uint8_t *value, size_t value_length,
+                        uint8_t *room, size_t room_length);
 
-/* As mst_sharded_try_remove, but tries again instead of returning MST_BUSY. */
-static inline int32_t mst_sharded_remove(mst_handle *handle, const uint8_t *key,
-                                         size_t key_length, uint8_t *room, size_t room_length) {
-    int32_t told;
-    while ((told = mst_sharded_try_remove(handle, key, key_length,
-                                          room, room_length)) == MST_BUSY)
-        MST_PAUSE();
-    return told;
-}
+/* As mst_sharded_try_remove, but waits as mst_put does. */
+int32_t mst_sharded_remove(mst_handle *handle, const uint8_t *key, size_t key_length,
+                           uint8_t *room, size_t room_length);
 
 #ifdef __cplusplus
 }

@@ -99,7 +99,7 @@ public:
             int code = mst_sharded_prove(from, detail::bytes(key), key.size(), room.data(),
                                          room.size(), &length);
             if (code == MST_OK) return {room.data(), room.data() + length};
-            if (code != MST_NO_ROOM) throw refused(code);
+            if (code != MST_SHORT_ROOM) throw refused(code);
             room.resize(std::max(length, 2 * room.size()));
         }
     }

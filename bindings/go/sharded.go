@@ -217,7 +217,7 @@ func (s *Snapshot) Prove(key []byte) ([]byte, error) {
 		switch told {
 		case C.MST_OK:
 			return copied(h.long[:length]), nil
-		case C.MST_NO_ROOM:
+		case C.MST_SHORT_ROOM:
 			h.long = make([]byte, length)
 		default:
 			return nil, refusal(told)

@@ -111,7 +111,7 @@ static void wrong_states(void) {
     EXPECT(mst_sharded_prove(&handle, TEXT("a"), proof, 8, &length) == MST_WRONG_STATE);
     EXPECT(mst_sharded_get(&handle, NULL, 0, room, 64) == MST_BAD_KEY);
     EXPECT(mst_sharded_get(&handle, long_bytes, 33, room, 64) == MST_BAD_KEY);
-    EXPECT(mst_sharded_get(&handle, TEXT("a"), room, 4) == MST_NO_ROOM);
+    EXPECT(mst_sharded_get(&handle, TEXT("a"), room, 4) == MST_SHORT_ROOM);
     EXPECT(mst_sharded_try_put(&handle, NULL, 0, TEXT("1"), room, 64) == MST_BAD_KEY);
     EXPECT(mst_sharded_try_put(&handle, TEXT("a"), long_bytes, 65, room, 64) == MST_BAD_VALUE);
     EXPECT(mst_sharded_try_remove(&handle, long_bytes, 33, room, 64) == MST_BAD_KEY);
@@ -120,11 +120,11 @@ static void wrong_states(void) {
     EXPECT(mst_sharded_try_put(&handle, TEXT("a"), TEXT("2"), room, 64) == MST_WRONG_STATE);
     EXPECT(mst_sharded_try_remove(&handle, TEXT("a"), room, 64) == MST_WRONG_STATE);
     EXPECT(mst_sharded_get(&handle, TEXT("a"), room, 64) == 5);
-    EXPECT(mst_sharded_root(&handle, root, 31) == MST_NO_ROOM);
+    EXPECT(mst_sharded_root(&handle, root, 31) == MST_SHORT_ROOM);
     EXPECT(mst_sharded_root(&handle, root, 32) == 32);
     EXPECT(mst_sharded_prove(&handle, NULL, 0, proof, 8, &length) == MST_BAD_KEY);
     EXPECT(length == 77 && mst_sharded_shards(&handle) == 2);
-    EXPECT(mst_sharded_prove(&handle, TEXT("a"), proof, 8, &length) == MST_NO_ROOM);
+    EXPECT(mst_sharded_prove(&handle, TEXT("a"), proof, 8, &length) == MST_SHORT_ROOM);
     EXPECT(length > 8 && mst_sharded_prove(&handle, TEXT("a"), proof, length, &length) == MST_OK);
     EXPECT(mst_sharded_release(&handle) == MST_OK);
     /* a snapshot is closed too */
