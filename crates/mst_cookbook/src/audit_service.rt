@@ -1,0 +1,58 @@
+//! What an audit service answers, and what its client checks by the root digest alone.
+use anyhow::{Error, Result};
+use mst_key::{Format, Key, Memory, Value};
+use mst_proof::verify_in;
+use mst_store::{Pinned, Shape, Store};
+use std::alloc::Global;
+
+const SHAPE: Shape = Shape {
+    rows: 100,
+    passes: 1,
+    format: Format::Two,
+};
+
+/// An answer for a key: its value, or that it has none, and the proof of this.
+#[derive(Drop)]
+struct Answer {
+    value: Option<Value>,
+    proof: Vec<u8>,
+}
+
+// The service: value and proof are of the version that it pins.
+fn answer(alloc: Global, pinned: &mut Pinned<'_, Global>, key: &Key) -> Result<Answer, Memory> {
+    let value = pinned.get(key);
+    let proof = pinned.prove(alloc, key)?;
+    Ok(Answer { value, proof })
+}
+
+// The client: it takes an answer exactly if the proof shows it of the map with its root digest.
+fn judged(root: &[u8; 32], key: &Key, answer: &Answer) -> &'static str {
+    match verify_in(Format::Two, root, key, &answer.proof) {
+        Ok(shown) if shown == answer.value => "accepted",
+        _ => "refused",
+    }
+}
+
+pub fn run(rt: &HostRuntime) -> Result<()> {
+    let (store, seats) = Store::open(rt.alloc(), SHAPE)?;
+    let Ok(mut passes) = store.deal(rt.alloc(), seats) else {
+        return Err(Error::msg("no memory for the passes"));
+    };
+    let Some(mut pass) = passes.pop() else {
+        return Err(Error::msg("there is one pass"));
+    };
+    let apple = Key::new(b"apple")?;
+    pass.try_put(&apple, &Value::new(b"30")?)?;
+    let mut pinned = pass.pin();
+    let root = pinned.root();
+    let told = answer(rt.alloc(), &mut pinned, &apple)?;
+    let forged = Answer {
+        value: Some(Value::new(b"31")?),
+        proof: pinned.prove(rt.alloc(), &apple)?,
+    };
+    pinned.unpin();
+    let (first, second) = (judged(&root, &apple, &told), judged(&root, &apple, &forged));
+    println!(rt; "the answer: {first}")?;
+    println!(rt; "a forged one: {second}")?;
+    Ok(())
+}

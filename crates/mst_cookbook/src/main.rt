@@ -1,0 +1,33 @@
+//! The recipes of `docs/COOKBOOK.md` in Rattle, one file for each, run in the order of the page.
+//! Each is whole: it opens its stores itself, and prints what it found.
+//!
+//! `rt run` in this folder proves them and runs them; `rt try` runs them unproved.
+#![tactic(auto)]
+
+mod audit_service;
+mod batch;
+mod catch_up;
+mod compare;
+mod migrate;
+mod open_and_size;
+mod prove_and_verify;
+mod refusals;
+mod report;
+mod sharded;
+mod writer_and_readers;
+
+use anyhow::Result;
+
+fn main(rt: HostRuntime) -> Result<()> {
+    open_and_size::run(&rt)?;
+    writer_and_readers::run(&rt, &rt)?;
+    report::run(&rt)?;
+    prove_and_verify::run(&rt)?;
+    compare::run(&rt)?;
+    catch_up::run(&rt)?;
+    migrate::run(&rt)?;
+    batch::run(&rt)?;
+    sharded::run(&rt)?;
+    refusals::run(&rt, &rt)?;
+    audit_service::run(&rt)
+}

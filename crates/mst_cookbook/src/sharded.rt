@@ -1,0 +1,46 @@
+//! More keys than a store has rows for: a map of three shards, with one root digest.
+use anyhow::{Error, Result};
+use mst_key::{Format, Key, Value};
+use mst_sharded::{Handle, Sharded};
+use mst_sharded_proof::verify_sharded;
+use mst_store::Shape;
+use std::alloc::Global;
+use std::str;
+
+/// Of each shard.
+const SHAPE: Shape = Shape {
+    rows: 100,
+    passes: 2,
+    format: Format::One,
+};
+
+// Writes through a handle, and proves an answer of a snapshot.
+fn show(rt: &HostRuntime, mut handle: Handle<'_, Global, Global>) -> Result<()> {
+    let (apple, plum) = (Key::new(b"apple")?, Key::new(b"plum")?);
+    handle.try_put(&apple, &Value::new(b"30")?)?;
+    handle.try_put(&plum, &Value::new(b"12")?)?;
+    let mut snapshot = handle.snapshot();
+    let root = snapshot.root(rt.alloc())?;
+    let proof = snapshot.prove(rt.alloc(), &plum)?;
+    let shards = snapshot.shards();
+    snapshot.release();
+    match verify_sharded(Format::One, &root, &plum, &proof) {
+        Ok(Some(value)) => {
+            let price = str::from_utf8(value.bytes())?;
+            println!(rt; "{shards} shards; proved: the price of plum is {price}")?;
+        }
+        _ => println!(rt; "{shards} shards; nothing is proved")?,
+    }
+    Ok(())
+}
+
+pub fn run(rt: &HostRuntime) -> Result<()> {
+    // each split is the first key of a shard: below h, from h on, from p on
+    let splits = vec![in rt.alloc(); Key::new(b"h")?, Key::new(b"p")?]?;
+    let (sharded, seats) = Sharded::open(rt.alloc(), splits, SHAPE)?;
+    let mut handles = sharded.deal(rt.alloc(), seats)?;
+    let Some(handle) = handles.pop() else {
+        return Err(Error::msg("there are two handles"));
+    };
+    show(rt, handle)
+}

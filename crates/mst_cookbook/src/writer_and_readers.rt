@@ -1,0 +1,108 @@
+//! One writer and three readers, each with a pass of its own on a thread of its own.
+use anyhow::{Error, Result};
+use mst_key::{Format, Key, Value};
+use mst_store::{Pass, Shape, Store};
+use std::alloc::Global;
+use std::sync::Wait;
+use std::thread::{self, JoinHandle, Scope, Threads};
+
+const READERS: u32 = 3;
+
+const CALLS: u32 = 1_000;
+
+/// What a thread does with its pass.
+#[derive(Clone, Copy)]
+enum Work {
+    Writes,
+    Reads,
+}
+
+// Counts up at one key. Returns false if a put was refused.
+fn write(pass: &mut Pass<'_, Global>) -> bool {
+    let Ok(key) = Key::new(b"count") else {
+        return false;
+    };
+    for number in 0..CALLS {
+        let Ok(value) = Value::new(&number.to_be_bytes()) else {
+            return false;
+        };
+        if pass.try_put(&key, &value).is_err() {
+            return false;
+        }
+    }
+    true
+}
+
+// Reads on. Returns false if a version is older than the one before.
+fn read(pass: &mut Pass<'_, Global>) -> bool {
+    let mut last = 0;
+    for _ in 0..CALLS {
+        let version = pass.version();
+        if version < last {
+            return false;
+        }
+        last = version;
+    }
+    true
+}
+
+// Starts the thread of a pass.
+fn start<'s, 'a: 's, E>(
+    scope: &Scope<'s, E>,
+    mut pass: Pass<'a, Global>,
+    work: Work,
+) -> Result<JoinHandle<bool>> {
+    let started = scope.spawn(move || match work {
+        Work::Writes => write(&mut pass),
+        Work::Reads => read(&mut pass),
+    });
+    match started {
+        Ok(handle) => Ok(handle),
+        Err(_) => Err(Error::msg("no thread")),
+    }
+}
+
+// Starts a thread for each pass: the first one writes, the others read.
+fn start_all<'s, 'a: 's, E>(
+    scope: &Scope<'s, E>,
+    alloc: Global,
+    passes: Vec<Pass<'a, Global>>,
+) -> Result<Vec<JoinHandle<bool>>> {
+    let mut handles = Vec::new(alloc);
+    let mut work = Work::Writes;
+    for pass in passes {
+        handles.push(start(scope, pass, work)?)?;
+        work = Work::Reads;
+    }
+    Ok(handles)
+}
+
+// Waits for all threads. Returns whether all went well.
+fn join_all<T: Threads>(threads: &T, handles: Vec<JoinHandle<bool>>) -> bool {
+    let mut all_well = true;
+    for handle in handles {
+        all_well = handle.join(threads) && all_well;
+    }
+    all_well
+}
+
+pub fn run<T: Threads + Wait + Sync>(rt: &HostRuntime, threads: &T) -> Result<()> {
+    let shape = Shape {
+        rows: 100,
+        passes: 1 + READERS,
+        format: Format::One,
+    };
+    let (store, seats) = Store::open(rt.alloc(), shape)?;
+    let Ok(passes) = store.deal(rt.alloc(), seats) else {
+        return Err(Error::msg("no memory for the passes"));
+    };
+    let all_well = thread::scope(thread::scope_env(), threads, move |scope| -> Result<bool> {
+        let handles = start_all(scope, rt.alloc(), passes)?;
+        Ok(join_all(threads, handles))
+    })?;
+    if !all_well {
+        return Err(Error::msg("a call went wrong"));
+    }
+    println!(rt; "1 writer, {READERS} readers: no refusal, no older version")?;
+    Ok(())
+}

@@ -1,0 +1,58 @@
+/* Two replicas: whether their maps are equal, and at which keys they differ. */
+#include "mst_store.h"
+#include <stdio.h>
+#include <string.h>
+
+#define TEXT(text) (const uint8_t *)(text), sizeof(text) - 1
+
+/* Prints the keys of one replica that have another value in the other, or none. */
+static void tell_differing(const char *name, mst_pass *one, mst_pass *other) {
+    uint8_t room[100 * MST_PAIR_LONGEST], value[MST_VALUE_LONGEST];
+    size_t count = 0, length = 0;
+    mst_pair pair;
+
+    mst_range(one, NULL, 0, NULL, 0, 100, room, sizeof room, &count, &length);
+    for (size_t at = 0; at < length;) {
+        at = mst_pair_at(room, at, &pair);
+        int32_t told = mst_get(other, pair.key, pair.key_length, value, sizeof value);
+        if (told != (int32_t)pair.value_length || memcmp(value, pair.value, pair.value_length))
+            printf("differs in %s: %.*s\n", name, (int)pair.key_length, (const char *)pair.key);
+    }
+}
+
+/* Compares two maps of one format: first by their root digests, which are enough if they agree. */
+static void compare(mst_pass *ours, mst_pass *theirs) {
+    uint8_t our_root[MST_ROOT_LENGTH], their_root[MST_ROOT_LENGTH];
+
+    mst_pin(ours);
+    mst_pin(theirs);
+    mst_root(ours, our_root, sizeof our_root);
+    mst_root(theirs, their_root, sizeof their_root);
+    int equal = memcmp(our_root, their_root, MST_ROOT_LENGTH) == 0;
+    printf("equal: %s\n", equal ? "yes" : "no");
+    if (!equal) {
+        tell_differing("ours", ours, theirs);
+        tell_differing("theirs", theirs, ours);
+    }
+    mst_unpin(ours);
+    mst_unpin(theirs);
+}
+
+int main(void) {
+    mst_pass ours = MST_PASS_CLOSED, theirs = MST_PASS_CLOSED;
+    uint8_t old[MST_VALUE_LONGEST];
+
+    if (mst_open(1, 100, &ours, 1) != MST_OK || mst_open(1, 100, &theirs, 1) != MST_OK)
+        return 1;
+    mst_put(&ours, TEXT("apple"), TEXT("30"), old, sizeof old);
+    mst_put(&ours, TEXT("plum"), TEXT("12"), old, sizeof old);
+    mst_put(&theirs, TEXT("plum"), TEXT("12"), old, sizeof old);
+    mst_put(&theirs, TEXT("apple"), TEXT("30"), old, sizeof old);
+    compare(&ours, &theirs);
+    mst_put(&theirs, TEXT("apple"), TEXT("35"), old, sizeof old);
+    mst_put(&theirs, TEXT("pear"), TEXT("20"), old, sizeof old);
+    compare(&ours, &theirs);
+    mst_close(&ours);
+    mst_close(&theirs);
+    return 0;
+}
