@@ -20,22 +20,13 @@ static void tell_differing(const char *name, mst_pass *one, mst_pass *other) {
     }
 }
 
-/* Compares two maps of one format: first by their root digests, which are enough if they agree. */
-static void compare(mst_pass *ours, mst_pass *theirs) {
-    uint8_t our_root[MST_ROOT_LENGTH], their_root[MST_ROOT_LENGTH];
+/* Whether two maps of one format are equal: their root digests are enough. */
+static const char *is_equal(mst_pass *ours, mst_pass *theirs) {
+    uint8_t roots[2][MST_ROOT_LENGTH];
 
-    mst_pin(ours);
-    mst_pin(theirs);
-    mst_root(ours, our_root, sizeof our_root);
-    mst_root(theirs, their_root, sizeof their_root);
-    int equal = memcmp(our_root, their_root, MST_ROOT_LENGTH) == 0;
-    printf("equal: %s\n", equal ? "yes" : "no");
-    if (!equal) {
-        tell_differing("ours", ours, theirs);
-        tell_differing("theirs", theirs, ours);
-    }
-    mst_unpin(ours);
-    mst_unpin(theirs);
+    mst_root(ours, roots[0], MST_ROOT_LENGTH);
+    mst_root(theirs, roots[1], MST_ROOT_LENGTH);
+    return memcmp(roots[0], roots[1], MST_ROOT_LENGTH) == 0 ? "yes" : "no";
 }
 
 int main(void) {
@@ -48,11 +39,15 @@ int main(void) {
     mst_put(&ours, TEXT("plum"), TEXT("12"), old, sizeof old);
     mst_put(&theirs, TEXT("plum"), TEXT("12"), old, sizeof old);
     mst_put(&theirs, TEXT("apple"), TEXT("30"), old, sizeof old);
-    compare(&ours, &theirs);
+    printf("equal: %s\n", is_equal(&ours, &theirs));
     mst_put(&theirs, TEXT("apple"), TEXT("35"), old, sizeof old);
     mst_put(&theirs, TEXT("pear"), TEXT("20"), old, sizeof old);
-    compare(&ours, &theirs);
-    mst_close(&ours);
+    mst_pin(&ours); /* so that neither changes on the way */
+    mst_pin(&theirs);
+    printf("equal: %s\n", is_equal(&ours, &theirs));
+    tell_differing("ours", &ours, &theirs);
+    tell_differing("theirs", &theirs, &ours);
+    mst_close(&ours); /* ends its pin too */
     mst_close(&theirs);
     return 0;
 }

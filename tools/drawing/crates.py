@@ -34,7 +34,7 @@ TESTS = {
     "mst_sharded_tests",
     "mst_program_tests",
 }
-NOT_DRAWN = {"mst_audit", "mst_bench", "mst_walk", *TESTS}
+NOT_DRAWN = {"mst_audit", "mst_bench", "mst_cookbook", "mst_walk", *TESTS}
 FOR_C = {"mst_verifier", "mst_c"}
 BENT = {("mst_command", "mst_report")}
 BOX, HIGH, FIRST, APART = 140, 36, 30, 82

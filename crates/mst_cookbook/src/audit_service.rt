@@ -19,7 +19,7 @@ struct Answer {
 }
 
 // The service: value and proof are of the version that it pins.
-fn answer(alloc: Global, pinned: &mut Pinned<'_, Global>, key: &Key) -> Result<Answer, Memory> {
+fn answer_for(alloc: Global, pinned: &mut Pinned<'_, Global>, key: &Key) -> Result<Answer, Memory> {
     let value = pinned.get(key);
     let proof = pinned.prove(alloc, key)?;
     Ok(Answer { value, proof })
@@ -45,7 +45,7 @@ pub fn run(rt: &HostRuntime) -> Result<()> {
     pass.try_put(&apple, &Value::new(b"30")?)?;
     let mut pinned = pass.pin();
     let root = pinned.root();
-    let told = answer(rt.alloc(), &mut pinned, &apple)?;
+    let told = answer_for(rt.alloc(), &mut pinned, &apple)?;
     let forged = Answer {
         value: Some(Value::new(b"31")?),
         proof: pinned.prove(rt.alloc(), &apple)?,

@@ -10,6 +10,12 @@ const SHAPE: Shape = Shape {
     format: Format::One,
 };
 
+// The edit that gives a fruit a price.
+fn put(fruit: &str, price: &str) -> Result<Edit> {
+    let value = Value::new(price.as_bytes())?;
+    Ok(Edit::Put(Key::new(fruit.as_bytes())?, value))
+}
+
 // Makes a block, and prints which version it is and how many keys there are.
 fn apply(rt: &HostRuntime, pass: &mut Pass<'_, Global>, block: &[Edit]) -> Result<()> {
     pass.try_apply(rt.alloc(), block)?;
@@ -28,15 +34,8 @@ pub fn run(rt: &HostRuntime) -> Result<()> {
     let Some(mut pass) = passes.pop() else {
         return Err(Error::msg("there is one pass"));
     };
-    let first = vec![in rt.alloc();
-        Edit::Put(Key::new(b"apple")?, Value::new(b"30")?),
-        Edit::Put(Key::new(b"plum")?, Value::new(b"12")?),
-        Edit::Put(Key::new(b"pear")?, Value::new(b"20")?),
-    ]?;
-    let second = vec![in rt.alloc();
-        Edit::Put(Key::new(b"apple")?, Value::new(b"35")?),
-        Edit::Remove(Key::new(b"plum")?),
-    ]?;
+    let first = [put("apple", "30")?, put("plum", "12")?, put("pear", "20")?];
+    let second = [put("apple", "35")?, Edit::Remove(Key::new(b"plum")?)];
     apply(rt, &mut pass, &first)?;
     apply(rt, &mut pass, &second)
 }

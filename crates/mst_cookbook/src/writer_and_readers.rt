@@ -46,17 +46,21 @@ fn read(pass: &mut Pass<'_, Global>) -> bool {
     true
 }
 
+// What the thread of a pass does.
+fn make(mut pass: Pass<'_, Global>, work: Work) -> bool {
+    match work {
+        Work::Writes => write(&mut pass),
+        Work::Reads => read(&mut pass),
+    }
+}
+
 // Starts the thread of a pass.
 fn start<'s, 'a: 's, E>(
     scope: &Scope<'s, E>,
-    mut pass: Pass<'a, Global>,
+    pass: Pass<'a, Global>,
     work: Work,
 ) -> Result<JoinHandle<bool>> {
-    let started = scope.spawn(move || match work {
-        Work::Writes => write(&mut pass),
-        Work::Reads => read(&mut pass),
-    });
-    match started {
+    match scope.spawn(move || make(pass, work)) {
         Ok(handle) => Ok(handle),
         Err(_) => Err(Error::msg("no thread")),
     }
