@@ -21,12 +21,12 @@ def figures():
     path = os.path.join(TOP, "docs", "pictures", "speed.tsv")
     with open(path, encoding="ascii") as lines:
         head, *rows = [line.rstrip("\n").split("\t") for line in lines]
-    page = os.path.join(TOP, "docs", "DECISIONS.md")
+    page = os.path.join(TOP, "docs", "SPEED.md")
     with open(page, encoding="utf-8") as file:
-        told = re.findall(r"(?m)^\| ([\d,]+) \| (.*) \|$", file.read().partition("## Speed")[2])
+        told = re.findall(r"(?m)^\| ([\d,]+) \| (.*) \|$", file.read().partition("## Time")[2])
     told = [[keys.replace(",", ""), *cells.split(" | ")] for keys, cells in told]
     if told[: len(rows)] != rows:
-        sys.exit("docs/pictures/speed.tsv and 'Speed' in docs/DECISIONS.md tell other figures")
+        sys.exit("docs/pictures/speed.tsv and 'Time' in docs/SPEED.md tell other figures")
     return head[1:], rows
 
 
