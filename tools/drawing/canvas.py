@@ -12,6 +12,10 @@ LINES = {
     "dotted": 'stroke-width="2.5" stroke-dasharray="2 6" stroke-linecap="round"',
     "faint": 'stroke-width="1" stroke-opacity="0.35"',
 }
+# The second colour: thick lines have it, and what they enclose a tint of it. In grey the lines are
+# dark and the tint is light, so both are still told from black and white.
+INK, TINT = "#0b4f8a", "#c8def2"
+INKS = {"thick": INK}
 # How wide the letters of the widest likely font are, in parts of the size.
 NARROW = {**dict.fromkeys("ijl|'", 0.32), **dict.fromkeys("ft,.:;()[]! Ir", 0.43)}
 WIDE = {**dict.fromkeys("mwMW%@", 0.99), **dict.fromkeys("ABCDEFGHJKLNOPQRSTUVXYZ×=+→", 0.82)}
@@ -39,25 +43,31 @@ class Canvas:
 
     def line(self, points, style="thin", arrow=False):
         path = "M" + " L".join(f"{number(x)} {number(y)}" for x, y in points)
-        head = ' marker-end="url(#head)"' if arrow else ""
-        self.shapes.append(f'<path d="{path}" fill="none" stroke="black" {LINES[style]}{head}/>')
+        name = "thick-head" if style in INKS else "head"
+        head = f' marker-end="url(#{name})"' if arrow else ""
+        ink = INKS.get(style, "black")
+        self.shapes.append(f'<path d="{path}" fill="none" stroke="{ink}" {LINES[style]}{head}/>')
 
-    def box(self, x, y, width, height, style="thin", fill="white", round=0):
+    def box(self, x, y, width, height, style="thin", fill=None, round=0):
+        """A box, if nothing else is said white, or with a thick edge in the tint."""
+        fill = fill or (TINT if style in INKS else "white")
         place = f'x="{number(x)}" y="{number(y)}" width="{number(width)}" height="{number(height)}"'
-        edge = f'stroke="black" {LINES[style]}' if style else 'stroke="none"'
+        ink = INKS.get(style, "black")
+        edge = f'stroke="{ink}" {LINES[style]}' if style else 'stroke="none"'
         self.shapes.append(f'<rect {place} rx="{round}" fill="{fill}" {edge}/>')
 
-    def mark(self, x, y, form, size=7):
-        """A mark on a curve: a disc, a ring, a square or a diamond."""
+    def mark(self, x, y, form, size=7, style="thin"):
+        """A mark on a curve of this style: a disc, a ring, a square or a diamond."""
+        ink = INKS.get(style, "black")
         if form in ("disc", "ring"):
-            fill = "black" if form == "disc" else "white"
+            fill = ink if form == "disc" else "white"
             place = f'cx="{number(x)}" cy="{number(y)}" r="{size}"'
-            self.shapes.append(f'<circle {place} fill="{fill}" stroke="black" stroke-width="2"/>')
+            self.shapes.append(f'<circle {place} fill="{fill}" stroke="{ink}" stroke-width="2"/>')
             return
         turned = f' transform="rotate(45 {number(x)} {number(y)})"' if form == "diamond" else ""
         place = f'x="{number(x - size)}" y="{number(y - size)}"'
         place += f' width="{2 * size}" height="{2 * size}"'
-        self.shapes.append(f'<rect {place} fill="black"{turned}/>')
+        self.shapes.append(f'<rect {place} fill="{ink}"{turned}/>')
 
     def text(
         self, x, y, text, size=17, at="start", code=False, bold=False, within=None, halo=False
@@ -92,13 +102,16 @@ class Canvas:
     def svg(self):
         """The picture as the text of an SVG file."""
         head = f'<svg xmlns="http://www.w3.org/2000/svg" viewBox="0 0 {WIDTH} {self.height}"'
-        arrow = '<path d="M0 0 L10 4 L0 8 z"/>'
         size = 'viewBox="0 0 10 8" refX="9" refY="4" markerWidth="13" markerHeight="11"'
         turned = 'markerUnits="userSpaceOnUse" orient="auto"'
         return "\n".join([
             f'{head} font-family="{PROSE}">',
             f"<title>{escape(self.title)}</title>",
-            f'<defs><marker id="head" {size} {turned}>{arrow}</marker></defs>',
+            *(
+                f'<defs><marker id="{name}" {size} {turned}>'
+                f'<path d="M0 0 L10 4 L0 8 z" fill="{ink}"/></marker></defs>'
+                for name, ink in (("head", "black"), ("thick-head", INK))
+            ),
             f'<rect width="{WIDTH}" height="{self.height}" fill="white"/>',
             *self.shapes,
             *(shape for _, _, shape in self.texts),

@@ -111,7 +111,8 @@ def picture():
     draw_layers(canvas)
     top = where["mst_verifier"][1] - 38
     canvas.box(202, top, 350, 2 * APART + HIGH + 50, "dashed", "none", 10)
-    canvas.text(216, top + 24, "they stand on no store", 15, bold=True)
+    for number, line in enumerate(("they stand", "on no store")):
+        canvas.text(444, top + 218 + 20 * number, line, 15, bold=True)
     draw_arrows(canvas, crates, where)
     for name, (x, y) in where.items():
         size = 17 if width(name) == BOX else 15

@@ -1,5 +1,5 @@
 """A put beside a pinned reader: the words of the table, step by step as in docs/PROTOCOL.md."""
-from .canvas import WIDTH, Canvas
+from .canvas import TINT, WIDTH, Canvas
 
 READER, WRITER = 2, 1  # passes
 ASKED = (1, 2, 3)  # records; the version goes into the last one that is found drained
@@ -81,7 +81,7 @@ def draw_row(canvas, y, cells, before):
         changed = before is not None and cells[name] != before[name]
         width = (LEFT[after] if after else WIDTH - 12) - LEFT[name] - 12
         if changed:
-            canvas.box(LEFT[name] - 7, y - 22, width + 8, 31)
+            canvas.box(LEFT[name] - 7, y - 22, width + 8, 31, fill=TINT)
         canvas.text(LEFT[name], y, cells[name], 17, bold=changed, within=width + 4)
 
 

@@ -12,7 +12,7 @@ STATES = [
     ("dead", "its node was copied: only", "versions before reach it"),
 ]
 CALLS = ["take", "advance", "kill"]
-BOX, FIRST, APART, TOP_EDGE = 150, 105, 292, 96
+BOX, FIRST, APART, TOP_EDGE = 150, 105, 292, 46
 
 
 def middle(state):
@@ -44,8 +44,8 @@ def bend(canvas, state, level, by):
 
 
 def picture():
-    see_that_calls_exist([*CALLS, "sweep", "give_back"])
-    canvas = Canvas("row", "The life of a row: from free to free", 350)
+    see_that_calls_exist([*CALLS, "sweep"])
+    canvas = Canvas("row", "The life of a row: from free to free", 300)
     draw_states(canvas)
     for index, call in enumerate(CALLS):
         left, right = middle(index) + BOX / 2, middle(index + 1) - BOX / 2
@@ -53,13 +53,10 @@ def picture():
         place = ((left + right) / 2, TOP_EDGE + 16)
         canvas.text(*place, "Desk::" + call, 15, "middle", code=True, within=APART - BOX)
     bend(canvas, 3, TOP_EDGE + 124, 40)
-    bend(canvas, 1, TOP_EDGE - 4, -36)
     across = (middle(0) + middle(3)) / 2
     canvas.text(across, TOP_EDGE + 154, "Desk::sweep", 16, "middle", code=True)
     says = "once no kept version reaches it: neither the current one nor one that is pinned"
     canvas.text(across, TOP_EDGE + 188, says, 16, "middle")
-    across = (middle(0) + middle(1)) / 2
-    canvas.text(across, TOP_EDGE - 50, "Desk::give_back", 16, "middle", code=True)
     says = "Version v reaches a row exactly when birth ≤ v < death."
-    canvas.text(24, 330, says + " While a live version reaches it, no word of it changes.", 17)
+    canvas.text(24, 280, says + " While a live version reaches it, no word of it changes.", 17)
     return canvas

@@ -59,7 +59,7 @@ def draw_curve(canvas, rows, index, call):
     places = [(across(row[0]), up(row[index])) for row in rows]
     canvas.line(places, STYLES[index - 1])
     for (x, y), row in zip(places, rows):
-        canvas.mark(x, y, MARKS[index - 1])
+        canvas.mark(x, y, MARKS[index - 1], style=STYLES[index - 1])
         is_close = any(0 < y - up(time) < 50 for time in row[1:])
         canvas.text(x, y + 28 if is_close else y - 14, row[index], 16, "middle", halo=True)
     x, y = places[-1]

@@ -8,6 +8,7 @@ CELL, HEIGHT, FIRST, APART = 134, 84, 56, 214
 CAPTION = [
     "In an entry: the key, its value, and how the key's SHA-256 begins, which gives the layer.",
     "Above a node: how its digest begins. The node above holds the digests of its children.",
+    "A child hangs at its gap: before the first entry, between two, or after the last.",
 ]
 
 
@@ -69,7 +70,7 @@ def picture():
     where = places(version)
     highest = version.nodes[version.root].layer
     title = f"The tree of a map of {len(version.pairs)} keys"
-    canvas = Canvas("tree", title, FIRST + highest * APART + 176)
+    canvas = Canvas("tree", title, FIRST + highest * APART + 202)
     for layer in range(highest + 1):
         top = FIRST + (highest - layer) * APART
         canvas.text(24, top + 36, f"layer {layer}", 19, bold=True)
@@ -79,5 +80,5 @@ def picture():
     for digest, (left, top) in where.items():
         draw_node(canvas, version.nodes[digest], digest, left, top, digest == version.root)
     for number, line in enumerate(CAPTION):
-        canvas.text(24, canvas.height - 46 + 26 * number, line)
+        canvas.text(24, canvas.height - 72 + 26 * number, line)
     return canvas

@@ -1,8 +1,12 @@
-"""Two versions of a map in rows: those that a put made, shared ones, those of the old one alone."""
+"""Two versions of a map in rows: those that a put made, shared ones, those of the old one alone.
+
+A child hangs at its gap, as in the picture of the tree: the link to it begins before the row that
+has it. An entry has the link of the gap before it, the head that of the gap after all entries: so
+the head stands last."""
 from .canvas import WIDTH, Canvas
 from .maps import last_two
 
-ROW, HEIGHT, TOP, APART, EDGE = 80, 40, 92, 146, 20
+ROW, HEIGHT, TOP, APART, EDGE, BETWEEN = 80, 40, 92, 146, 20, 310
 
 
 class Placed:
@@ -16,17 +20,18 @@ class Placed:
         return self.left + self.rows * ROW / 2
 
     def gap(self, number):
-        """Where the link of a gap begins: at the next entry, for the last gap at the head."""
-        return self.left + (0.5 if number == len(self.node.keys) else number + 1.5) * ROW
+        """Where the link of a gap begins: before the next entry, for the last gap before the
+        head."""
+        return self.left + number * ROW
 
     def draw(self, canvas):
-        texts = ["head", *(key.decode() for key in self.node.keys)]
-        fill = "#dddddd" if self.style == "thick" else "white"
+        texts = [*(key.decode() for key in self.node.keys), "head"]
         for index, text in enumerate(texts):
             left = self.left + index * ROW
-            canvas.box(left, self.top, ROW, HEIGHT, self.style, fill)
+            canvas.box(left, self.top, ROW, HEIGHT, self.style)
             place = (left + ROW / 2, self.top + 26)
-            canvas.text(*place, text, 16, "middle", bold=index > 0, within=ROW - 6)
+            is_key = index < len(self.node.keys)
+            canvas.text(*place, text, 16, "middle", bold=is_key, within=ROW - 6)
 
 
 def styles(old, new):
@@ -36,15 +41,19 @@ def styles(old, new):
 
 
 def placed_nodes(old, new):
-    """All nodes: those of the old version alone, then shared ones, then new ones."""
+    """All nodes: the lowest side by side by their keys, each other above its children."""
     style, order = styles(old, new), ("dashed", "thin", "thick")
     nodes = {**old.nodes, **new.nodes}
     found, highest = {}, old.nodes[old.root].layer
     for layer in range(highest + 1):
         here = [it for it in style if nodes[it].layer == layer]
-        here.sort(key=lambda it: (order.index(style[it]), nodes[it].keys[0]))
+        here.sort(key=lambda it: (nodes[it].keys[0], order.index(style[it])))
         widths = [(len(nodes[it].keys) + 1) * ROW for it in here]
-        lefts = side_by_side(widths) if layer == 0 else mirrored(widths, layer)
+        if layer == 0:
+            lefts = side_by_side(widths)
+        else:
+            middles = [above_children(nodes[it], found) for it in here]
+            lefts = spread(middles, widths, layer == highest)
         for digest, left in zip(here, lefts):
             version = new if digest in new.nodes else old
             top = TOP + (highest - layer) * APART
@@ -57,10 +66,18 @@ def side_by_side(widths):
     return [EDGE + sum(widths[:it]) + it * space for it in range(len(widths))]
 
 
-def mirrored(widths, layer):
-    """Where an old node and the new one for it begin: the higher, the nearer to the middle."""
-    off = WIDTH * (0.46 - 0.14 * layer)
-    return [WIDTH / 2 - off - widths[0] / 2, WIDTH / 2 + off - widths[1] / 2]
+def above_children(node, placed):
+    """The middle between the first child of a node and the last."""
+    below = [placed[it].middle() for it in node.children if it is not None]
+    return (below[0] + below[-1]) / 2
+
+
+def spread(middles, widths, is_top):
+    """Where an old node and the new one for it begin: far enough from each other. At the top only
+    the new one moves, so that the old one's link to the right passes no node."""
+    lack = max(0, BETWEEN - (middles[1] - middles[0]))
+    moves = (0, lack) if is_top else (-lack / 2, lack / 2)
+    return [it + by - width / 2 for it, by, width in zip(middles, moves, widths)]
 
 
 def draw_links(canvas, placed):
@@ -79,9 +96,11 @@ def draw_legend(canvas, counts, old, top):
         "thick": "rows that the put wrote, which were free: one path, with the new entry",
     }
     for style, text in says.items():
-        canvas.box(20, top - 19, 52, 26, style, "#dddddd" if style == "thick" else "white")
+        canvas.box(20, top - 19, 52, 26, style)
         canvas.text(88, top, f"{counts[style]} {text}", 17)
         top += 36
+    says = "An entry has the link of the tree before it, the head that of the tree after all entries."
+    canvas.text(20, top, says, 17)
 
 
 def picture():
@@ -92,7 +111,7 @@ def picture():
         counts[one.style] += one.rows
     legend = TOP + old.nodes[old.root].layer * APART + HEIGHT + 58
     title = f"Two versions of a map share rows: a put of {key} copied one path"
-    canvas = Canvas("versions", title, legend + 92)
+    canvas = Canvas("versions", title, legend + 128)
     draw_links(canvas, placed)
     for one in placed.values():
         one.draw(canvas)
