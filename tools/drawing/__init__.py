@@ -1,5 +1,5 @@
 """The pictures of docs/pictures, each by the function that draws it."""
-from . import crates, put, row, sharded, speed, tree, versions
+from . import crates, put, row, sharded, speed, tree, trust, versions
 
 PICTURES = {
     "tree": tree.picture,
@@ -9,4 +9,5 @@ PICTURES = {
     "crates": crates.picture,
     "sharded": sharded.picture,
     "speed": speed.picture,
+    "trust": trust.picture,
 }
