@@ -9,9 +9,9 @@ from .maps import TOP
 LAYERS = [
     (("executable",), {"mst": 880}),
     (("command line",), {"mst_program": 880}),
-    (("its tasks",), {"mst_command": 880}),
-    (("scripts, loads, C;", "sharded stores"), {
-        "mst_c": 610, "mst_load": 770, "mst_script": 1030, "mst_sharded": 350,
+    (("its tasks; the", "library for C"), {"mst_c": 350, "mst_command": 880}),
+    (("scripts, loads;", "sharded maps"), {
+        "mst_load": 740, "mst_script": 1030, "mst_sharded": 350,
     }),
     (("the store",), {"mst_store": 690}),
     (("the shared table;", "batches; replays"), {
@@ -121,6 +121,6 @@ def picture():
     low = FIRST + len(LAYERS) * APART + 8
     says = "Thick: the libraries for C. An arrow is left out where others lead the same way."
     canvas.text(12, low, says, 16)
-    says = "Not drawn: crates of tests; and mst_audit, mst_bench and mst_walk above mst_store."
+    says = "Not drawn: crates of tests; and mst_audit, mst_bench, mst_cookbook and mst_walk above."
     canvas.text(12, low + 28, says, 16)
     return canvas
