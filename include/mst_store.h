@@ -472,6 +472,7 @@ typedef struct mst_handle {
  * Returns MST_OK; MST_UNKNOWN_FORMAT for another format; MST_BAD_SPLITS; MST_BAD_SHAPE if rows or
  * count are out of their limits; MST_MEMORY, also before the order of the splits or the shape is
  * looked at, if there is none for their list. If it does not return MST_OK, all hands are empty.
+ * But of more than 32 hands none is looked at: they stay as they are.
  */
 int32_t mst_sharded_open(uint32_t format, uint32_t rows, const uint8_t *splits,
                          size_t splits_length, mst_handle *handles, size_t count);

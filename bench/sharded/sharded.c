@@ -4,7 +4,6 @@
  */
 #include "engine.h"
 #include "mst_store.h"
-#include <sched.h>
 #include <stdlib.h>
 
 /* Rows for a key of format 1, in 16ths, and rows beside them for the paths of puts. */
@@ -42,12 +41,10 @@ static void close_map(void) {
 
 static void put(int seat, const uint8_t *key, const uint8_t *value) {
     uint8_t old[VALUE_LENGTH];
-    int32_t told;
-    while ((told = mst_sharded_try_put(&handles[seat], key, KEY_LENGTH, value, VALUE_LENGTH, old,
-                                       sizeof old)) == MST_BUSY)
-        sched_yield();
+    int32_t told = mst_sharded_put(&handles[seat], key, KEY_LENGTH, value, VALUE_LENGTH, old,
+                                   sizeof old);
     if (told != VALUE_LENGTH && told != MST_ABSENT)
-        give_up("mst_sharded_try_put", told);
+        give_up("mst_sharded_put", told);
 }
 
 static void get(int seat, const uint8_t *key) {

@@ -115,11 +115,20 @@ class handle : public sharded_reader {
     friend std::vector<handle> open_sharded(std::uint32_t, std::size_t,
                                             const std::vector<std::string> &, format);
 
-    template <typename Try> static auto wait(Try once) {
-        for (;;) {
-            if (auto done = once()) return done;
-            std::this_thread::yield();
-        }
+    // Each of these is by a call that tries or by the one that waits.
+    tried put_by(decltype(mst_sharded_put) call, std::string_view key, std::string_view value) {
+        std::uint8_t room[MST_VALUE_LONGEST];
+        int code = call(at(), detail::bytes(key), key.size(), detail::bytes(value), value.size(),
+                        room, sizeof room);
+        if (code == MST_BUSY) return tried{true, std::nullopt};
+        return tried{false, told(code, room)};
+    }
+
+    tried remove_by(decltype(mst_sharded_remove) call, std::string_view key) {
+        std::uint8_t room[MST_VALUE_LONGEST];
+        int code = call(at(), detail::bytes(key), key.size(), room, sizeof room);
+        if (code == MST_BUSY) return tried{true, std::nullopt};
+        return tried{false, told(code, room)};
     }
 
 public:
@@ -142,29 +151,20 @@ public:
 
     // Gives the key the value, if no other handle has the turn of the key's shard.
     tried try_put(std::string_view key, std::string_view value) {
-        std::uint8_t room[MST_VALUE_LONGEST];
-        int code = mst_sharded_try_put(at(), detail::bytes(key), key.size(), detail::bytes(value),
-                                       value.size(), room, sizeof room);
-        if (code == MST_BUSY) return tried{true, std::nullopt};
-        return tried{false, told(code, room)};
+        return put_by(mst_sharded_try_put, key, value);
     }
 
     // Takes the key out, if no other handle has the turn of the key's shard.
-    tried try_remove(std::string_view key) {
-        std::uint8_t room[MST_VALUE_LONGEST];
-        int code = mst_sharded_try_remove(at(), detail::bytes(key), key.size(), room, sizeof room);
-        if (code == MST_BUSY) return tried{true, std::nullopt};
-        return tried{false, told(code, room)};
-    }
+    tried try_remove(std::string_view key) { return remove_by(mst_sharded_try_remove, key); }
 
     // As try_put, but waits for the turn. Returns the value that the key had before.
     std::optional<std::string> put(std::string_view key, std::string_view value) {
-        return wait([&] { return try_put(key, value); }).old;
+        return put_by(mst_sharded_put, key, value).old;
     }
 
     // As try_remove, but waits for the turn. Returns the value that the key had before.
     std::optional<std::string> remove(std::string_view key) {
-        return wait([&] { return try_remove(key); }).old;
+        return remove_by(mst_sharded_remove, key).old;
     }
 
     // Pins the current version of each shard, one shard after the other.
@@ -177,11 +177,11 @@ public:
 inline std::vector<handle> open_sharded(std::uint32_t rows, std::size_t handles,
                                         const std::vector<std::string> &splits,
                                         format in = format::one) {
+    if (handles > MST_PASSES_MOST) throw refused(MST_BAD_SHAPE);
     std::vector<std::uint8_t> packed(MST_SPLIT_LONGEST * splits.size());
     std::size_t length = 0;
     for (const auto &split : splits)
         length = mst_split(packed.data(), length, detail::bytes(split), split.size());
-    if (handles > MST_PASSES_MOST) handles = MST_PASSES_MOST + 1; // as refused as any greater one
     std::vector<handle> all(handles);
     std::vector<mst_handle> hands(handles); // null, as MST_HANDLE_CLOSED
     for (auto &one : all) one.hand = std::make_shared<detail::sharded_held>();

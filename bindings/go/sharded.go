@@ -119,11 +119,19 @@ func (h *Handle) Get(key []byte) (value []byte, present bool, err error) {
 
 // TryPut gives the key the value, if no other handle has the turn of the key's shard. It returns
 // the value that the key had before, if it was present. The error is ErrClosed, ErrKey, ErrValue,
-// ErrPinned, ErrBusy, ErrVersionsSpent, or ErrRowsSpent.
+// ErrPinned, ErrBusy, ErrVersionsSpent, or ErrNoFreeRows.
 func (h *Handle) TryPut(key, value []byte) (old []byte, present bool, err error) {
 	h.mutex.Lock()
 	defer h.mutex.Unlock()
 	return h.value(C.mst_sharded_try_put(&h.hand, at(key), size(key), at(value), size(value),
+		at(h.room[:]), size(h.room[:])))
+}
+
+// Put is as TryPut, but waits for the turn.
+func (h *Handle) Put(key, value []byte) (old []byte, present bool, err error) {
+	h.mutex.Lock()
+	defer h.mutex.Unlock()
+	return h.value(C.mst_sharded_put(&h.hand, at(key), size(key), at(value), size(value),
 		at(h.room[:]), size(h.room[:])))
 }
 
@@ -136,22 +144,11 @@ func (h *Handle) TryRemove(key []byte) (old []byte, present bool, err error) {
 		size(h.room[:])))
 }
 
-// Put is as TryPut, but waits for the turn.
-func (h *Handle) Put(key, value []byte) (old []byte, present bool, err error) {
-	waitForTurn(func() error {
-		old, present, err = h.TryPut(key, value)
-		return err
-	})
-	return old, present, err
-}
-
 // Remove is as TryRemove, but waits for the turn.
 func (h *Handle) Remove(key []byte) (old []byte, present bool, err error) {
-	waitForTurn(func() error {
-		old, present, err = h.TryRemove(key)
-		return err
-	})
-	return old, present, err
+	h.mutex.Lock()
+	defer h.mutex.Unlock()
+	return h.value(C.mst_sharded_remove(&h.hand, at(key), size(key), at(h.room[:]), size(h.room[:])))
 }
 
 // Snapshot pins the current version of each shard, one shard after the other: until Release all

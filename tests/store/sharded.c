@@ -67,12 +67,18 @@ static void shapes(void) {
     EXPECT(mst_sharded_open(1, 65536, NULL, 0, handles, 1) == MST_BAD_SHAPE);
     EXPECT(mst_sharded_open(1, 16, NULL, 0, NULL, 0) == MST_BAD_SHAPE);
     EXPECT(mst_sharded_open(1, 16, NULL, 0, handles, 33) == MST_BAD_SHAPE);
+    /* of too many hands none is looked at, and the other refusals still come first */
+    EXPECT(mst_sharded_open(1, 16, NULL, 0, NULL, SIZE_MAX) == MST_BAD_SHAPE);
+    EXPECT(mst_sharded_open(1, 16, TEXT("\0"), NULL, 33) == MST_BAD_SPLITS);
+    EXPECT(mst_sharded_open(3, 16, NULL, 0, NULL, 33) == MST_UNKNOWN_FORMAT);
     EXPECT(mst_sharded_open(2, 4, TEXT("\1b"), handles, 32) == MST_OK);
     EXPECT(handles[32].at == NULL && mst_sharded_shards(&handles[31]) == 2);
     EXPECT(mst_sharded_try_put(&handles[31], TEXT("a"), TEXT("1"), room, 64) == MST_ABSENT);
     /* a second opening closes what the hands held, and so does one that is refused */
     EXPECT(mst_sharded_open(1, 16, NULL, 0, handles, 2) == MST_OK);
     EXPECT(mst_sharded_get(&handles[0], TEXT("a"), room, 64) == MST_ABSENT);
+    EXPECT(mst_sharded_get(&handles[31], TEXT("a"), room, 64) == 1);
+    EXPECT(mst_sharded_open(1, 16, NULL, 0, handles, 33) == MST_BAD_SHAPE);
     EXPECT(mst_sharded_get(&handles[31], TEXT("a"), room, 64) == 1);
     EXPECT(mst_sharded_open(1, 3, NULL, 0, handles, 2) == MST_BAD_SHAPE);
     EXPECT(handles[0].at == NULL && handles[1].at == NULL);

@@ -62,13 +62,17 @@ def _signatures() -> Dict[str, Tuple[Any, ...]]:
 
 def _sharded_signatures() -> Dict[str, Tuple[Any, ...]]:
     hand, size, text = SHARDED_HAND, ctypes.c_size_t, ctypes.c_char_p
+    writes = {
+        "put": (hand, text, size, text, size, text, size),
+        "remove": (hand, text, size, text, size),
+    }
     return {
         "mst_sharded_open": (ctypes.c_uint32, ctypes.c_uint32, text, size, hand, size),
         "mst_sharded_close": (hand,),
         "mst_sharded_shards": (hand,),
         "mst_sharded_get": (hand, text, size, text, size),
-        "mst_sharded_try_put": (hand, text, size, text, size, text, size),
-        "mst_sharded_try_remove": (hand, text, size, text, size),
+        **{f"mst_sharded_{tries}{name}": types
+           for tries in ("", "try_") for name, types in writes.items()},
         "mst_sharded_snapshot": (hand,),
         "mst_sharded_release": (hand,),
         "mst_sharded_root": (hand, text, size),

@@ -6,12 +6,12 @@ import operator
 import os
 import threading
 from contextlib import contextmanager
-from typing import Any, Iterable, Iterator, List, NoReturn, Optional
+from typing import Any, Callable, Iterable, Iterator, List, NoReturn, Optional
 
 from ._library import KEY_LONGEST, ROOT_LENGTH, SHARDED_HAND, VALUE_LONGEST, ShardedHand
 from ._library import lib as _lib
-from ._passes import Format, Octets, _octets, _until_free, _word
-from ._refusals import ABSENT, NO_ROOM
+from ._passes import Format, Octets, _octets, _word
+from ._refusals import ABSENT, SHORT_ROOM
 from ._refusals import refuse as _refuse
 
 
@@ -56,26 +56,31 @@ class Handle:
     def try_put(self, key: Octets, value: Octets) -> Optional[bytes]:
         """Gives the key the value, or raises Busy if another handle has the turn of the key's
         shard. Returns the value before, or None if the key is new."""
-        key, value = _octets(key), _octets(value)
-        with self._lock:
-            return self._value(_lib.mst_sharded_try_put(
-                self._hand, key, len(key), value, len(value), self._room, VALUE_LONGEST))
+        return self._put(_lib.mst_sharded_try_put, key, value)
 
     def try_remove(self, key: Octets) -> Optional[bytes]:
         """Takes the key out, or raises Busy. Returns the value that it had, or None if it was
         absent."""
-        key = _octets(key)
-        with self._lock:
-            return self._value(_lib.mst_sharded_try_remove(
-                self._hand, key, len(key), self._room, VALUE_LONGEST))
+        return self._remove(_lib.mst_sharded_try_remove, key)
 
     def put(self, key: Octets, value: Octets) -> Optional[bytes]:
-        """As try_put, but tries until it gets the turn."""
-        return _until_free(self.try_put, key, value)
+        """As try_put, but waits for the turn."""
+        return self._put(_lib.mst_sharded_put, key, value)
 
     def remove(self, key: Octets) -> Optional[bytes]:
-        """As try_remove, but tries until it gets the turn."""
-        return _until_free(self.try_remove, key)
+        """As try_remove, but waits for the turn."""
+        return self._remove(_lib.mst_sharded_remove, key)
+
+    def _put(self, call: Callable[..., int], key: Octets, value: Octets) -> Optional[bytes]:
+        key, value = _octets(key), _octets(value)
+        with self._lock:
+            return self._value(
+                call(self._hand, key, len(key), value, len(value), self._room, VALUE_LONGEST))
+
+    def _remove(self, call: Callable[..., int], key: Octets) -> Optional[bytes]:
+        key = _octets(key)
+        with self._lock:
+            return self._value(call(self._hand, key, len(key), self._room, VALUE_LONGEST))
 
     @contextmanager
     def snapshot(self) -> Iterator[Handle]:
@@ -105,7 +110,7 @@ class Handle:
                 room = self._long_room
                 code = _lib.mst_sharded_prove(
                     self._hand, key, len(key), room, len(room), ctypes.byref(length))
-                if code != NO_ROOM:
+                if code != SHORT_ROOM:
                     _answer(code)
                     return ctypes.string_at(room, length.value)
                 self._long_room = ctypes.create_string_buffer(length.value)

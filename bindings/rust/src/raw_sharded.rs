@@ -23,6 +23,26 @@ impl Drop for ShardedHand {
     }
 }
 
+/// mst_sharded_put and mst_sharded_try_put, which differ in their names alone.
+pub(crate) type Put = unsafe extern "C" fn(
+    handle: *mut ShardedHand,
+    key: *const u8,
+    key_length: usize,
+    value: *const u8,
+    value_length: usize,
+    room: *mut u8,
+    room_length: usize,
+) -> i32;
+
+/// mst_sharded_remove and mst_sharded_try_remove.
+pub(crate) type Remove = unsafe extern "C" fn(
+    handle: *mut ShardedHand,
+    key: *const u8,
+    key_length: usize,
+    room: *mut u8,
+    room_length: usize,
+) -> i32;
+
 extern "C" {
     pub(crate) fn mst_sharded_open(
         format: u32,
@@ -51,6 +71,22 @@ extern "C" {
         room_length: usize,
     ) -> i32;
     pub(crate) fn mst_sharded_try_remove(
+        handle: *mut ShardedHand,
+        key: *const u8,
+        key_length: usize,
+        room: *mut u8,
+        room_length: usize,
+    ) -> i32;
+    pub(crate) fn mst_sharded_put(
+        handle: *mut ShardedHand,
+        key: *const u8,
+        key_length: usize,
+        value: *const u8,
+        value_length: usize,
+        room: *mut u8,
+        room_length: usize,
+    ) -> i32;
+    pub(crate) fn mst_sharded_remove(
         handle: *mut ShardedHand,
         key: *const u8,
         key_length: usize,

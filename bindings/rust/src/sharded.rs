@@ -1,6 +1,6 @@
 //! Sharded maps: one map over many stores, each for an interval of keys, with one root digest.
 use crate::raw_sharded::{self as raw, ShardedHand};
-use crate::{raw::NO_ROOM, reads, until_free};
+use crate::{raw::SHORT_ROOM, reads};
 use crate::{Error, Format, TryError, KEY_LONGEST, ROOT_LENGTH, VALUE_LONGEST};
 use std::fmt;
 
@@ -102,10 +102,30 @@ impl Handle {
     /// Gives the key the value. Returns the value before, or None if the key is new; `Busy` if
     /// another handle has the turn of the key's shard.
     pub fn try_put(&mut self, key: &[u8], value: &[u8]) -> Result<Option<Vec<u8>>, TryError> {
+        self.put_by(raw::mst_sharded_try_put, key, value).map_err(TryError::of)
+    }
+
+    /// Takes the key out. Returns the value that it had, or None if it was absent; `Busy` if
+    /// another handle has the turn of the key's shard.
+    pub fn try_remove(&mut self, key: &[u8]) -> Result<Option<Vec<u8>>, TryError> {
+        self.remove_by(raw::mst_sharded_try_remove, key).map_err(TryError::of)
+    }
+
+    /// As [`Handle::try_put`], but waits for the turn.
+    pub fn put(&mut self, key: &[u8], value: &[u8]) -> Result<Option<Vec<u8>>, Error> {
+        self.put_by(raw::mst_sharded_put, key, value).map_err(Error::of)
+    }
+
+    /// As [`Handle::try_remove`], but waits for the turn.
+    pub fn remove(&mut self, key: &[u8]) -> Result<Option<Vec<u8>>, Error> {
+        self.remove_by(raw::mst_sharded_remove, key).map_err(Error::of)
+    }
+
+    fn put_by(&mut self, put: raw::Put, key: &[u8], value: &[u8]) -> Result<Option<Vec<u8>>, i32> {
         let mut room = [0; VALUE_LONGEST];
         // Safety: as in get.
         let code = unsafe {
-            raw::mst_sharded_try_put(
+            put(
                 &mut self.hand,
                 key.as_ptr(),
                 key.len(),
@@ -115,34 +135,16 @@ impl Handle {
                 room.len(),
             )
         };
-        reads::value(code, &room).map_err(TryError::of)
+        reads::value(code, &room)
     }
 
-    /// Takes the key out. Returns the value that it had, or None if it was absent; `Busy` if
-    /// another handle has the turn of the key's shard.
-    pub fn try_remove(&mut self, key: &[u8]) -> Result<Option<Vec<u8>>, TryError> {
+    fn remove_by(&mut self, remove: raw::Remove, key: &[u8]) -> Result<Option<Vec<u8>>, i32> {
         let mut room = [0; VALUE_LONGEST];
         // Safety: as in get.
         let code = unsafe {
-            raw::mst_sharded_try_remove(
-                &mut self.hand,
-                key.as_ptr(),
-                key.len(),
-                room.as_mut_ptr(),
-                room.len(),
-            )
+            remove(&mut self.hand, key.as_ptr(), key.len(), room.as_mut_ptr(), room.len())
         };
-        reads::value(code, &room).map_err(TryError::of)
-    }
-
-    /// As [`Handle::try_put`], but tries until it gets the turn.
-    pub fn put(&mut self, key: &[u8], value: &[u8]) -> Result<Option<Vec<u8>>, Error> {
-        until_free(|| self.try_put(key, value))
-    }
-
-    /// As [`Handle::try_remove`], but tries until it gets the turn.
-    pub fn remove(&mut self, key: &[u8]) -> Result<Option<Vec<u8>>, Error> {
-        until_free(|| self.try_remove(key))
+        reads::value(code, &room)
     }
 
     /// Pins the current version of each shard, one shard after the other: until the result is
@@ -213,7 +215,7 @@ impl Snapshot<'_> {
             };
             match code {
                 0 => return Ok(room[..length].to_vec()),
-                NO_ROOM => room.resize(length.max(2 * room.len()), 0),
+                SHORT_ROOM => room.resize(length.max(2 * room.len()), 0),
                 code => return Err(Error::of(code)),
             }
         }

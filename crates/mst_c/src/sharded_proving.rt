@@ -4,7 +4,7 @@ ghost use Rattle.mst_c.specs.ShardedProving.{unlisted_code as code_of_unlisted, 
 
 use crate::sharded_asking::Unlisted;
 use crate::sharded_hand::{ShardedHand, give, take};
-use crate::telling::{BAD_KEY, MEMORY, NO_HAND, NO_ROOM, WRONG_STATE, put, tell_proof};
+use crate::telling::{BAD_KEY, MEMORY, NO_HAND, SHORT_ROOM, WRONG_STATE, put, tell_proof};
 use mst_key::Key;
 use mst_sharded::DirectoryFault;
 use std::alloc::Global;
@@ -34,7 +34,7 @@ fn tell_root(told: Result<[u8; 32], Unlisted>, room: &mut [u8]) -> i32
     match told {
         Ok(root) => {
             if room.len() < 32 {
-                return NO_ROOM;
+                return SHORT_ROOM;
             }
             put(room, &root);
             32
