@@ -443,9 +443,13 @@ int32_t mst_migrate(mst_pass *pass, uint32_t format);
  * What is owed for the hands of passes is owed for those of handles too.
  */
 
-/* A hand of a sharded map: what holds a handle or a snapshot for its thread, or nothing. */
+/*
+ * A hand of a sharded map: what holds a handle or a snapshot for its thread, or nothing. It has 256
+ * bytes, as that of a pass.
+ */
 typedef struct mst_handle {
     void *at; /* the library's alone */
+    uint64_t padding[31];
 } mst_handle;
 
 /* A hand that holds nothing. */

@@ -16,13 +16,14 @@ const SplitsMost = C.MST_SPLITS_MOST
 // handle wait for each other.
 type Handle struct {
 	mutex sync.Mutex
-	hand  C.mst_handle
 	// How many snapshots there were, and whether the last one still pins.
 	snapshots uint64
 	isPinned  bool
 	room      [C.MST_VALUE_LONGEST]byte
 	// The room for proofs, which grows with the longest.
 	long []byte
+	// It ends with padding, and stands last, as the hand of a pass.
+	hand C.mst_handle
 }
 
 // Snapshot is a handle while it pins a version of each shard: all its reads are of these, which

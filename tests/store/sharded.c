@@ -60,6 +60,7 @@ static void splits(void) {
 }
 
 static void shapes(void) {
+    EXPECT(sizeof(mst_handle) == 256);
     mst_handle handles[33] = {MST_HANDLE_CLOSED};
     EXPECT(mst_sharded_open(3, 3, TEXT("\0"), handles, 1) == MST_UNKNOWN_FORMAT);
     EXPECT(mst_sharded_open(1, 3, TEXT("\0"), handles, 1) == MST_BAD_SPLITS);

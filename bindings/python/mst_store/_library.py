@@ -22,9 +22,10 @@ HAND = ctypes.POINTER(Hand)
 
 
 class ShardedHand(ctypes.Structure):
-    """What holds a handle of a sharded map or a snapshot. It stays where it is, as a Hand does."""
+    """What holds a handle of a sharded map or a snapshot. It stays where it is, and has padding, as
+    a Hand."""
 
-    _fields_ = [("at", ctypes.c_void_p)]
+    _fields_ = [("at", ctypes.c_void_p), ("padding", ctypes.c_uint64 * 31)]
 
 
 SHARDED_HAND = ctypes.POINTER(ShardedHand)

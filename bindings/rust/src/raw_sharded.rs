@@ -1,15 +1,24 @@
 //! The calls of sharded maps as include/mst_store.h declares them.
+use std::fmt;
 
 /// A hand of a sharded map: what holds a handle or a snapshot, or nothing. It moves as a hand of a
 /// pass does.
 #[repr(C)]
-#[derive(Debug)]
 pub(crate) struct ShardedHand {
     at: *mut u8,
+    /// So that no other hand is in its cache lines.
+    _padding: [u64; 31],
 }
 
 impl ShardedHand {
-    pub(crate) const EMPTY: ShardedHand = ShardedHand { at: std::ptr::null_mut() };
+    pub(crate) const EMPTY: ShardedHand =
+        ShardedHand { at: std::ptr::null_mut(), _padding: [0; 31] };
+}
+
+impl fmt::Debug for ShardedHand {
+    fn fmt(&self, out: &mut fmt::Formatter<'_>) -> fmt::Result {
+        out.debug_struct("ShardedHand").field("at", &self.at).finish()
+    }
 }
 
 // Safety: as for a hand of a pass.

@@ -8,24 +8,25 @@ use Rattle.mst_sharded.specs.Opening.{Shards, HasShards, new_handle}
 use Rattle.mst_sharded.specs.declared.faults.ShardsFault.{ShardsFault}
 use Rattle.mst_sharded.specs.declared.faults.ShardsFault.TheVariants.{Splits, Shape as BadShape, Memory}
 use Rattle.mst_c.specs.declared.sharded_held.Sharing.TheVariants.{Handle}
-use Rattle.mst_c.specs.declared.sharded_hand.ShardedHand.{ShardedHand}
+use Rattle.mst_c.specs.declared.sharded_hand.PaddedShardedHand.{PaddedShardedHand}
 use Rattle.mst_c.specs.Formats.{format_named}
 use Rattle.mst_c.specs.ShardedSplits.{splits_bytes}
 
 -- each hand has a handle of one sharded map with these splits and shards of this shape. Its passes
 -- have seen nothing, and the handles' numbers are 1, 2 and so on
-pub record HandsOpened (splits : List (List ℕ)) (shape : Shape) (hands : List ShardedHand) : Type 0
+pub record HandsOpened (splits : List (List ℕ)) (shape : Shape) (hands : List PaddedShardedHand) :
+    Type 0
   where
     pub map : Shards
     pub are : IsSplits splits
     pub is : IsShape shape
     pub shards : HasShards splits shape map
-    pub handles : (k : ℕ) (h : ShardedHand) → k < length hands
-        → (get_or hands k h).held ≡ Some (Handle (new_handle map (k + 1)))
+    pub handles : (k : ℕ) (h : PaddedShardedHand) → k < length hands
+        → (get_or hands k h).hand.held ≡ Some (Handle (new_handle map (k + 1)))
 
 -- the same, where the bytes pack the splits, the format has this number, and a shard has so many
 -- rows and as many passes as there are hands
-pub record ShardsOpened (format rows : ℕ) (bytes : List ℕ) (hands : List ShardedHand) : Type 0
+pub record ShardsOpened (format rows : ℕ) (bytes : List ℕ) (hands : List PaddedShardedHand) : Type 0
   where
     pub named : Format
     pub splits : List (List ℕ)
@@ -35,8 +36,9 @@ pub record ShardsOpened (format rows : ℕ) (bytes : List ℕ) (hands : List Sha
         (record { rows = rows; passes = length hands; format = named }) hands
 
 -- no hand holds a handle or a snapshot
-abbrev pub NoneHeld : List ShardedHand → Type 0
-NoneHeld hands = (k : ℕ) (h : ShardedHand) → k < length hands → (get_or hands k h).held ≡ None
+abbrev pub NoneHeld : List PaddedShardedHand → Type 0
+NoneHeld hands = (k : ℕ) (h : PaddedShardedHand) → k < length hands → (get_or hands k h).hand.held
+    ≡ None
 
 abbrev pub fault_code : ShardsFault → ℤ
 fault_code Splits = negsuc 25

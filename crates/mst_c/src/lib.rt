@@ -57,7 +57,7 @@ mod telling;
 
 use hand::{Hand, PaddedHand};
 pub use laws::{batch_laws, worked_batches};
-use sharded_hand::ShardedHand;
+use sharded_hand::{PaddedShardedHand, ShardedHand};
 use std::alloc::Global;
 
 /// Opens a store of the empty map in format 1 or 2, with `rows` rows, and puts a pass into each of
@@ -272,7 +272,7 @@ pub extern "C" fn mst_sharded_open(
     format: u32,
     rows: u32,
     splits: &[u8],
-    hands: &mut [ShardedHand],
+    hands: &mut [PaddedShardedHand],
 ) -> i32
     ensures opened { result ≡ pos 0 → ShardsOpened format rows splits.now hands.new }
     ensures empty { result ≢ pos 0 → NoneHeld hands.new }

@@ -20,6 +20,13 @@ pub struct ShardedHand {
     pub ghost held: { HeldNow } by { hand_coded },
 }
 
+/// A hand of a sharded map as C has it, of 256 bytes as that of a pass.
+#[repr(C)]
+pub struct PaddedShardedHand {
+    pub(crate) hand: ShardedHand,
+    padding: [u64; 31],
+}
+
 impl Model for ShardedHand {
     ghost use Rattle.mst_c.specs.ShardedOwning.{hand_owns};
 

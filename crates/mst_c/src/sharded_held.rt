@@ -9,7 +9,7 @@ ghost use Rattle.mst_c.specs.ShardedStates.{PinsNone};
 
 use crate::held::Unwritten;
 use crate::sharded_asking::{Unlisted, proof_of, root_of};
-use crate::sharded_hand::{ShardedHand, ShardedTaken, give};
+use crate::sharded_hand::{PaddedShardedHand, ShardedHand, ShardedTaken, give};
 use mst_key::{Key, Value};
 use mst_sharded::{SharedHandle, SharedSnapshot};
 use std::alloc::Global;
@@ -24,10 +24,15 @@ pub enum Sharing {
     Snapshot(SharedSnapshot<Global>),
 }
 
-/// A handle or a snapshot, each with its share of the map.
+/// What no call writes at the end of a box.
+const PADDING: [u64; 16] = [0; 16];
+
+/// A handle or a snapshot, each with its share of the map. Each call moves it out and back, so the
+/// box ends with padding, as that of a pass.
 #[derive(Drop)]
 pub struct ShardedHeld {
     sharing: Sharing,
+    padding: [u64; 16],
 }
 
 /// Contracts see the handle or the snapshot.
@@ -49,13 +54,29 @@ pub(crate) fn hand_out(alloc: Global, handle: SharedHandle<Global>, hand: &mut S
     ensures held { result ≡ true → hand.new.held ≡ Some (sharing.Handle handle) }
 {
     let sharing = Sharing::Handle(handle);
-    match Box::new(alloc, ShardedHeld { sharing }) {
+    let held = ShardedHeld {
+        sharing,
+        padding: PADDING,
+    };
+    match Box::new(alloc, held) {
         Ok(held) => {
             give(hand, ShardedTaken::of(held));
             true
         }
         Err(_) => false,
     }
+}
+
+/// The same for a hand of an array.
+pub(crate) fn hand_out_padded(
+    alloc: Global,
+    handle: SharedHandle<Global>,
+    hand: &mut PaddedShardedHand,
+) -> bool
+    requires empty { hand.old.hand.held ≡ None }
+    ensures held { result ≡ true → hand.new.hand.held ≡ Some (sharing.Handle handle) }
+{
+    hand_out(alloc, handle, &mut hand.hand)
 }
 
 /// The value of a key, by a handle.

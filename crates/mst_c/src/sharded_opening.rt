@@ -4,15 +4,15 @@ ghost use Rattle.mst_store.specs.Passes.{IsShape};
 ghost use Rattle.mst_sharded.specs.Sharding.{Sharding, IsSplits};
 ghost use Rattle.mst_sharded.specs.Opening.{Shards, HasShards, new_handles, seats_of};
 ghost use Rattle.mst_c.specs.declared.sharded_held.Sharing.TheVariants.{Handle};
-ghost use Rattle.mst_c.specs.declared.sharded_hand.ShardedHand.{ShardedHand};
+ghost use Rattle.mst_c.specs.declared.sharded_hand.PaddedShardedHand.{PaddedShardedHand};
 ghost use Rattle.mst_c.specs.Formats.{format_named as named};
 ghost use Rattle.mst_c.specs.Opened.{IsSize};
 ghost use Rattle.mst_c.specs.ShardedOpened.{HandsOpened, ShardsOpened, NoneHeld, fault_code as code_of_fault};
 ghost use Rattle.mst_c.specs.ShardedSplits.{splits_bytes, PacksSplits};
 
 use crate::formats::format_named;
-use crate::sharded_hand::ShardedHand;
-use crate::sharded_held::hand_out;
+use crate::sharded_hand::PaddedShardedHand;
+use crate::sharded_held::hand_out_padded;
 use crate::sharded_splits::list_splits;
 use crate::sharded_telling::{BAD_SPLITS, close};
 use crate::telling::{BAD_SHAPE, MEMORY, UNKNOWN_FORMAT};
@@ -26,28 +26,29 @@ use std::sync::Arc;
 fn hand_all(
     alloc: Global,
     handles: Vec<SharedHandle<Global>, Global>,
-    hands: &mut [ShardedHand],
+    hands: &mut [PaddedShardedHand],
 ) -> bool
     requires count { vec_len handles ≤ length hands.old }
     requires empty { NoneHeld hands.old }
-    ensures all { result ≡ true → (k : ℕ) (d : Sharding) (h : ShardedHand) → k < vec_len handles
-        → (get_or hands.new k h).held ≡ Some (Handle (get_or handles.items k d)) }
+    ensures all { result ≡ true → (k : ℕ) (d : Sharding) (h : PaddedShardedHand)
+        → k < vec_len handles
+        → (get_or hands.new k h).hand.held ≡ Some (Handle (get_or handles.items k d)) }
 {
     let mut all = true;
     let mut at = 0;
     for handle in handles {
-        all = all && hand_out(alloc, handle, &mut hands[at]);
+        all = all && hand_out_padded(alloc, handle, &mut hands[at]);
         at += 1;
     }
     all
 }
 
 /// No hand holds a handle then.
-fn close_all(alloc: Global, hands: &mut [ShardedHand])
+fn close_all(alloc: Global, hands: &mut [PaddedShardedHand])
     ensures empty { NoneHeld hands.new }
 {
-    for hand in hands.iter_mut() {
-        let _code = close(alloc, hand);
+    for padded in hands.iter_mut() {
+        let _code = close(alloc, &mut padded.hand);
     }
 }
 
@@ -100,13 +101,13 @@ fn open_map(
 fn hand_handles(
     alloc: Global,
     handles: Vec<SharedHandle<Global>, Global>,
-    hands: &mut [ShardedHand],
+    hands: &mut [PaddedShardedHand],
 ) -> i32
     requires count { vec_len handles ≡ length hands.old }
     requires empty { NoneHeld hands.old }
-    ensures all { result ≡ pos 0 → (k : ℕ) (d : Sharding) (h : ShardedHand)
+    ensures all { result ≡ pos 0 → (k : ℕ) (d : Sharding) (h : PaddedShardedHand)
         → k < length hands.new
-        → (get_or hands.new k h).held ≡ Some (Handle (get_or handles.items k d)) }
+        → (get_or hands.new k h).hand.held ≡ Some (Handle (get_or handles.items k d)) }
     ensures empty { result ≢ pos 0 → NoneHeld hands.new }
     ensures range { (result ≡ pos 0) ⊎ (result ≡ negsuc 8) }
 {
@@ -128,7 +129,12 @@ fn open_code(fault: ShardsFault) -> i32
 }
 
 /// Opens a sharded map of these splits, and hands its handles out.
-fn open_of(alloc: Global, splits: Vec<Key, Global>, shape: Shape, hands: &mut [ShardedHand]) -> i32
+fn open_of(
+    alloc: Global,
+    splits: Vec<Key, Global>,
+    shape: Shape,
+    hands: &mut [PaddedShardedHand],
+) -> i32
     requires passes { IsShape shape → shape.passes ≡ length hands.old }
     requires empty { NoneHeld hands.old }
     ensures opened { result ≡ pos 0 → HandsOpened splits.items shape hands.new }
@@ -150,7 +156,7 @@ fn open_in(
     format: Format,
     rows: u32,
     packed: &[u8],
-    hands: &mut [ShardedHand],
+    hands: &mut [PaddedShardedHand],
 ) -> i32
     requires empty { NoneHeld hands.old }
     ensures opened { result ≡ pos 0 → (ss : List (List ℕ)) × (packed.now ≡ splits_bytes ss)
@@ -183,7 +189,7 @@ pub(crate) fn open(
     format: u32,
     rows: u32,
     packed: &[u8],
-    hands: &mut [ShardedHand],
+    hands: &mut [PaddedShardedHand],
 ) -> i32
     ensures opened { result ≡ pos 0 → ShardsOpened format rows packed.now hands.new }
     ensures empty { result ≢ pos 0 → NoneHeld hands.new }

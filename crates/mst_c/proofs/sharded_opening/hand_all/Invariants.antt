@@ -2,7 +2,7 @@ use Rattle.std.specs.Prelude.{◌≡◌, ℕ, ◌+◌, ◌<◌, ◌≤◌, true,
 use Rattle.std.specs.Vec.Iter.{into_iter_items, into_iter_len}
 use Rattle.mst_sharded.specs.Sharding.{Sharding}
 use Rattle.mst_c.specs.declared.sharded_held.Sharing.TheVariants.{Handle}
-use Rattle.mst_c.specs.declared.sharded_hand.ShardedHand.{ShardedHand}
+use Rattle.mst_c.specs.declared.sharded_hand.PaddedShardedHand.{PaddedShardedHand}
 use Rattle.mst_c.proofs.sharded_opening.hand_all.Given as goal
 
 -- the handles that are left are the last of those given, the hands before have the others, and
@@ -12,7 +12,8 @@ invariant-loop-handle l =
     (l.at + into_iter_len l.handle-iterator ≡ vec_len l.fn.handles)
     × ((k : ℕ) (d : Sharding) → k < into_iter_len l.handle-iterator
     → get_or (into_iter_items l.handle-iterator) k d ≡ get_or l.fn.handles.items (l.at + k) d)
-    × (l.all ≡ true → (k : ℕ) (d : Sharding) (h : ShardedHand) → k < l.at
-    → (get_or l.hands k h).held ≡ Some
+    × (l.all ≡ true → (k : ℕ) (d : Sharding) (h : PaddedShardedHand) → k < l.at
+    → (get_or l.hands k h).hand.held ≡ Some
     (Handle (get_or l.fn.handles.items k d)))
-    × ((k : ℕ) (h : ShardedHand) → l.at ≤ k → k < length l.hands → (get_or l.hands k h).held ≡ None)
+    × ((k : ℕ) (h : PaddedShardedHand) → l.at ≤ k → k < length l.hands
+    → (get_or l.hands k h).hand.held ≡ None)
