@@ -268,6 +268,21 @@ int32_t mst_format(mst_pass *pass);
  */
 int32_t mst_rows(mst_pass *pass, uint32_t *rows);
 
+/*
+ * Sets *rows to the number of rows that are free to the next write, beside pinned versions too: as
+ * long as no pass writes, pins or unpins, a write that takes at most as many rows is not refused
+ * with MST_NO_FREE_ROWS, and one that takes more is. Returns MST_OK; MST_CLOSED; MST_WRONG_STATE for
+ * a pinned pass; MST_BUSY.
+ */
+int32_t mst_free_rows(mst_pass *pass, uint32_t *rows);
+
+/*
+ * Sets *version to the version that the last write of this pass made: its last put, remove, batch
+ * or migration that was not refused. Unlike mst_version it is never one that another pass made
+ * since. Returns MST_OK; MST_CLOSED; MST_ABSENT if the pass has made none.
+ */
+int32_t mst_made(mst_pass *pass, uint64_t *version);
+
 /* ---- writes, which make a version each: puts, removes, batches and migrations ---- */
 
 /*

@@ -307,6 +307,26 @@ public:
         return answer;
     }
 
+    // Returns how many rows are free to the next write, beside pinned versions too; nothing if
+    // another pass has the turn.
+    std::optional<std::uint32_t> free_rows() {
+        std::uint32_t rows = 0;
+        int code = mst_free_rows(at(), &rows);
+        if (code == MST_BUSY) return std::nullopt;
+        require_done(code);
+        return rows;
+    }
+
+    // Returns the version that the last write of this pass made, whatever others wrote since;
+    // nothing if it has made none.
+    std::optional<std::uint64_t> made() {
+        std::uint64_t version = 0;
+        int code = mst_made(at(), &version);
+        if (code == MST_ABSENT) return std::nullopt;
+        require_done(code);
+        return version;
+    }
+
     // Gives the key the value, if no other pass has the turn.
     tried try_put(std::string_view key, std::string_view value) {
         return put_by(mst_try_put, key, value);

@@ -79,6 +79,40 @@ func (p *Pass) Rows() (int, error) {
 	return int(rows), nil
 }
 
+// FreeRows returns how many rows are free to the next write, beside pinned versions too. The error
+// is ErrClosed, ErrPinned, or ErrBusy.
+func (p *Pass) FreeRows() (int, error) {
+	s, err := p.take()
+	if err != nil {
+		return 0, err
+	}
+	defer s.giveBack()
+	var rows C.uint32_t
+	if told := C.mst_free_rows(&s.hand, &rows); told != C.MST_OK {
+		return 0, refusal(told)
+	}
+	return int(rows), nil
+}
+
+// Made returns the version that the last write of this pass made, whatever other passes wrote
+// since, and whether it has made one. The error is ErrClosed.
+func (p *Pass) Made() (version uint64, present bool, err error) {
+	s, err := p.take()
+	if err != nil {
+		return 0, false, err
+	}
+	defer s.giveBack()
+	var made C.uint64_t
+	switch told := C.mst_made(&s.hand, &made); told {
+	case C.MST_OK:
+		return uint64(made), true, nil
+	case C.MST_ABSENT:
+		return 0, false, nil
+	default:
+		return 0, false, refusal(told)
+	}
+}
+
 // TryPut gives the key the value, if no other pass has the turn. It returns the value that the key
 // had before, if it was present. The error is ErrClosed, ErrKey, ErrValue, ErrPinned, ErrBusy,
 // ErrVersionsSpent, or ErrNoFreeRows.

@@ -76,6 +76,7 @@ static void each_is_refused(void) {
     EXPECT(mst_try_apply(other, edits, length - 1, &place) == MST_BAD_BATCH && place == 0);
     EXPECT(mst_try_apply(pinned, edits, length, &place) == MST_WRONG_STATE);
     EXPECT(mst_rows(other, &rows) == MST_BUSY && rows == 77);
+    EXPECT(mst_free_rows(other, &rows) == MST_BUSY && rows == 77);
 }
 
 /* The version is the one before the migration, and may be pinned. */

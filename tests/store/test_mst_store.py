@@ -359,7 +359,16 @@ class Refusals(unittest.TestCase):
         self.assertEqual(writer.migrate(Format.ONE), Format.ONE)
         with reader.pinned():
             self.refused(mst_store.ROWS_PINNED, writer.try_rows)
-        self.assertLessEqual(writer.try_rows(), 8)
+            self.refused(mst_store.WRONG_STATE, reader.try_free_rows)
+            free = writer.try_free_rows()
+        self.assertEqual(writer.try_rows(), 8 - free)
+
+    def test_made(self):
+        one, other = open_store(32, 2)
+        self.assertIsNone(one.made())
+        one.put(b"key", b"1")
+        other.put(b"key", b"2")
+        self.assertEqual((one.made(), other.made(), one.version()), (1, 2, 2))
 
     def test_closed(self):
         with one() as store:

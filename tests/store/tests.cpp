@@ -169,7 +169,10 @@ static void pins(mst::pass &writer, mst::pass &reader) {
     EXPECT(code_of([&] { (void)reader.pin(); }) == MST_WRONG_STATE);
     EXPECT(code_of([&] { reader.migrate(mst::format::two); }) == MST_WRONG_STATE);
     EXPECT(writer.rows() && !writer.rows().rows);
+    auto free = writer.free_rows().value();
     writer.put("a", "newer");
+    // the pinned version holds rows that the writer's does not
+    EXPECT(writer.free_rows().value() < free && writer.made() == writer.version());
     EXPECT(then.get("a") == "one" && then.root() == root && then.version() == version);
     EXPECT(then.range("", "", 9).front().second == "one");
     EXPECT(verified(then, "a") == 3);

@@ -55,6 +55,8 @@ def _signatures() -> Dict[str, Tuple[Any, ...]]:
         "mst_version": (hand, pointer(ctypes.c_uint64)),
         "mst_format": (hand,),
         "mst_rows": (hand, pointer(ctypes.c_uint32)),
+        "mst_free_rows": (hand, pointer(ctypes.c_uint32)),
+        "mst_made": (hand, pointer(ctypes.c_uint64)),
         **{f"mst_{tries}{name}": types for tries in ("", "try_") for name, types in writes.items()},
         "mst_pin": (hand,),
         "mst_unpin": (hand,),

@@ -186,6 +186,23 @@ class Pass:
         turn, and Refused if some pass pins."""
         return self._number(_lib.mst_rows, ctypes.c_uint32())
 
+    def try_free_rows(self) -> int:
+        """Returns how many rows are free to the next write, beside pinned versions too; raises Busy
+        if another pass has the turn."""
+        return self._number(_lib.mst_free_rows, ctypes.c_uint32())
+
+    def made(self) -> Optional[int]:
+        """Returns the version that the last write of this pass made, whatever others wrote since,
+        or None if it has made none."""
+        version = ctypes.c_uint64()
+        with self._lock:
+            code = _lib.mst_made(self._hand, ctypes.byref(version))
+        if code == ABSENT:
+            return None
+        if code < 0:
+            _refuse(code)
+        return int(version.value)
+
     def _number(self, call: Callable[..., int], number: Any) -> int:
         with self._lock:
             code = call(self._hand, ctypes.byref(number))

@@ -242,6 +242,30 @@ impl Pass {
         }
     }
 
+    /// Returns how many rows are free to the next write, beside pinned versions too, if no other
+    /// pass writes. As long as nobody writes, pins or unpins, a write that takes at most so many
+    /// rows is not refused as `RowsSpent`, and one that takes more is.
+    pub fn try_free_rows(&mut self) -> Result<u32, TryError> {
+        let mut rows = 0;
+        // Safety: both pointers are valid.
+        match unsafe { raw::mst_free_rows(&mut self.hand, &mut rows) } {
+            0 => Ok(rows),
+            code => Err(TryError::of(code)),
+        }
+    }
+
+    /// Returns the version that the last write of this pass made, whatever other passes wrote
+    /// since, or `None` if it has made none.
+    pub fn made(&mut self) -> Option<u64> {
+        let mut version = 0;
+        // Safety: both pointers are valid.
+        match unsafe { raw::mst_made(&mut self.hand, &mut version) } {
+            0 => Some(version),
+            // The hand holds a pass, so nothing is refused.
+            _ => None,
+        }
+    }
+
     /// Pins the current version: until the result is dropped, each read by it is of that version.
     pub fn pin(&mut self) -> Pinned<'_> {
         // Safety: the hand is valid. If it pins already, a Pinned was leaked: that pin ends here.

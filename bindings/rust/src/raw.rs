@@ -134,6 +134,8 @@ extern "C" {
     pub(crate) fn mst_version(pass: *mut Hand, version: *mut u64) -> i32;
     pub(crate) fn mst_format(pass: *mut Hand) -> i32;
     pub(crate) fn mst_rows(pass: *mut Hand, rows: *mut u32) -> i32;
+    pub(crate) fn mst_free_rows(pass: *mut Hand, rows: *mut u32) -> i32;
+    pub(crate) fn mst_made(pass: *mut Hand, version: *mut u64) -> i32;
     pub(crate) fn mst_try_put(
         pass: *mut Hand,
         key: *const u8,

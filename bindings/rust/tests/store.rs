@@ -318,8 +318,19 @@ fn rows_are_spent_and_counted() {
     assert_eq!(writer.migrate(Format::One), Ok(Format::One));
     let then = reader.pin();
     assert_eq!(writer.try_rows(), Err(TryError::Refused(Error::RowsPinned)));
+    let free = writer.try_free_rows().unwrap();
     drop(then);
-    assert!(writer.try_rows().unwrap() <= 8);
+    assert_eq!(writer.try_rows(), Ok(8 - free));
+}
+
+#[test]
+fn a_pass_knows_the_version_that_it_made() {
+    let mut passes = open(32, 2).unwrap();
+    let (mut one, mut other) = (passes.pop().unwrap(), passes.pop().unwrap());
+    assert_eq!((one.made(), other.made()), (None, None));
+    one.put(b"key", b"1").unwrap();
+    other.put(b"key", b"2").unwrap();
+    assert_eq!((one.made(), other.made(), one.version()), (Some(1), Some(2), 2));
 }
 
 #[test]

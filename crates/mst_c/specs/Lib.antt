@@ -3,6 +3,7 @@ pub mod Holding
 pub mod Formats
 pub mod Owning
 pub mod Told
+pub mod Knowing
 pub mod Ranges
 pub mod Batches
 pub mod Opened

@@ -13,6 +13,8 @@ ghost use Rattle.mst_c.specs.Formats.{Moves};
 ghost use Rattle.mst_c.specs.Batches.{Applies};
 ghost use Rattle.mst_c.specs.Holding.{Reads, Forgets, Writes, PinsNow, Unpins, Versions, Counts};
 
+mod knowing;
+
 use crate::answering::{tell_now, tell_pinned};
 use crate::hand::{Hand, PaddedHand, Taken, give};
 use crate::packing::Packed;

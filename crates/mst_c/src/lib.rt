@@ -28,6 +28,7 @@
 ghost use Rattle.std.specs.Prelude.{◌≡◌, ◌≢◌, ◌↔◌, ◌⊎◌, ℕ, List, pos, negsuc, length as count, None, IsSome};
 ghost use Rattle.mst_c.specs.Batches.{ApplyTold};
 ghost use Rattle.mst_c.specs.Formats.{format_named, FormatTold, MigrateTold};
+ghost use Rattle.mst_c.specs.Knowing.{FreeRowsTold, MadeTold};
 ghost use Rattle.mst_c.specs.Opened.{Opened, IsSize, AllEmpty};
 ghost use Rattle.mst_c.specs.Ranges.{RangeTold};
 ghost use Rattle.mst_c.specs.ShardedOpened.{ShardsOpened, NoneHeld};
@@ -41,6 +42,7 @@ mod batches;
 mod formats;
 mod hand;
 mod held;
+mod knowing;
 mod laws;
 mod opening;
 mod packing;
@@ -214,6 +216,24 @@ pub extern "C" fn mst_rows(alloc: Global, hand: &mut Hand, count: &mut u32) -> i
     ensures told { RowsTold hand.old.held count.old result count.new hand.new.held }
 {
     telling::rows(alloc, hand, count)
+}
+
+/// Sets `count` to the number of rows that are free to the next write, beside pinned versions too.
+/// Returns 0; or -7, -8 for a pinned pass, -21, and then the count stays.
+#[unsafe(no_mangle)]
+pub extern "C" fn mst_free_rows(alloc: Global, hand: &mut Hand, count: &mut u32) -> i32
+    ensures told { FreeRowsTold hand.old.held count.old result count.new hand.new.held }
+{
+    knowing::free_rows(alloc, hand, count)
+}
+
+/// Sets `number` to the version that the pass's last write made, whatever other passes wrote since.
+/// Returns 0; or -7, -1 if the pass has made none, and then the number stays.
+#[unsafe(no_mangle)]
+pub extern "C" fn mst_made(alloc: Global, hand: &mut Hand, number: &mut u64) -> i32
+    ensures told { MadeTold hand.old.held number.old result number.new hand.new.held }
+{
+    knowing::made(alloc, hand, number)
 }
 
 /// Finds the pair of the least key above the bound, or of the least key if the bound has no bytes.

@@ -179,8 +179,27 @@ func TestRows(t *testing.T) {
 	expect(t, "Apply", pass.Apply(&batch), mst.ErrNoFreeRows)
 	_, err = pass.Migrate(mst.Format2)
 	expect(t, "Migrate", err, mst.ErrNoFreeRows)
-	if rows, err := pass.Rows(); rows > 8 || err != nil {
+	rows, err := pass.Rows()
+	if rows > 8 || err != nil {
 		t.Errorf("%d rows, %v", rows, err)
+	}
+	if free, err := pass.FreeRows(); free != 8-rows || err != nil {
+		t.Errorf("%d of 8 rows are free, %v", free, err)
+	}
+}
+
+func TestMade(t *testing.T) {
+	passes := open(t, mst.Format1, 32, 2)
+	if _, made, err := passes[0].Made(); made || err != nil {
+		t.Errorf("a version is made, %v", err)
+	}
+	for _, pass := range passes {
+		expect(t, "Put", put(pass, []byte("key"), nil), nil)
+	}
+	for at, pass := range passes {
+		if version, made, err := pass.Made(); version != uint64(at+1) || !made || err != nil {
+			t.Errorf("pass %d made version %d, %v", at, version, err)
+		}
 	}
 }
 

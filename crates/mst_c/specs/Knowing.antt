@@ -1,0 +1,65 @@
+-- How many rows are free, and which version a pass made: what the calls through a hand's pass do,
+-- and what C is told.
+use Rattle.std.specs.Prelude.{◌≡◌, ℕ, ℤ, pos, negsuc, ◌+◌, [], Option, Some, None, Result, Ok, Err}
+use Rattle.mst_key.specs.History.{after}
+use Rattle.mst_store.specs.Passes.{Known, format_seen, Looks, FindsBusy, AreFree}
+use Rattle.mst_store.specs.Writes.{rows_of, AreFound}
+use Rattle.mst_c.specs.declared.held.State.{State}
+use Rattle.mst_c.specs.declared.held.State.TheVariants.{Away, Free, Pinned}
+use Rattle.mst_c.specs.declared.held.Uncounted.{Uncounted}
+use Rattle.mst_c.specs.declared.held.Uncounted.TheVariants.{Pins, Busy}
+
+-- The rows that are free are counted by a free pass where no other pass writes, beside pinned
+-- versions too, in as many steps as the pass's contract says
+abbrev pub CountsFree : State → Result ℕ Uncounted → State → Type 0
+CountsFree Away result s = ⊥
+CountsFree (Free p) (Ok free) s =
+    (q : Known) × (s ≡ Free q) × Looks p q × AreFree free q
+    × AreFound p.store.passes q.seen q.found
+    × (q.found ≡ [] → free + rows_of (format_seen q) (after q.seen) ≡ q.store.rows)
+    × (q.asked ≡ p.asked + p.store.passes + 2)
+CountsFree (Free p) (Err Busy) s = (q : Known) × (s ≡ Free q) × FindsBusy p q
+CountsFree (Free p) (Err Pins) s = ⊥
+CountsFree (Pinned p) (Err Pins) s = s ≡ Pinned p
+CountsFree (Pinned p) (Err Busy) s = ⊥
+CountsFree (Pinned p) (Ok free) s = ⊥
+
+-- the version that the pass's last write made, free or pinned; nothing changes
+abbrev pub Knows : State → Option ℕ → State → Type 0
+Knows Away made s = ⊥
+Knows (Free p) made s = (s ≡ Free p) × (made ≡ p.made)
+Knows (Pinned p) made s = (s ≡ Pinned p) × (made ≡ p.made)
+
+abbrev pub free_code : Result ℕ Uncounted → ℤ
+free_code (Ok n) = pos 0
+free_code (Err Pins) = negsuc 7
+free_code (Err Busy) = negsuc 20
+
+-- the free rows, where they were counted
+abbrev pub free_after : ℕ → Result ℕ Uncounted → ℕ
+free_after number (Ok n) = n
+free_after number (Err fault) = number
+
+-- -7 for an empty hand, otherwise what the pass found
+abbrev pub FreeRowsTold : Option State → ℕ → ℤ → ℕ → Option State → Type 0
+FreeRowsTold None number code number' hand =
+    (code ≡ negsuc 6) × (number' ≡ number) × (hand ≡ None)
+FreeRowsTold (Some s) number code number' hand =
+    (r : Result ℕ Uncounted) × (t : State) × (hand ≡ Some t) × CountsFree s r t
+    × (code ≡ free_code r) × (number' ≡ free_after number r)
+
+abbrev pub made_code : Option ℕ → ℤ
+made_code (Some n) = pos 0
+made_code None = negsuc 0
+
+-- the version, if the pass made one
+abbrev pub made_after : ℕ → Option ℕ → ℕ
+made_after number (Some n) = n
+made_after number None = number
+
+-- -7 for an empty hand, -1 for a pass that made no version
+abbrev pub MadeTold : Option State → ℕ → ℤ → ℕ → Option State → Type 0
+MadeTold None number code number' hand = (code ≡ negsuc 6) × (number' ≡ number) × (hand ≡ None)
+MadeTold (Some s) number code number' hand =
+    (made : Option ℕ) × (t : State) × (hand ≡ Some t) × Knows s made t
+    × (code ≡ made_code made) × (number' ≡ made_after number made)
