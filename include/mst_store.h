@@ -520,8 +520,10 @@ int32_t mst_sharded_try_put(mst_handle *handle, const uint8_t *key, size_t key_l
                             const uint8_t *value, size_t value_length,
                             uint8_t *room, size_t room_length);
 
-/* As mst_try_remove, in the key's shard. Returns what mst_sharded_try_put returns, without
- * MST_BAD_VALUE. */
+/*
+ * As mst_try_remove, in the key's shard. Returns what mst_sharded_try_put returns, without
+ * MST_BAD_VALUE.
+ */
 int32_t mst_sharded_try_remove(mst_handle *handle, const uint8_t *key, size_t key_length,
                                uint8_t *room, size_t room_length);
 
@@ -532,8 +534,10 @@ int32_t mst_sharded_try_remove(mst_handle *handle, const uint8_t *key, size_t ke
  */
 int32_t mst_sharded_snapshot(mst_handle *handle);
 
-/* Turns the snapshot into a handle: its pins end. Returns MST_OK, MST_CLOSED, or MST_WRONG_STATE
- * for a handle. */
+/*
+ * Turns the snapshot into a handle: its pins end. Returns MST_OK, MST_CLOSED, or MST_WRONG_STATE
+ * for a handle.
+ */
 int32_t mst_sharded_release(mst_handle *handle);
 
 /*

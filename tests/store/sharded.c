@@ -1,12 +1,12 @@
 /*
- * Sharded maps: splits that are none, closed hands and wrong states, random calls through several
- * handles against a plain sorted array, and memory that is refused at each growth in turn.
+ * Sharded maps: splits that are none, closed hands and wrong states, and random calls through
+ * several handles against a plain array.
  *
  *     sharded [CALLS]
  */
-#include "heap.h"
 #include "mst_verifier.h"
 #include "tests.h"
+#include <stdlib.h>
 
 #define HANDLES 3
 #define KEYS 256 /* keys are of one byte */
@@ -223,80 +223,11 @@ static void against_a_model(long calls) {
         EXPECT(mst_sharded_close(&handles[i]) == MST_OK);
 }
 
-/* ---- refused memory ---- */
-
-/* How many openings were refused before one was not. Nothing is leaked. */
-static long openings(void) {
-    for (long n = 0; n < 4000; n++) {
-        mst_handle hands[3] = {MST_HANDLE_CLOSED};
-        live = 0;
-        count_from(n);
-        int32_t told = mst_sharded_open(1, 16, TEXT("\1b\1c"), hands, 3);
-        count_on();
-        for (int i = 0; i < 3; i++) {
-            int32_t closed = mst_sharded_close(&hands[i]);
-            EXPECT(closed == (told == MST_OK ? MST_OK : MST_CLOSED) && hands[i].at == NULL);
-        }
-        counting = 0;
-        EXPECT(live == 0);
-        EXPECT(told == MST_OK || told == MST_MEMORY);
-        if (told == MST_OK)
-            return n;
-    }
-    return -1;
-}
-
-/* How many root digests, or proofs, were refused before one was not. The snapshot goes on. */
-static long asked_for(mst_handle *handle, int is_proof) {
-    for (long n = 0; n < 400; n++) {
-        size_t length = 7;
-        long before = live;
-        count_from(n);
-        int32_t told = is_proof
-            ? mst_sharded_prove(handle, TEXT("key"), proof, sizeof proof, &length)
-            : mst_sharded_root(handle, root, sizeof root);
-        count_on();
-        EXPECT(live == before);
-        EXPECT(mst_sharded_get(handle, TEXT("key"), room, sizeof room) == 5);
-        if (told != MST_MEMORY) {
-            EXPECT(told == (is_proof ? MST_OK : 32));
-            return n;
-        }
-        EXPECT(length == 7);
-    }
-    return -1;
-}
-
-static void refused_memory(void) {
-    mst_handle handle = MST_HANDLE_CLOSED;
-    long opened = openings();
-    EXPECT(opened > 0);
-    live = 0;
-    count_from(-1);
-    EXPECT(mst_sharded_open(1, 64, TEXT("\1b\1m"), &handle, 1) == MST_OK);
-    asked = 0;
-    EXPECT(mst_sharded_put(&handle, TEXT("key"), TEXT("value"), room, 64) == MST_ABSENT);
-    EXPECT(mst_sharded_put(&handle, TEXT("a"), TEXT("1"), room, 64) == MST_ABSENT);
-    EXPECT(mst_sharded_remove(&handle, TEXT("a"), room, 64) == 1);
-    EXPECT(mst_sharded_get(&handle, TEXT("key"), room, 64) == 5);
-    EXPECT(mst_sharded_shards(&handle) == 3 && mst_sharded_snapshot(&handle) == MST_OK);
-    EXPECT(mst_sharded_get(&handle, TEXT("key"), room, 64) == 5);
-    EXPECT(mst_sharded_release(&handle) == MST_OK && mst_sharded_snapshot(&handle) == MST_OK);
-    EXPECT(asked == 0);
-    long roots = asked_for(&handle, 0), proofs = asked_for(&handle, 1);
-    EXPECT(roots > 0 && proofs > 0 && asked_for(&handle, 0) > 0);
-    EXPECT(mst_sharded_close(&handle) == MST_OK);
-    counting = 0;
-    EXPECT(live == 0);
-    printf("%ld openings, %ld root digests and %ld proofs refused\n", opened, roots, proofs);
-}
-
 int main(int count, char **words) {
     splits();
     shapes();
     closed_hands();
     wrong_states();
     against_a_model(count > 1 ? atol(words[1]) : 200000);
-    refused_memory();
     return ended("sharded");
 }

@@ -1,0 +1,75 @@
+/*
+ * A malloc that counts, and that refuses its n-th call: an opening of a sharded map leaves all hands
+ * empty, a root digest and a proof leave the snapshot as it was, and nothing is ever leaked.
+ */
+#include "heap.h"
+#include "tests.h"
+
+static uint8_t room[MST_VALUE_LONGEST], root[MST_ROOT_LENGTH], proof[65536];
+
+/* How many openings were refused before one was not. Nothing is leaked. */
+static long openings(void) {
+    for (long n = 0; n < 4000; n++) {
+        mst_handle hands[3] = {MST_HANDLE_CLOSED};
+        live = 0;
+        count_from(n);
+        int32_t told = mst_sharded_open(1, 16, TEXT("\1b\1c"), hands, 3);
+        count_on();
+        for (int i = 0; i < 3; i++) {
+            int32_t closed = mst_sharded_close(&hands[i]);
+            EXPECT(closed == (told == MST_OK ? MST_OK : MST_CLOSED) && hands[i].at == NULL);
+        }
+        counting = 0;
+        EXPECT(live == 0);
+        EXPECT(told == MST_OK || told == MST_MEMORY);
+        if (told == MST_OK)
+            return n;
+    }
+    return -1;
+}
+
+/* How many root digests, or proofs, were refused before one was not. The snapshot goes on. */
+static long asked_for(mst_handle *handle, int is_proof) {
+    for (long n = 0; n < 400; n++) {
+        size_t length = 7;
+        long before = live;
+        count_from(n);
+        int32_t told = is_proof
+            ? mst_sharded_prove(handle, TEXT("key"), proof, sizeof proof, &length)
+            : mst_sharded_root(handle, root, sizeof root);
+        count_on();
+        EXPECT(live == before);
+        EXPECT(mst_sharded_get(handle, TEXT("key"), room, sizeof room) == 5);
+        if (told != MST_MEMORY) {
+            EXPECT(told == (is_proof ? MST_OK : 32));
+            return n;
+        }
+        EXPECT(length == 7);
+    }
+    return -1;
+}
+
+int main(void) {
+    mst_handle handle = MST_HANDLE_CLOSED;
+    long opened = openings();
+    EXPECT(opened > 0);
+    live = 0;
+    count_from(-1);
+    EXPECT(mst_sharded_open(1, 64, TEXT("\1b\1m"), &handle, 1) == MST_OK);
+    asked = 0;
+    EXPECT(mst_sharded_put(&handle, TEXT("key"), TEXT("value"), room, 64) == MST_ABSENT);
+    EXPECT(mst_sharded_put(&handle, TEXT("a"), TEXT("1"), room, 64) == MST_ABSENT);
+    EXPECT(mst_sharded_remove(&handle, TEXT("a"), room, 64) == 1);
+    EXPECT(mst_sharded_get(&handle, TEXT("key"), room, 64) == 5);
+    EXPECT(mst_sharded_shards(&handle) == 3 && mst_sharded_snapshot(&handle) == MST_OK);
+    EXPECT(mst_sharded_get(&handle, TEXT("key"), room, 64) == 5);
+    EXPECT(mst_sharded_release(&handle) == MST_OK && mst_sharded_snapshot(&handle) == MST_OK);
+    EXPECT(asked == 0);
+    long roots = asked_for(&handle, 0), proofs = asked_for(&handle, 1);
+    EXPECT(roots > 0 && proofs > 0 && asked_for(&handle, 0) > 0);
+    EXPECT(mst_sharded_close(&handle) == MST_OK);
+    counting = 0;
+    EXPECT(live == 0);
+    printf("%ld openings, %ld root digests and %ld proofs refused\n", opened, roots, proofs);
+    return ended("sharded_nomem");
+}
