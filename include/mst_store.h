@@ -560,6 +560,55 @@ int32_t mst_sharded_prove(mst_handle *handle, const uint8_t *key, size_t key_len
                           uint8_t *room, size_t room_length, size_t *length);
 
 /*
+ * As mst_next, in the map of all shards of a snapshot. Returns what mst_next returns,
+ * MST_WRONG_STATE for a handle, and MST_MEMORY.
+ */
+int32_t mst_sharded_next(mst_handle *handle, const uint8_t *key, size_t key_length,
+                         uint8_t *key_room, size_t key_room_length, size_t *next_length,
+                         uint8_t *room, size_t room_length);
+
+/*
+ * As mst_range, in the map of all shards of a snapshot. Returns what mst_range returns, and
+ * MST_WRONG_STATE for a handle.
+ */
+int32_t mst_sharded_range(mst_handle *handle, const uint8_t *from, size_t from_length,
+                          const uint8_t *to, size_t to_length, uint32_t limit,
+                          uint8_t *room, size_t room_length, size_t *count, size_t *length);
+
+/*
+ * Sets *version to the number of the version that the snapshot pins of a shard, from 0 on. Returns
+ * MST_OK; MST_CLOSED; MST_WRONG_STATE for a handle; MST_ABSENT if there is no such shard.
+ */
+int32_t mst_sharded_version_at(mst_handle *handle, size_t shard, uint64_t *version);
+
+/*
+ * Returns the format of the snapshot's versions, 1 or 2, in which its root digest and its proofs
+ * are. Returns MST_CLOSED; MST_WRONG_STATE for a handle; MST_MIXED_FORMATS if they are in two, as
+ * during a migration; MST_MEMORY.
+ */
+int32_t mst_sharded_format(mst_handle *handle);
+
+/*
+ * Lists of each shard, in the order of their keys, its lower bound as a key, and as its value the
+ * shard's root digest, of 32 bytes, and the upper bound, of none if there is no bound: the pairs of
+ * the directory, whose root digest is that of mst_sharded_root. They stand in the room as those of
+ * mst_range, and MST_PAIR_LONGEST bytes for each shard are enough. Returns MST_OK or MST_NO_ROOM as
+ * mst_range; otherwise what mst_sharded_root returns: room, *count and *length are as they were.
+ */
+int32_t mst_sharded_directory(mst_handle *handle, uint8_t *room, size_t room_length,
+                              size_t *count, size_t *length);
+
+/*
+ * Turns each shard to format 1 or 2, one after the other. Meanwhile a snapshot may find shards in
+ * both. Returns MST_OK. Returns MST_BUSY, MST_VERSIONS_SPENT, MST_MEMORY, MST_ROWS_SPENT if a shard
+ * refused it: *stopped is the number of this shard, from 0. Those before it are migrated, those
+ * behind it not tried: call again with the same format, since a shard in it takes no row and no
+ * memory. Returns MST_CLOSED; MST_UNKNOWN_FORMAT; MST_WRONG_STATE for a snapshot; MST_MEMORY if
+ * there is none for the list of the shards: nothing has changed, and *stopped is as it was.
+ */
+int32_t mst_sharded_try_migrate(mst_handle *handle, uint32_t format, size_t *stopped);
+
+/*
  * Writes a split at `at` bytes into the room, which needs MST_SPLIT_LONGEST bytes from there, and
  * returns where the next one goes. After the last split that is the length of all. Of a key that is
  * longer than 32 bytes it writes only a length, so that mst_sharded_open refuses it.

@@ -14,3 +14,5 @@ pub mod ShardedSplits
 pub mod ShardedTold
 pub mod ShardedOpened
 pub mod ShardedProving
+pub mod ShardedReading
+pub mod ShardedMigrating

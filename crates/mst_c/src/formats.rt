@@ -21,7 +21,7 @@ pub(crate) fn format_named(number: u32) -> Option<Format>
 }
 
 /// The number of a format.
-fn number_of(format: Format) -> i32
+pub(crate) fn number_of(format: Format) -> i32
     ensures number { result ≡ format_code format }
 {
     match format {

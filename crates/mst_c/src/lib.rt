@@ -25,16 +25,12 @@
 //! The tests are made in this order: the hand, the key, the value, the pass, and the rooms last.
 #![tactic(auto)]
 
-ghost use Rattle.std.specs.Prelude.{◌≡◌, ◌≢◌, ◌↔◌, ◌⊎◌, ℕ, List, pos, negsuc, length as count, None, IsSome};
+ghost use Rattle.std.specs.Prelude.{◌≡◌, ◌≢◌, ◌↔◌, ◌⊎◌, pos, negsuc, length as count, None, IsSome};
 ghost use Rattle.mst_c.specs.Batches.{ApplyTold};
 ghost use Rattle.mst_c.specs.Formats.{format_named, FormatTold, MigrateTold};
 ghost use Rattle.mst_c.specs.Knowing.{FreeRowsTold, MadeTold};
 ghost use Rattle.mst_c.specs.Opened.{Opened, IsSize, AllEmpty};
 ghost use Rattle.mst_c.specs.Ranges.{RangeTold};
-ghost use Rattle.mst_c.specs.ShardedOpened.{ShardsOpened, NoneHeld};
-ghost use Rattle.mst_c.specs.ShardedProving as sharded_proving;
-ghost use Rattle.mst_c.specs.ShardedSplits.{PacksSplits};
-ghost use Rattle.mst_c.specs.ShardedTold as sharded;
 ghost use Rattle.mst_c.specs.Told.{GetTold, PutTold, RootTold, ProveTold, PinTold, UnpinTold, CloseTold, RemoveTold, VersionTold, RowsTold, NextTold};
 
 mod answering;
@@ -49,17 +45,19 @@ mod packing;
 mod parts;
 mod ranging;
 mod sharded_asking;
+mod sharded_calls;
 mod sharded_hand;
 mod sharded_held;
+mod sharded_migrating;
 mod sharded_opening;
 mod sharded_proving;
+mod sharded_reading;
 mod sharded_splits;
 mod sharded_telling;
 mod telling;
 
 use hand::{Hand, PaddedHand};
 pub use laws::{batch_laws, worked_batches};
-use sharded_hand::{PaddedShardedHand, ShardedHand};
 use std::alloc::Global;
 
 /// Opens a store of the empty map in format 1 or 2, with `rows` rows, and puts a pass into each of
@@ -276,139 +274,4 @@ pub extern "C" fn mst_range(
         result room.new count.new length.new hand.new.held }
 {
     ranging::range(alloc, hand, from, to, limit, room, count, length)
-}
-
-// ---- sharded maps
-
-/// Opens a sharded map of the empty map in format 1 or 2, each shard with `rows` rows, and puts a
-/// handle into each of the hands. What a hand held before is closed. The splits stand in a buffer:
-/// each is a byte for its length, and its bytes. Returns 0; -3 for another format; -26 if the
-/// buffer has bytes that are no keys, or keys that do not rise strictly from above that of one zero
-/// byte, or more than 1,023 of them; -10 if a store cannot have so many rows or passes; -9 if a
-/// growth was refused; and no other number. If it does not return 0, all hands are empty.
-#[unsafe(no_mangle)]
-pub extern "C" fn mst_sharded_open(
-    alloc: Global,
-    format: u32,
-    rows: u32,
-    splits: &[u8],
-    hands: &mut [PaddedShardedHand],
-) -> i32
-    ensures opened { result ≡ pos 0 → ShardsOpened format rows splits.now hands.new }
-    ensures empty { result ≢ pos 0 → NoneHeld hands.new }
-    ensures format { result ≡ negsuc 2 ↔ (format_named format ≡ None) }
-    ensures splits { result ≡ negsuc 25
-        → IsSome (format_named format) × ((ss : List (List ℕ)) → PacksSplits splits.now ss → ⊥) }
-    ensures size { result ≡ negsuc 9 → IsSome (format_named format)
-        × ((ss : List (List ℕ)) × PacksSplits splits.now ss)
-        × ¬ (IsSize rows (count hands.old)) }
-    ensures range { (result ≡ pos 0) ⊎ (result ≡ negsuc 2) ⊎ (result ≡ negsuc 25)
-        ⊎ (result ≡ negsuc 9) ⊎ (result ≡ negsuc 8) }
-{
-    sharded_opening::open(alloc, format, rows, splits, hands)
-}
-
-/// Closes the handle or the snapshot, whose pins end first. Returns 0 or -7. The map is freed with
-/// its last handle.
-#[unsafe(no_mangle)]
-pub extern "C" fn mst_sharded_close(alloc: Global, hand: &mut ShardedHand) -> i32
-    ensures told { sharded.CloseTold hand.old.held result hand.new.held }
-{
-    sharded_telling::close(alloc, hand)
-}
-
-/// Returns how many shards the map has, 1 to 1,024; or -7.
-#[unsafe(no_mangle)]
-pub extern "C" fn mst_sharded_shards(alloc: Global, hand: &mut ShardedHand) -> i32
-    ensures told { sharded.ShardsTold hand.old.held result hand.new.held }
-{
-    sharded_telling::shards(alloc, hand)
-}
-
-/// As `mst_get`: of a handle from the current version of the key's shard, of a snapshot from the
-/// versions that it pins. Returns -7, -5, -1, -2.
-#[unsafe(no_mangle)]
-pub extern "C" fn mst_sharded_get(
-    alloc: Global,
-    hand: &mut ShardedHand,
-    key: &[u8],
-    room: &mut [u8],
-) -> i32
-    ensures told { sharded.GetTold hand.old.held key.now room.old result room.new hand.new.held }
-{
-    sharded_telling::get(alloc, hand, key, room)
-}
-
-/// As `mst_try_put`, in the shard of the key. Returns -7, -5, -6, -8 for a snapshot, -21, -22, -23:
-/// then nothing is written.
-#[unsafe(no_mangle)]
-pub extern "C" fn mst_sharded_try_put(
-    alloc: Global,
-    hand: &mut ShardedHand,
-    key: &[u8],
-    value: &[u8],
-    room: &mut [u8],
-) -> i32
-    ensures told { sharded.PutTold hand.old.held key.now value.now room.old result room.new
-        hand.new.held }
-{
-    sharded_telling::try_put(alloc, hand, key, value, room)
-}
-
-/// As `mst_try_remove`, in the shard of the key. Returns what `mst_sharded_try_put` returns,
-/// without -6.
-#[unsafe(no_mangle)]
-pub extern "C" fn mst_sharded_try_remove(
-    alloc: Global,
-    hand: &mut ShardedHand,
-    key: &[u8],
-    room: &mut [u8],
-) -> i32
-    ensures told { sharded.RemoveTold hand.old.held key.now room.old result room.new
-        hand.new.held }
-{
-    sharded_telling::try_remove(alloc, hand, key, room)
-}
-
-/// Turns the handle into a snapshot, which pins the current version of each shard, one after the
-/// other: each read is of these until `mst_sharded_release`. Returns 0; -7; -8 for a snapshot.
-#[unsafe(no_mangle)]
-pub extern "C" fn mst_sharded_snapshot(alloc: Global, hand: &mut ShardedHand) -> i32
-    ensures told { sharded.SnapshotTold hand.old.held result hand.new.held }
-{
-    sharded_telling::snapshot(alloc, hand)
-}
-
-/// Turns the snapshot into a handle: its pins end. Returns 0; -7; -8 for a handle.
-#[unsafe(no_mangle)]
-pub extern "C" fn mst_sharded_release(alloc: Global, hand: &mut ShardedHand) -> i32
-    ensures told { sharded.ReleaseTold hand.old.held result hand.new.held }
-{
-    sharded_telling::release(alloc, hand)
-}
-
-/// Returns 32, the length of the root digest of all shards, and its bytes stand first in the room.
-/// Returns -7; -8 for a handle; -27, -28, -22, -9; -2 for a room of less than 32 bytes.
-#[unsafe(no_mangle)]
-pub extern "C" fn mst_sharded_root(alloc: Global, hand: &mut ShardedHand, root: &mut [u8]) -> i32
-    ensures told { sharded_proving.RootTold hand.old.held root.old result root.new hand.new.held }
-{
-    sharded_proving::root(alloc, hand, root)
-}
-
-/// Makes the proof of the key's answer against the root digest of the same snapshot. Returns 0: its
-/// bytes stand first in the room, and their number in `length`. Returns -2: `length` is their
-/// number, and the room stays. Returns -7, -5, and -8 for a handle, -27, -28, -22, -9: both stay.
-#[unsafe(no_mangle)]
-pub extern "C" fn mst_sharded_prove(
-    alloc: Global,
-    hand: &mut ShardedHand,
-    key: &[u8],
-    room: &mut [u8],
-    length: &mut usize,
-) -> i32
-    ensures told { sharded_proving.ProveTold hand.old.held key.now room.old length.old result
-        room.new length.new hand.new.held }
-{
-    sharded_proving::prove(alloc, hand, key, room, length)
 }

@@ -71,7 +71,12 @@ fn put_pairs(room: &mut [u8], pairs: &[(Key, Value)])
 
 /// Sets `count` to the number of pairs and `size` to the number of their bytes. They then stand
 /// first in the room, if they fit.
-fn tell_pairs(pairs: &[(Key, Value)], room: &mut [u8], count: &mut usize, size: &mut usize) -> i32
+pub(crate) fn tell_pairs(
+    pairs: &[(Key, Value)],
+    room: &mut [u8],
+    count: &mut usize,
+    size: &mut usize,
+) -> i32
     requires few { length pairs.now < 2 ^ 32 }
     ensures code { result ≡ bytes_code (length room.old) (Some (pairs_bytes pairs.now)) }
     ensures room { room.new ≡ room_after room.old (Some (pairs_bytes pairs.now)) }

@@ -1,16 +1,23 @@
 //! What a hand of a sharded map holds: a handle or a snapshot, beside a share of its map.
-ghost use Rattle.std.specs.Prelude.{◌≡◌, ◌≤◌, true, Some, None, Ok, Err, IfOk, IfErr};
+ghost use Rattle.std.specs.Prelude.{◌≡◌, ◌≤◌, true, length, Some, None, Ok, Err, IfOk, IfErr};
+ghost use Rattle.std.specs.Option.{option_copied};
 ghost use Rattle.mst_key.specs.declared.history.Change.TheVariants.{Put, Remove};
+ghost use Rattle.mst_key.specs.Map.{map_next, map_range};
 ghost use Rattle.mst_sharded_proof.specs.Theorem.{HasShardedRoot};
 ghost use Rattle.mst_c.specs.declared.sharded_held.Sharing.TheVariants as sharing;
 ghost use Rattle.mst_c.specs.ShardedHolding.{shards_in, Gets, Writes, PinsShards, Releases};
-ghost use Rattle.mst_c.specs.ShardedProving.{Lists, Proof};
+ghost use Rattle.mst_c.specs.ShardedMigrating.{MovesAll};
+ghost use Rattle.mst_c.specs.ShardedProving.{Lists, Proof, IsDirectory};
+ghost use Rattle.mst_c.specs.ShardedReading.{Finds, Numbers, HasFormat};
 ghost use Rattle.mst_c.specs.ShardedStates.{PinsNone};
 
 use crate::held::Unwritten;
-use crate::sharded_asking::{Unlisted, proof_of, root_of};
+use crate::sharded_asking::{
+    Unlisted, Unread, directory_of, format_of, next_of, proof_of, range_of, root_of, version_of,
+};
 use crate::sharded_hand::{PaddedShardedHand, ShardedHand, ShardedTaken, give};
-use mst_key::{Key, Value};
+use crate::sharded_migrating::{Unmigrated, migrate};
+use mst_key::{Format, Key, Value};
 use mst_sharded::{SharedHandle, SharedSnapshot};
 use std::alloc::Global;
 use std::marker::Model;
@@ -225,5 +232,81 @@ impl ShardedHeld {
         let (sharing, told) = proof_of(replace(&mut self.sharing, Sharing::Away), alloc, key);
         self.sharing = sharing;
         told
+    }
+
+    /// The directory, if this is a snapshot.
+    pub(crate) fn directory(&mut self, alloc: Global) -> Result<Vec<(Key, Value), Global>, Unlisted>
+        ensures ok { IfOk result
+            (λ pairs. Lists IsDirectory self.old (Ok pairs.items) self.new) }
+        ensures few { IfOk result (λ pairs. length pairs.items ≤ 1024) }
+        ensures err { IfErr result (λ fault. Lists IsDirectory self.old (Err fault) self.new) }
+    {
+        let (sharing, told) = directory_of(replace(&mut self.sharing, Sharing::Away), alloc);
+        self.sharing = sharing;
+        told
+    }
+
+    /// The pair of the least key above the bound, if this is a snapshot.
+    pub(crate) fn next(
+        &mut self,
+        alloc: Global,
+        after: Option<&Key>,
+    ) -> Result<Option<(Key, Value)>, Unread>
+        ensures finds { Finds (λ m. map_next m (option_copied after.entry)) self.old result
+            self.new }
+    {
+        let (sharing, found) = next_of(replace(&mut self.sharing, Sharing::Away), alloc, after);
+        self.sharing = sharing;
+        found
+    }
+
+    /// The first pairs, at most `limit`, of the keys that are at least `from` and below `to`, if
+    /// this is a snapshot.
+    pub(crate) fn range(
+        &mut self,
+        alloc: Global,
+        from: Option<&Key>,
+        to: Option<&Key>,
+        limit: usize,
+    ) -> Result<Vec<(Key, Value), Global>, Unread>
+        ensures ok { IfOk result (λ pairs. Finds
+            (λ m. map_range m (option_copied from.entry) (option_copied to.entry) limit) self.old
+            (Ok pairs.items) self.new) }
+        ensures few { IfOk result (λ pairs. length pairs.items ≤ limit) }
+        ensures err { IfErr result (λ fault. Finds
+            (λ m. map_range m (option_copied from.entry) (option_copied to.entry) limit) self.old
+            (Err fault) self.new) }
+    {
+        let sharing = replace(&mut self.sharing, Sharing::Away);
+        let (sharing, found) = range_of(sharing, alloc, from, to, limit);
+        self.sharing = sharing;
+        found
+    }
+
+    /// The number of the version of a shard, if this is a snapshot.
+    pub(crate) fn version_at(&mut self, shard: usize) -> Option<Option<u64>>
+        ensures numbers { Numbers shard self.old result self.new }
+    {
+        let (sharing, found) = version_of(replace(&mut self.sharing, Sharing::Away), shard);
+        self.sharing = sharing;
+        found
+    }
+
+    /// The one format of the shards' versions, if this is a snapshot.
+    pub(crate) fn format(&mut self, alloc: Global) -> Result<Option<Format>, Unread>
+        ensures has { HasFormat self.old result self.new }
+    {
+        let (sharing, found) = format_of(replace(&mut self.sharing, Sharing::Away), alloc);
+        self.sharing = sharing;
+        found
+    }
+
+    /// Turns each shard to a format, if this is a handle.
+    pub(crate) fn try_migrate(&mut self, alloc: Global, to: Format) -> Result<(), Unmigrated>
+        ensures moves { MovesAll to self.old result self.new }
+    {
+        let (sharing, moved) = migrate(replace(&mut self.sharing, Sharing::Away), alloc, to);
+        self.sharing = sharing;
+        moved
     }
 }

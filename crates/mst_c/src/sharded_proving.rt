@@ -9,7 +9,7 @@ use mst_key::Key;
 use mst_sharded::DirectoryFault;
 use std::alloc::Global;
 
-const MIXED_FORMATS: i32 = -27;
+pub(crate) const MIXED_FORMATS: i32 = -27;
 
 const STRAY_KEY: i32 = -28;
 

@@ -273,7 +273,7 @@ pub(crate) fn bound(bytes: &[u8]) -> Result<Option<Key>, KeySize>
 }
 
 /// The code of a pair or of absence. Key and value stand first in their rooms then, if both fit.
-fn tell_pair(
+pub(crate) fn tell_pair(
     pair: Option<(Key, Value)>,
     key_room: &mut [u8],
     size: &mut usize,

@@ -4,7 +4,7 @@ use Rattle.mst_key.specs.Bytes.{IsKey}
 use Rattle.mst_c.specs.declared.sharded_held.Sharing.{Sharing}
 use Rattle.mst_c.specs.declared.sharded_asking.Unlisted.{Unlisted}
 use Rattle.mst_c.specs.Told.{room_after, size_after}
-use Rattle.mst_c.specs.ShardedProving.{Lists, Proof, bytes_of, proof_code, ProveTold}
+use Rattle.mst_c.specs.ShardedProving.{Lists, Proof, answer_of, proof_code, ProveTold}
 use Rattle.mst_c.proofs.sharded_proving.prove.Goals as goal
 
 -- the snapshot gave a proof
@@ -19,8 +19,8 @@ returns-in-Ok-found c =
     let lists : Lists (Proof c.args.key.now) s r t = search rules in
     let code : to_z w32 (of_z w32 c.tell_proof.result) ≡ proof_code (length c.args.room.now) r =
     search rules in
-    let room : c.tell_proof.new.room ≡ room_after c.args.room.now (bytes_of r) = search rules in
-    let size : c.tell_proof.new.size ≡ size_after c.args.size.now (bytes_of r) = search rules in
+    let room : c.tell_proof.new.room ≡ room_after c.args.room.now (answer_of r) = search rules in
+    let size : c.tell_proof.new.size ≡ size_after c.args.size.now (answer_of r) = search rules in
     record {
       told =
           subst (λ (h : Option Sharing). ProveTold h c.args.key.now c.args.room.now
