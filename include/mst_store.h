@@ -592,7 +592,7 @@ int32_t mst_sharded_format(mst_handle *handle);
  * Lists of each shard, in the order of their keys, its lower bound as a key, and as its value the
  * shard's root digest, of 32 bytes, and the upper bound, of none if there is no bound: the pairs of
  * the directory, whose root digest is that of mst_sharded_root. They stand in the room as those of
- * mst_range, and MST_PAIR_LONGEST bytes for each shard are enough. Returns MST_OK or MST_NO_ROOM as
+ * mst_range, and MST_PAIR_LONGEST bytes for each shard are enough. Returns MST_OK or MST_SHORT_ROOM as
  * mst_range; otherwise what mst_sharded_root returns: room, *count and *length are as they were.
  */
 int32_t mst_sharded_directory(mst_handle *handle, uint8_t *room, size_t room_length,
@@ -600,7 +600,7 @@ int32_t mst_sharded_directory(mst_handle *handle, uint8_t *room, size_t room_len
 
 /*
  * Turns each shard to format 1 or 2, one after the other. Meanwhile a snapshot may find shards in
- * both. Returns MST_OK. Returns MST_BUSY, MST_VERSIONS_SPENT, MST_MEMORY, MST_ROWS_SPENT if a shard
+ * both. Returns MST_OK. Returns MST_BUSY, MST_VERSIONS_SPENT, MST_MEMORY, MST_NO_FREE_ROWS if a shard
  * refused it: *stopped is the number of this shard, from 0. Those before it are migrated, those
  * behind it not tried: call again with the same format, since a shard in it takes no row and no
  * memory. Returns MST_CLOSED; MST_UNKNOWN_FORMAT; MST_WRONG_STATE for a snapshot; MST_MEMORY if
@@ -623,6 +623,9 @@ int32_t mst_sharded_put(mst_handle *handle, const uint8_t *key, size_t key_lengt
 /* As mst_sharded_try_remove, but waits as mst_put does. */
 int32_t mst_sharded_remove(mst_handle *handle, const uint8_t *key, size_t key_length,
                            uint8_t *room, size_t room_length);
+
+/* As mst_sharded_try_migrate, but waits for the turn of each shard as mst_put does. */
+int32_t mst_sharded_migrate(mst_handle *handle, uint32_t format, size_t *stopped);
 
 #ifdef __cplusplus
 }

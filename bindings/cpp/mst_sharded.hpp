@@ -71,6 +71,29 @@ public:
 // handle.
 class [[nodiscard]] snapshot : public sharded_reader {
     friend class handle;
+
+    template <typename Call> static std::vector<pair> pairs(Call call) {
+        std::vector<std::uint8_t> room(MST_PAIR_LONGEST * 64);
+        std::size_t count = 0, length = 0;
+        int code = call(room, count, length);
+        if (code == MST_SHORT_ROOM) {
+            room.resize(length); // a snapshot stays, so this is enough
+            code = call(room, count, length);
+        }
+        detail::require(code);
+        std::vector<pair> found;
+        found.reserve(count);
+        std::size_t at = 0;
+        while (found.size() < count) {
+            mst_pair one;
+            at = mst_pair_at(room.data(), at, &one);
+            found.emplace_back(
+                std::string(reinterpret_cast<const char *>(one.key), one.key_length),
+                std::string(reinterpret_cast<const char *>(one.value), one.value_length));
+        }
+        return found;
+    }
+
     explicit snapshot(std::shared_ptr<detail::sharded_held> of) : sharded_reader(std::move(of)) {
         detail::require(mst_sharded_snapshot(at()));
     }
@@ -79,6 +102,52 @@ public:
     snapshot(snapshot &&other) noexcept : sharded_reader(std::move(other.hand)) {}
     snapshot &operator=(snapshot &&) = delete;
     ~snapshot() { release(); }
+
+    // Returns the pair of the least key above `after`, or of the least key of all if `after` is
+    // empty; nothing if there is no such pair.
+    std::optional<pair> next(std::string_view after = {}) {
+        std::uint8_t key[MST_KEY_LONGEST], room[MST_VALUE_LONGEST];
+        std::size_t length = 0;
+        auto value = told(mst_sharded_next(at(), detail::bytes(after), after.size(), key,
+                                           sizeof key, &length, room, sizeof room), room);
+        if (!value) return std::nullopt;
+        return pair(std::string(reinterpret_cast<const char *>(key), length), std::move(*value));
+    }
+
+    // Returns the first pairs, at most `limit`, with from <= key < to. An empty bound does not
+    // bind.
+    std::vector<pair> range(std::string_view from = {}, std::string_view to = {},
+                            std::size_t limit = SIZE_MAX) {
+        auto most = static_cast<std::uint32_t>(std::min<std::size_t>(limit, UINT32_MAX));
+        return pairs([&](std::vector<std::uint8_t> &room, std::size_t &count, std::size_t &length) {
+            return mst_sharded_range(at(), detail::bytes(from), from.size(), detail::bytes(to),
+                                     to.size(), most, room.data(), room.size(), &count, &length);
+        });
+    }
+
+    // Returns of each shard its lower bound, with its root digest of 32 bytes and its upper bound,
+    // which is empty if there is none: the pairs whose root digest is that of the snapshot.
+    std::vector<pair> directory() {
+        return pairs([&](std::vector<std::uint8_t> &room, std::size_t &count, std::size_t &length) {
+            return mst_sharded_directory(at(), room.data(), room.size(), &count, &length);
+        });
+    }
+
+    // Returns the number of the version that is pinned of a shard, from 0; nothing if there is no
+    // such shard.
+    std::optional<std::uint64_t> version_at(std::size_t shard) {
+        std::uint64_t number = 0;
+        int code = mst_sharded_version_at(at(), shard, &number);
+        if (code == MST_ABSENT) return std::nullopt;
+        detail::require(code);
+        return number;
+    }
+
+    // Returns the format of the versions, in which the root digest and the proofs are. If they are
+    // in two, the call is refused.
+    mst::format format() {
+        return static_cast<mst::format>(detail::require(mst_sharded_format(at())));
+    }
 
     // Returns the root digest of all shards. It depends on their pairs, their format and the splits
     // alone.
@@ -165,6 +234,22 @@ public:
     // As try_remove, but waits for the turn. Returns the value that the key had before.
     std::optional<std::string> remove(std::string_view key) {
         return remove_by(mst_sharded_remove, key).old;
+    }
+
+    // Turns each shard to a format, one after the other, if no other handle has its turn. If a
+    // shard refuses it, those before it are migrated, and those behind it were not tried.
+    applied try_migrate(format to) {
+        std::size_t stopped = 0;
+        int code = mst_sharded_try_migrate(at(), static_cast<std::uint32_t>(to), &stopped);
+        if (code == MST_BUSY) return applied{true};
+        detail::require(code);
+        return applied{};
+    }
+
+    // As try_migrate, but waits for the turn of each shard.
+    void migrate(format to) {
+        std::size_t stopped = 0;
+        detail::require(mst_sharded_migrate(at(), static_cast<std::uint32_t>(to), &stopped));
     }
 
     // Pins the current version of each shard, one shard after the other.

@@ -19,8 +19,9 @@ type Handle struct {
 	// How many snapshots there were, and whether the last one still pins.
 	snapshots uint64
 	isPinned  bool
+	keyRoom   [C.MST_KEY_LONGEST]byte
 	room      [C.MST_VALUE_LONGEST]byte
-	// The room for proofs, which grows with the longest.
+	// The room for proofs and ranges, which grows with the longest.
 	long []byte
 	// It ends with padding, and stands last, as the hand of a pass.
 	hand C.mst_handle
@@ -145,6 +146,30 @@ func (h *Handle) TryRemove(key []byte) (old []byte, present bool, err error) {
 		size(h.room[:])))
 }
 
+// TryMigrate turns each shard to a format, one after the other, if no other handle has its turn. If
+// a shard refuses it, those before it are migrated, and those behind it were not tried. The error
+// is ErrClosed, ErrFormat, ErrPinned, ErrBusy, ErrVersionsSpent, ErrMemory, or ErrNoFreeRows.
+func (h *Handle) TryMigrate(to Format) error {
+	h.mutex.Lock()
+	defer h.mutex.Unlock()
+	var stopped C.size_t
+	if told := C.mst_sharded_try_migrate(&h.hand, C.uint32_t(to), &stopped); told != C.MST_OK {
+		return refusal(told)
+	}
+	return nil
+}
+
+// Migrate is as TryMigrate, but waits for the turn of each shard.
+func (h *Handle) Migrate(to Format) error {
+	h.mutex.Lock()
+	defer h.mutex.Unlock()
+	var stopped C.size_t
+	if told := C.mst_sharded_migrate(&h.hand, C.uint32_t(to), &stopped); told != C.MST_OK {
+		return refusal(told)
+	}
+	return nil
+}
+
 // Remove is as TryRemove, but waits for the turn.
 func (h *Handle) Remove(key []byte) (old []byte, present bool, err error) {
 	h.mutex.Lock()
@@ -209,9 +234,17 @@ func (s *Snapshot) Prove(key []byte) ([]byte, error) {
 		return nil, err
 	}
 	defer h.mutex.Unlock()
+	return h.longest(func(room []byte, length *C.size_t) C.int32_t {
+		return C.mst_sharded_prove(&h.hand, at(key), size(key), at(room), size(room), length)
+	})
+}
+
+// longest calls with the long room until it is long enough, and returns a copy of what then stands
+// in the room.
+func (h *Handle) longest(call func(room []byte, length *C.size_t) C.int32_t) ([]byte, error) {
 	for {
 		var length C.size_t
-		told := C.mst_sharded_prove(&h.hand, at(key), size(key), at(h.long), size(h.long), &length)
+		told := call(h.long, &length)
 		switch told {
 		case C.MST_OK:
 			return copied(h.long[:length]), nil
@@ -221,6 +254,92 @@ func (s *Snapshot) Prove(key []byte) ([]byte, error) {
 			return nil, refusal(told)
 		}
 	}
+}
+
+// Next returns the pair of the least key above key, or of the least key of all if key is empty, if
+// there is such a pair. The error is ErrClosed, ErrKey, or ErrMemory.
+func (s *Snapshot) Next(key []byte) (pair Pair, found bool, err error) {
+	h, err := s.take()
+	if err != nil {
+		return Pair{}, false, err
+	}
+	defer h.mutex.Unlock()
+	var length C.size_t
+	value, found, err := h.value(C.mst_sharded_next(&h.hand, at(key), size(key), at(h.keyRoom[:]),
+		size(h.keyRoom[:]), &length, at(h.room[:]), size(h.room[:])))
+	if !found {
+		return Pair{}, false, err
+	}
+	return Pair{copied(h.keyRoom[:length]), value}, true, nil
+}
+
+// Range returns the first pairs, at most limit, whose keys are at least from and below to, by
+// rising keys. An empty bound does not bind, and neither does a limit below 0. The error is
+// ErrClosed, ErrKey, or ErrMemory.
+func (s *Snapshot) Range(from, to []byte, limit int) ([]Pair, error) {
+	h, err := s.take()
+	if err != nil {
+		return nil, err
+	}
+	defer h.mutex.Unlock()
+	var count C.size_t
+	listing, err := h.longest(func(room []byte, length *C.size_t) C.int32_t {
+		return C.mst_sharded_range(&h.hand, at(from), size(from), at(to), size(to), word(limit),
+			at(room), size(room), &count, length)
+	})
+	if err != nil {
+		return nil, err
+	}
+	return pairsIn(listing, int(count)), nil
+}
+
+// Directory returns of each shard its lower bound, with its root digest of 32 bytes and its upper
+// bound, which is empty if there is none: the pairs whose root digest is that of the snapshot. The
+// error is that of Root.
+func (s *Snapshot) Directory() ([]Pair, error) {
+	h, err := s.take()
+	if err != nil {
+		return nil, err
+	}
+	defer h.mutex.Unlock()
+	var count C.size_t
+	listing, err := h.longest(func(room []byte, length *C.size_t) C.int32_t {
+		return C.mst_sharded_directory(&h.hand, at(room), size(room), &count, length)
+	})
+	if err != nil {
+		return nil, err
+	}
+	return pairsIn(listing, int(count)), nil
+}
+
+// VersionAt returns the number of the version that is pinned of a shard, from 0, if there is such a
+// shard. The error is ErrClosed.
+func (s *Snapshot) VersionAt(shard int) (version uint64, found bool, err error) {
+	h, err := s.take()
+	if err != nil {
+		return 0, false, err
+	}
+	defer h.mutex.Unlock()
+	var number C.uint64_t
+	switch told := C.mst_sharded_version_at(&h.hand, C.size_t(shard), &number); told {
+	case C.MST_OK:
+		return uint64(number), true, nil
+	case C.MST_ABSENT:
+		return 0, false, nil
+	default:
+		return 0, false, refusal(told)
+	}
+}
+
+// Format returns the format of the versions, in which the root digest and the proofs are. The error
+// is ErrClosed, ErrMixedFormats, or ErrMemory.
+func (s *Snapshot) Format() (Format, error) {
+	h, err := s.take()
+	if err != nil {
+		return 0, err
+	}
+	defer h.mutex.Unlock()
+	return formatOf(C.mst_sharded_format(&h.hand))
 }
 
 // Release ends the pins. It has no effect if they have ended before, by a Release or with the

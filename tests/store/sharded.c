@@ -13,6 +13,7 @@
 #define PROOF_ROOM 65536
 
 static uint8_t room[MST_VALUE_LONGEST], root[MST_ROOT_LENGTH], proof[PROOF_ROOM];
+static uint8_t key_room[MST_KEY_LONGEST], pairs[KEYS * MST_PAIR_LONGEST];
 static uint64_t state = 88172645463325252u;
 
 static uint32_t random_below(uint32_t limit) {
@@ -93,6 +94,7 @@ static void closed_hands(void) {
     mst_handle handle = MST_HANDLE_CLOSED;
     uint8_t before[64];
     size_t length = 77;
+    uint64_t version = 77;
     memset(room, 0xA5, sizeof room);
     memcpy(before, room, sizeof room);
     EXPECT(mst_sharded_get(&handle, TEXT("a"), room, 64) == MST_CLOSED);
@@ -103,6 +105,13 @@ static void closed_hands(void) {
     EXPECT(mst_sharded_release(&handle) == MST_CLOSED);
     EXPECT(mst_sharded_root(&handle, room, 64) == MST_CLOSED);
     EXPECT(mst_sharded_prove(&handle, TEXT("a"), room, 64, &length) == MST_CLOSED);
+    EXPECT(mst_sharded_next(&handle, TEXT("a"), room, 64, &length, room, 64) == MST_CLOSED);
+    EXPECT(mst_sharded_range(&handle, NULL, 0, NULL, 0, 9, room, 64, &length, &length)
+           == MST_CLOSED);
+    EXPECT(mst_sharded_version_at(&handle, 0, &version) == MST_CLOSED && version == 77);
+    EXPECT(mst_sharded_format(&handle) == MST_CLOSED);
+    EXPECT(mst_sharded_directory(&handle, room, 64, &length, &length) == MST_CLOSED);
+    EXPECT(mst_sharded_try_migrate(&handle, 3, &length) == MST_CLOSED);
     EXPECT(mst_sharded_close(&handle) == MST_CLOSED && handle.at == NULL);
     EXPECT(length == 77 && memcmp(before, room, sizeof room) == 0);
 }
@@ -111,11 +120,24 @@ static void wrong_states(void) {
     mst_handle handle = MST_HANDLE_CLOSED;
     static const uint8_t long_bytes[65] = {1};
     size_t length = 77;
+    uint64_t version = 77;
     EXPECT(mst_sharded_open(1, 16, TEXT("\1m"), &handle, 1) == MST_OK);
     EXPECT(mst_sharded_try_put(&handle, TEXT("a"), TEXT("12345"), room, 64) == MST_ABSENT);
     EXPECT(mst_sharded_release(&handle) == MST_WRONG_STATE);
     EXPECT(mst_sharded_root(&handle, root, 32) == MST_WRONG_STATE);
     EXPECT(mst_sharded_prove(&handle, TEXT("a"), proof, 8, &length) == MST_WRONG_STATE);
+    EXPECT(mst_sharded_format(&handle) == MST_WRONG_STATE);
+    EXPECT(mst_sharded_version_at(&handle, 0, &version) == MST_WRONG_STATE && version == 77);
+    EXPECT(mst_sharded_directory(&handle, room, 64, &length, &length) == MST_WRONG_STATE);
+    EXPECT(mst_sharded_next(&handle, TEXT("a"), key_room, 32, &length, room, 64)
+           == MST_WRONG_STATE);
+    EXPECT(mst_sharded_next(&handle, long_bytes, 33, key_room, 32, &length, room, 64)
+           == MST_BAD_KEY);
+    EXPECT(mst_sharded_range(&handle, NULL, 0, NULL, 0, 9, room, 64, &length, &length)
+           == MST_WRONG_STATE);
+    EXPECT(mst_sharded_range(&handle, NULL, 0, long_bytes, 33, 9, room, 64, &length, &length)
+           == MST_BAD_KEY);
+    EXPECT(mst_sharded_try_migrate(&handle, 3, &length) == MST_UNKNOWN_FORMAT);
     EXPECT(mst_sharded_get(&handle, NULL, 0, room, 64) == MST_BAD_KEY);
     EXPECT(mst_sharded_get(&handle, long_bytes, 33, room, 64) == MST_BAD_KEY);
     EXPECT(mst_sharded_get(&handle, TEXT("a"), room, 4) == MST_SHORT_ROOM);
@@ -126,6 +148,13 @@ static void wrong_states(void) {
     EXPECT(mst_sharded_snapshot(&handle) == MST_WRONG_STATE);
     EXPECT(mst_sharded_try_put(&handle, TEXT("a"), TEXT("2"), room, 64) == MST_WRONG_STATE);
     EXPECT(mst_sharded_try_remove(&handle, TEXT("a"), room, 64) == MST_WRONG_STATE);
+    EXPECT(mst_sharded_try_migrate(&handle, 2, &length) == MST_WRONG_STATE);
+    EXPECT(mst_sharded_format(&handle) == 1);
+    EXPECT(mst_sharded_version_at(&handle, 0, &version) == MST_OK && version == 1);
+    EXPECT(mst_sharded_version_at(&handle, 1, &version) == MST_OK && version == 0);
+    version = 77;
+    EXPECT(mst_sharded_version_at(&handle, 2, &version) == MST_ABSENT && version == 77);
+    EXPECT(mst_sharded_next(&handle, NULL, 0, NULL, 0, &length, room, 64) == MST_NO_ROOM);
     EXPECT(mst_sharded_get(&handle, TEXT("a"), room, 64) == 5);
     EXPECT(mst_sharded_root(&handle, root, 31) == MST_SHORT_ROOM);
     EXPECT(mst_sharded_root(&handle, root, 32) == 32);
@@ -147,6 +176,7 @@ struct map {
 
 static struct map now, pinned[HANDLES];
 static int pins[HANDLES];
+static uint32_t format = 1, formats[HANDLES]; /* of all shards now, and in each snapshot */
 static mst_handle handles[HANDLES];
 
 static int is_value(int32_t told, const uint8_t *bytes, const struct map *map, uint8_t key) {
@@ -172,6 +202,38 @@ static void write_one(mst_handle *handle, uint8_t key) {
     memcpy(now.values[key], value, length);
 }
 
+/* Whether the pair that begins there has the least key of the map from one on; its key then. */
+static int next_pair(const struct map *map, int from, const mst_pair *pair) {
+    while (from < KEYS && map->lengths[from] < 0)
+        from++;
+    EXPECT(from < KEYS && pair->key_length == 1 && pair->key[0] == from);
+    EXPECT(from < KEYS && is_value((int32_t)pair->value_length, pair->value, map, (uint8_t)from));
+    return from;
+}
+
+/* All pairs of a snapshot, and some of them. */
+static void list(int at, uint8_t from) {
+    const struct map *map = &pinned[at];
+    size_t length = 0, count = 0, next_length = 0, begins = 0;
+    int key = -1, left = 0;
+    EXPECT(mst_sharded_range(&handles[at], &from, 1, NULL, 0, KEYS, pairs, sizeof pairs, &count,
+                             &length) == MST_OK);
+    for (int i = from; i < KEYS; i++)
+        left += map->lengths[i] >= 0;
+    EXPECT(count == (size_t)left);
+    for (key = from - 1; begins < length; left--) {
+        mst_pair pair;
+        begins = mst_pair_at(pairs, begins, &pair);
+        key = next_pair(map, key + 1, &pair);
+    }
+    EXPECT(left == 0);
+    int32_t told = mst_sharded_next(&handles[at], &from, 1, key_room, 32, &next_length, room, 64);
+    for (key = from + 1; key < KEYS && map->lengths[key] < 0;)
+        key++;
+    EXPECT(key < KEYS ? next_length == 1 && key_room[0] == key
+           && is_value(told, room, map, (uint8_t)key) : told == MST_ABSENT);
+}
+
 /* The verifier's answer of a proof is that of the map which is pinned. */
 static void audit(int at, uint8_t key) {
     size_t length = 0;
@@ -179,7 +241,7 @@ static void audit(int at, uint8_t key) {
     int known = map->lengths[key];
     EXPECT(mst_sharded_root(&handles[at], root, sizeof root) == 32);
     EXPECT(mst_sharded_prove(&handles[at], &key, 1, proof, sizeof proof, &length) == MST_OK);
-    int32_t told = mst_verify_sharded(1, root, sizeof root, &key, 1, proof, length, room,
+    int32_t told = mst_verify_sharded(formats[at], root, sizeof root, &key, 1, proof, length, room,
                                       sizeof room);
     EXPECT(is_value(told, room, map, key) && known == map->lengths[key]);
 }
@@ -191,14 +253,23 @@ static void step(void) {
     uint32_t what = random_below(64);
     if (what == 0) {
         EXPECT(mst_sharded_snapshot(handle) == (pins[at] ? MST_WRONG_STATE : MST_OK));
-        if (!pins[at])
+        if (!pins[at]) {
             pinned[at] = now;
+            formats[at] = format;
+        }
         pins[at] = 1;
     } else if (what == 1) {
         EXPECT(mst_sharded_release(handle) == (pins[at] ? MST_OK : MST_WRONG_STATE));
         pins[at] = 0;
     } else if (what == 2 && pins[at]) {
         audit(at, key);
+        list(at, key);
+        EXPECT(mst_sharded_format(handle) == (int32_t)formats[at]);
+    } else if (what == 3 && random_below(16) == 0) {
+        size_t stopped = 77;
+        int32_t told = mst_sharded_try_migrate(handle, 3 - format, &stopped);
+        EXPECT(told == (pins[at] ? MST_WRONG_STATE : MST_OK) && stopped == 77);
+        format = pins[at] ? format : 3 - format;
     } else if (what < 32 && !pins[at]) {
         write_one(handle, key);
     } else {
@@ -216,11 +287,51 @@ static void against_a_model(long calls) {
     }
     for (int i = 0; i < KEYS; i++)
         now.lengths[i] = -1;
-    EXPECT(mst_sharded_open(1, 256, splits_room, length, handles, HANDLES) == MST_OK);
+    EXPECT(mst_sharded_open(format, 256, splits_room, length, handles, HANDLES) == MST_OK);
     for (long i = 0; i < calls; i++)
         step();
     for (int i = 0; i < HANDLES; i++)
         EXPECT(mst_sharded_close(&handles[i]) == MST_OK);
+}
+
+/* ---- the directory, and migrations that stop ---- */
+
+static void directories(void) {
+    mst_handle hands[2] = {MST_HANDLE_CLOSED, MST_HANDLE_CLOSED};
+    size_t count = 0, length = 0, begins = 0;
+    mst_pair pair;
+    EXPECT(mst_sharded_open(2, 16, TEXT("\1b\2xy"), hands, 1) == MST_OK);
+    EXPECT(mst_sharded_try_put(&hands[0], TEXT("c"), TEXT("1"), room, 64) == MST_ABSENT);
+    EXPECT(mst_sharded_snapshot(&hands[0]) == MST_OK);
+    EXPECT(mst_sharded_directory(&hands[0], pairs, 0, &count, &length) == MST_NO_ROOM);
+    EXPECT(count == 3 && length == 3 * (4 + 32) + 1 + 1 + 2 + 1 + 2);
+    EXPECT(mst_sharded_directory(&hands[0], pairs, length, &count, &length) == MST_OK);
+    begins = mst_pair_at(pairs, begins, &pair);
+    EXPECT(pair.key_length == 1 && pair.key[0] == 0 && pair.value_length == 33
+           && pair.value[32] == 'b');
+    begins = mst_pair_at(pairs, begins, &pair);
+    EXPECT(pair.key_length == 1 && pair.key[0] == 'b' && pair.value_length == 34
+           && memcmp(pair.value + 32, "xy", 2) == 0);
+    begins = mst_pair_at(pairs, begins, &pair);
+    EXPECT(pair.key_length == 2 && pair.value_length == 32 && begins == length);
+    EXPECT(mst_sharded_close(&hands[0]) == MST_OK);
+}
+
+/* The second shard has no rows for a second tree, so the first one alone is migrated. */
+static void stopped_migrations(void) {
+    mst_handle handle = MST_HANDLE_CLOSED;
+    size_t stopped = 77;
+    EXPECT(mst_sharded_open(1, 5, TEXT("\1b"), &handle, 1) == MST_OK);
+    EXPECT(mst_sharded_try_put(&handle, TEXT("c"), TEXT("1"), room, 64) == MST_ABSENT);
+    EXPECT(mst_sharded_try_put(&handle, TEXT("d"), TEXT("1"), room, 64) == MST_ABSENT);
+    EXPECT(mst_sharded_try_migrate(&handle, 2, &stopped) == MST_ROWS_SPENT && stopped == 1);
+    EXPECT(mst_sharded_snapshot(&handle) == MST_OK);
+    EXPECT(mst_sharded_format(&handle) == MST_MIXED_FORMATS);
+    EXPECT(mst_sharded_root(&handle, root, 32) == MST_MIXED_FORMATS);
+    EXPECT(mst_sharded_prove(&handle, TEXT("c"), proof, 64, &stopped) == MST_MIXED_FORMATS);
+    EXPECT(mst_sharded_directory(&handle, pairs, 64, &stopped, &stopped) == MST_MIXED_FORMATS);
+    EXPECT(stopped == 1 && mst_sharded_get(&handle, TEXT("c"), room, 64) == 1);
+    EXPECT(mst_sharded_close(&handle) == MST_OK);
 }
 
 int main(int count, char **words) {
@@ -228,6 +339,8 @@ int main(int count, char **words) {
     shapes();
     closed_hands();
     wrong_states();
+    directories();
+    stopped_migrations();
     against_a_model(count > 1 ? atol(words[1]) : 200000);
     return ended("sharded");
 }

@@ -46,7 +46,13 @@ void audit(mst::handle &handle, const known &map, mst::format format) {
         auto wanted = found(map, key);
         EXPECT(then.get(key) == wanted);
         EXPECT(told == (wanted ? static_cast<int>(wanted->size()) : MST_ABSENT));
+        auto above = map.upper_bound(key);
+        auto next = then.next(key);
+        EXPECT(above == map.end() ? !next : next == mst::pair(above->first, above->second));
     }
+    EXPECT(then.range() == std::vector<mst::pair>(map.begin(), map.end()));
+    EXPECT(then.range("0", "p", 3).size() <= 3 && then.directory().size() == 16);
+    EXPECT(then.format() == format && then.version_at(15) && !then.version_at(16));
 }
 
 void against_a_map(mst::format format) {
@@ -67,6 +73,16 @@ void against_a_map(mst::format format) {
         EXPECT(handles[0].get(key) == found(map, key));
         if (step % 200 == 0) audit(handles[0], map, format);
     }
+}
+
+void migrations() {
+    auto handles = mst::open_sharded(64, 2, {"m"});
+    EXPECT(!handles[0].put("a", "1"));
+    auto then = handles[1].snapshot();
+    handles[0].migrate(mst::format::two);
+    EXPECT(then.format() == mst::format::one);
+    then.release();
+    EXPECT(handles[1].snapshot().format() == mst::format::two);
 }
 
 void refusals() {
@@ -113,6 +129,7 @@ void threads() {
 int main() {
     against_a_map(mst::format::one);
     against_a_map(mst::format::two);
+    migrations();
     refusals();
     threads();
     return ended("sharded in C++");

@@ -1,6 +1,6 @@
 /*
  * A malloc that counts, and that refuses its n-th call: an opening of a sharded map leaves all hands
- * empty, a root digest and a proof leave the snapshot as it was, and nothing is ever leaked.
+ * empty, each question leaves its snapshot as it was, and nothing is ever leaked.
  */
 #include "heap.h"
 #include "tests.h"
@@ -28,23 +28,58 @@ static long openings(void) {
     return -1;
 }
 
-/* How many root digests, or proofs, were refused before one was not. The snapshot goes on. */
-static long asked_for(mst_handle *handle, int is_proof) {
+enum question { ROOT, PROOF, NEXT, RANGE, DIRECTORY, FORMAT };
+
+static int32_t ask(mst_handle *handle, enum question what, size_t *length) {
+    uint8_t key[MST_KEY_LONGEST];
+    size_t count = 0;
+    switch (what) {
+    case ROOT: return mst_sharded_root(handle, root, sizeof root);
+    case PROOF: return mst_sharded_prove(handle, TEXT("key"), proof, sizeof proof, length);
+    case NEXT: return mst_sharded_next(handle, NULL, 0, key, sizeof key, length, room, 64);
+    case RANGE:
+        return mst_sharded_range(handle, NULL, 0, NULL, 0, 9, proof, sizeof proof, &count, length);
+    case DIRECTORY:
+        return mst_sharded_directory(handle, proof, sizeof proof, &count, length);
+    default: return mst_sharded_format(handle);
+    }
+}
+
+/* How many calls were refused before one was not. The snapshot goes on after each. */
+static long asked_for(mst_handle *handle, enum question what) {
     for (long n = 0; n < 400; n++) {
         size_t length = 7;
         long before = live;
         count_from(n);
-        int32_t told = is_proof
-            ? mst_sharded_prove(handle, TEXT("key"), proof, sizeof proof, &length)
-            : mst_sharded_root(handle, root, sizeof root);
+        int32_t told = ask(handle, what, &length);
         count_on();
         EXPECT(live == before);
         EXPECT(mst_sharded_get(handle, TEXT("key"), room, sizeof room) == 5);
         if (told != MST_MEMORY) {
-            EXPECT(told == (is_proof ? MST_OK : 32));
+            EXPECT(told >= 0);
             return n;
         }
         EXPECT(length == 7);
+    }
+    return -1;
+}
+
+/*
+ * How many migrations were refused before one was not. Each goes on where the one before stopped,
+ * so that all shards are in the format at the end.
+ */
+static long migrations(mst_handle *handle, uint32_t to) {
+    for (long n = 0; n < 400; n++) {
+        size_t stopped = 7;
+        long before = live;
+        count_from(n);
+        int32_t told = mst_sharded_try_migrate(handle, to, &stopped);
+        count_on();
+        EXPECT(live == before);
+        EXPECT(mst_sharded_get(handle, TEXT("key"), room, sizeof room) == 5);
+        if (told == MST_OK)
+            return n;
+        EXPECT(told == MST_MEMORY && (stopped == 7 || stopped < 3));
     }
     return -1;
 }
@@ -65,8 +100,12 @@ int main(void) {
     EXPECT(mst_sharded_get(&handle, TEXT("key"), room, 64) == 5);
     EXPECT(mst_sharded_release(&handle) == MST_OK && mst_sharded_snapshot(&handle) == MST_OK);
     EXPECT(asked == 0);
-    long roots = asked_for(&handle, 0), proofs = asked_for(&handle, 1);
-    EXPECT(roots > 0 && proofs > 0 && asked_for(&handle, 0) > 0);
+    long roots = asked_for(&handle, ROOT), proofs = asked_for(&handle, PROOF);
+    EXPECT(roots > 0 && proofs > 0 && asked_for(&handle, ROOT) > 0);
+    EXPECT(asked_for(&handle, NEXT) > 0 && asked_for(&handle, RANGE) > 0);
+    EXPECT(asked_for(&handle, DIRECTORY) > 0 && asked_for(&handle, FORMAT) > 0);
+    EXPECT(mst_sharded_release(&handle) == MST_OK && migrations(&handle, 2) > 0);
+    EXPECT(mst_sharded_snapshot(&handle) == MST_OK && mst_sharded_format(&handle) == 2);
     EXPECT(mst_sharded_close(&handle) == MST_OK);
     counting = 0;
     EXPECT(live == 0);

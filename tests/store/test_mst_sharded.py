@@ -50,6 +50,12 @@ class Sharded(unittest.TestCase):
                 self.assertEqual(then.get(key), known.get(key))
                 told = mst_verifier.verify_sharded(int(format), root, key, then.prove(key))
                 self.assertEqual(told, known.get(key))
+                above = min((other for other in known if other > key), default=None)
+                self.assertEqual(then.next(key), above and (above, known[above]))
+            self.assertEqual((then.format(), len(then.directory())), (format, 16))
+            self.assertEqual(then.range(), sorted(known.items()))
+            some = sorted(pair for pair in known.items() if b"0" <= pair[0] < b"p")
+            self.assertEqual(then.range(b"0", b"p", 20), some[:20])
         if b"z" in known:
             writer.put(b"z", known[b"z"])
         else:
@@ -64,6 +70,18 @@ class Sharded(unittest.TestCase):
         with one.snapshot(), other.snapshot():
             self.assertEqual(one.root(), other.root())
 
+    def test_migrations_and_versions(self):
+        reader, writer = open_sharded(64, 2, [b"m"])
+        writer.put(b"a", b"1")
+        with reader.snapshot() as then:
+            writer.migrate(Format.TWO)
+            self.assertEqual(then.format(), Format.ONE)
+            self.assertEqual([then.version_at(shard) for shard in range(3)], [1, 0, None])
+        with reader.snapshot() as then:
+            self.assertEqual(then.format(), Format.TWO)
+            self.assertEqual([then.version_at(shard) for shard in range(2)], [2, 1])
+        self.refused(mst_store.UNKNOWN_FORMAT, writer.migrate, 3)
+
     def test_refusals(self):
         self.refused(mst_store.UNKNOWN_FORMAT, open_sharded, 16, 1, [], 3)
         for splits in ([b""], [b"\0"], [b"b", b"b"], [b"b", b"a"], [bytes(33)], [bytes(300)],
@@ -74,9 +92,12 @@ class Sharded(unittest.TestCase):
         handle = open_sharded(16, 1, [b"m"])[0]
         self.refused(mst_store.BAD_KEY, handle.get, b"")
         self.refused(mst_store.BAD_VALUE, handle.put, b"a", bytes(65))
-        self.refused(mst_store.WRONG_STATE, handle.root)
+        for call in (handle.root, handle.next, handle.range, handle.directory, handle.format,
+                     lambda: handle.version_at(0)):
+            self.refused(mst_store.WRONG_STATE, call)
         with handle.snapshot() as then:
             self.refused(mst_store.WRONG_STATE, then.put, b"a", b"1")
+            self.refused(mst_store.WRONG_STATE, then.migrate, 2)
             self.refused(mst_store.WRONG_STATE, then.snapshot().__enter__)
         handle.close()
         handle.close()

@@ -65,9 +65,11 @@ def _signatures() -> Dict[str, Tuple[Any, ...]]:
 
 def _sharded_signatures() -> Dict[str, Tuple[Any, ...]]:
     hand, size, text = SHARDED_HAND, ctypes.c_size_t, ctypes.c_char_p
+    pointer = ctypes.POINTER
     writes = {
         "put": (hand, text, size, text, size, text, size),
         "remove": (hand, text, size, text, size),
+        "migrate": (hand, ctypes.c_uint32, pointer(size)),
     }
     return {
         "mst_sharded_open": (ctypes.c_uint32, ctypes.c_uint32, text, size, hand, size),
@@ -79,7 +81,14 @@ def _sharded_signatures() -> Dict[str, Tuple[Any, ...]]:
         "mst_sharded_snapshot": (hand,),
         "mst_sharded_release": (hand,),
         "mst_sharded_root": (hand, text, size),
-        "mst_sharded_prove": (hand, text, size, text, size, ctypes.POINTER(size)),
+        "mst_sharded_prove": (hand, text, size, text, size, pointer(size)),
+        "mst_sharded_next": (hand, text, size, text, size, pointer(size), text, size),
+        "mst_sharded_range": (
+            hand, text, size, text, size, ctypes.c_uint32, text, size, pointer(size), pointer(size),
+        ),
+        "mst_sharded_version_at": (hand, size, pointer(ctypes.c_uint64)),
+        "mst_sharded_format": (hand,),
+        "mst_sharded_directory": (hand, text, size, pointer(size), pointer(size)),
     }
 
 

@@ -6,11 +6,11 @@ import operator
 import os
 import threading
 from contextlib import contextmanager
-from typing import Any, Callable, Iterable, Iterator, List, NoReturn, Optional
+from typing import Any, Callable, Iterable, Iterator, List, NoReturn, Optional, Tuple
 
 from ._library import KEY_LONGEST, ROOT_LENGTH, SHARDED_HAND, VALUE_LONGEST, ShardedHand
 from ._library import lib as _lib
-from ._passes import Format, Octets, _octets, _word
+from ._passes import Format, Octets, _format, _octets, _pairs, _word
 from ._refusals import ABSENT, SHORT_ROOM
 from ._refusals import refuse as _refuse
 
@@ -32,7 +32,8 @@ class Handle:
         # A hand is in one call at a time, and the rooms below are shared by its calls.
         self._lock = threading.Lock()
         self._room = ctypes.create_string_buffer(VALUE_LONGEST)
-        self._long_room = ctypes.create_string_buffer(4096)  # grows with the longest proof
+        self._key_room = ctypes.create_string_buffer(KEY_LONGEST)
+        self._long_room = ctypes.create_string_buffer(4096)  # grows with the longest proof or range
 
     def _value(self, code: int) -> Optional[bytes]:
         if code >= 0:
@@ -104,16 +105,81 @@ class Handle:
     def prove(self, key: Octets) -> bytes:
         """Returns the proof of the key's answer in a snapshot, for a verifier of sharded maps and
         the format and root digest of the same snapshot."""
-        key, length = _octets(key), ctypes.c_size_t()
+        key = _octets(key)
+        return self._longest(lambda room, length: _lib.mst_sharded_prove(
+            self._hand, key, len(key), room, len(room), length))
+
+    def _longest(self, call: Callable[[Any, Any], int]) -> bytes:
+        length = ctypes.c_size_t()
         with self._lock:
             while True:
                 room = self._long_room
-                code = _lib.mst_sharded_prove(
-                    self._hand, key, len(key), room, len(room), ctypes.byref(length))
+                code = call(room, ctypes.byref(length))
                 if code != SHORT_ROOM:
                     _answer(code)
                     return ctypes.string_at(room, length.value)
                 self._long_room = ctypes.create_string_buffer(length.value)
+
+    def next(self, key: Octets = b"") -> Optional[Tuple[bytes, bytes]]:
+        """Returns the pair of the least key of a snapshot above `key`, or of the least key of all
+        if `key` is empty; None if there is no such pair."""
+        key, length = _octets(key), ctypes.c_size_t()
+        with self._lock:
+            value = self._value(_lib.mst_sharded_next(
+                self._hand, key, len(key), self._key_room, KEY_LONGEST, ctypes.byref(length),
+                self._room, VALUE_LONGEST,
+            ))
+            return None if value is None else (self._key_room.raw[: length.value], value)
+
+    def range(
+        self, start: Octets = b"", stop: Octets = b"", limit: int = 2**32 - 1
+    ) -> List[Tuple[bytes, bytes]]:
+        """Returns the first pairs of a snapshot, at most `limit`, with start <= key < stop, in the
+        order of rising keys. An empty bound does not bind."""
+        start, stop, count = _octets(start), _octets(stop), ctypes.c_size_t()
+        limit = _word(max(operator.index(limit), 0))
+        return list(_pairs(self._longest(lambda room, length: _lib.mst_sharded_range(
+            self._hand, start, len(start), stop, len(stop), limit, room, len(room),
+            ctypes.byref(count), length))))
+
+    def directory(self) -> List[Tuple[bytes, bytes]]:
+        """Returns of each shard of a snapshot its lower bound, with its root digest of 32 bytes
+        and its upper bound, which is empty if there is none: the pairs whose root digest is that
+        of the snapshot."""
+        count = ctypes.c_size_t()
+        return list(_pairs(self._longest(lambda room, length: _lib.mst_sharded_directory(
+            self._hand, room, len(room), ctypes.byref(count), length))))
+
+    def version_at(self, shard: int) -> Optional[int]:
+        """Returns the number of the version that a snapshot pins of a shard, from 0; None if there
+        is no such shard."""
+        number = ctypes.c_uint64()
+        with self._lock:
+            code = _lib.mst_sharded_version_at(
+                self._hand, _word(shard), ctypes.byref(number))
+        return None if code == ABSENT else int(number.value) + _answer(code)
+
+    def format(self) -> Format:
+        """Returns the format of a snapshot's versions, in which its root digest and its proofs
+        are. Raises Refused with MIXED_FORMATS if they are in two."""
+        with self._lock:
+            return _format(_lib.mst_sharded_format(self._hand))
+
+    def try_migrate(self, to: int) -> None:
+        """Turns each shard to a format, one after the other, or raises Busy.
+
+        If a shard refuses it, those before it are migrated, and those behind it were not tried.
+        """
+        self._migrate(_lib.mst_sharded_try_migrate, to)
+
+    def migrate(self, to: int) -> None:
+        """As try_migrate, but waits for the turn of each shard."""
+        self._migrate(_lib.mst_sharded_migrate, to)
+
+    def _migrate(self, call: Any, to: int) -> None:
+        stopped = ctypes.c_size_t()
+        with self._lock:
+            _answer(call(self._hand, _word(to), ctypes.byref(stopped)))
 
     def close(self) -> None:
         """Closes the handle. Later calls raise Refused with CLOSED; a second close has no

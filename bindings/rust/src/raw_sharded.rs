@@ -43,6 +43,10 @@ pub(crate) type Put = unsafe extern "C" fn(
     room_length: usize,
 ) -> i32;
 
+/// mst_sharded_migrate and mst_sharded_try_migrate.
+pub(crate) type Migrate =
+    unsafe extern "C" fn(handle: *mut ShardedHand, format: u32, stopped: *mut usize) -> i32;
+
 /// mst_sharded_remove and mst_sharded_try_remove.
 pub(crate) type Remove = unsafe extern "C" fn(
     handle: *mut ShardedHand,
@@ -116,5 +120,50 @@ extern "C" {
         room: *mut u8,
         room_length: usize,
         length: *mut usize,
+    ) -> i32;
+    pub(crate) fn mst_sharded_next(
+        handle: *mut ShardedHand,
+        key: *const u8,
+        key_length: usize,
+        key_room: *mut u8,
+        key_room_length: usize,
+        next_length: *mut usize,
+        room: *mut u8,
+        room_length: usize,
+    ) -> i32;
+    pub(crate) fn mst_sharded_range(
+        handle: *mut ShardedHand,
+        from: *const u8,
+        from_length: usize,
+        to: *const u8,
+        to_length: usize,
+        limit: u32,
+        room: *mut u8,
+        room_length: usize,
+        count: *mut usize,
+        length: *mut usize,
+    ) -> i32;
+    pub(crate) fn mst_sharded_version_at(
+        handle: *mut ShardedHand,
+        shard: usize,
+        version: *mut u64,
+    ) -> i32;
+    pub(crate) fn mst_sharded_format(handle: *mut ShardedHand) -> i32;
+    pub(crate) fn mst_sharded_directory(
+        handle: *mut ShardedHand,
+        room: *mut u8,
+        room_length: usize,
+        count: *mut usize,
+        length: *mut usize,
+    ) -> i32;
+    pub(crate) fn mst_sharded_try_migrate(
+        handle: *mut ShardedHand,
+        format: u32,
+        stopped: *mut usize,
+    ) -> i32;
+    pub(crate) fn mst_sharded_migrate(
+        handle: *mut ShardedHand,
+        format: u32,
+        stopped: *mut usize,
     ) -> i32;
 }

@@ -33,10 +33,10 @@ pub(crate) fn value(code: i32, room: &[u8]) -> Result<Option<Vec<u8>>, i32> {
 }
 
 /// The most bytes that a pair takes in the room of mst_range.
-const PAIR_LONGEST: usize = 4 + KEY_LONGEST + VALUE_LONGEST;
+pub(crate) const PAIR_LONGEST: usize = 4 + KEY_LONGEST + VALUE_LONGEST;
 
 /// So many pairs, which stand first in the room of mst_range.
-fn pairs(room: &[u8], count: usize) -> Vec<Pair> {
+pub(crate) fn pairs(room: &[u8], count: usize) -> Vec<Pair> {
     let mut rest = room;
     let mut taken = |length: usize| {
         let (front, back) = rest.split_at(length);

@@ -1,6 +1,7 @@
 //! Sharded maps: one map over many stores, each for an interval of keys, with one root digest.
+use crate::raw::{ABSENT, SHORT_ROOM};
 use crate::raw_sharded::{self as raw, ShardedHand};
-use crate::{raw::SHORT_ROOM, reads};
+use crate::{reads, Pair};
 use crate::{Error, Format, TryError, KEY_LONGEST, ROOT_LENGTH, VALUE_LONGEST};
 use std::fmt;
 
@@ -147,6 +148,27 @@ impl Handle {
         reads::value(code, &room)
     }
 
+    /// Turns each shard to a format, one after the other. Returns `Busy` if another handle has the
+    /// turn of one. If a shard refuses it, those before it are migrated, and those behind it were
+    /// not tried.
+    pub fn try_migrate(&mut self, to: Format) -> Result<(), TryError> {
+        self.migrate_by(raw::mst_sharded_try_migrate, to).map_err(TryError::of)
+    }
+
+    /// As [`Handle::try_migrate`], but waits for the turn of each shard.
+    pub fn migrate(&mut self, to: Format) -> Result<(), Error> {
+        self.migrate_by(raw::mst_sharded_migrate, to).map_err(Error::of)
+    }
+
+    fn migrate_by(&mut self, migrate: raw::Migrate, to: Format) -> Result<(), i32> {
+        let mut stopped = 0;
+        // Safety: both pointers are valid.
+        match unsafe { migrate(&mut self.hand, to.number(), &mut stopped) } {
+            0 => Ok(()),
+            code => Err(code),
+        }
+    }
+
     /// Pins the current version of each shard, one shard after the other: until the result is
     /// dropped, each read by it is of these.
     pub fn snapshot(&mut self) -> Snapshot<'_> {
@@ -180,6 +202,81 @@ impl Snapshot<'_> {
     /// Returns the value of the key, or None if the key is absent.
     pub fn get(&mut self, key: &[u8]) -> Result<Option<Vec<u8>>, Error> {
         self.0.get(key)
+    }
+
+    /// Returns the pair of the least key above `key`, or of the least key of all if `key` is empty;
+    /// None if there is no such pair.
+    pub fn next(&mut self, key: &[u8]) -> Result<Option<Pair>, Error> {
+        let (mut room, mut found, mut length) = ([0; VALUE_LONGEST], [0; KEY_LONGEST], 0);
+        // Safety: each pointer is valid for the length that goes with it, and no room is another's.
+        let code = unsafe {
+            raw::mst_sharded_next(
+                &mut self.0.hand,
+                key.as_ptr(),
+                key.len(),
+                found.as_mut_ptr(),
+                found.len(),
+                &mut length,
+                room.as_mut_ptr(),
+                room.len(),
+            )
+        };
+        let value = reads::value(code, &room).map_err(Error::of)?;
+        Ok(value.map(|value| (found[..length].to_vec(), value)))
+    }
+
+    /// Returns the first pairs, at most `limit`, whose keys are at least `from` and below `to`. An
+    /// empty bound does not bind.
+    pub fn range(&mut self, from: &[u8], to: &[u8], limit: usize) -> Result<Vec<Pair>, Error> {
+        let hand: *mut ShardedHand = &mut self.0.hand;
+        let limit = u32::try_from(limit).unwrap_or(u32::MAX);
+        listed(|room, count, length| {
+            // Safety: as in next.
+            unsafe {
+                raw::mst_sharded_range(
+                    hand,
+                    from.as_ptr(),
+                    from.len(),
+                    to.as_ptr(),
+                    to.len(),
+                    limit,
+                    room.as_mut_ptr(),
+                    room.len(),
+                    count,
+                    length,
+                )
+            }
+        })
+    }
+
+    /// Returns of each shard its lower bound, with its root digest of 32 bytes and its upper bound,
+    /// which is empty if there is none: the pairs whose root digest is that of the snapshot.
+    pub fn directory(&mut self) -> Result<Vec<Pair>, Error> {
+        let hand: *mut ShardedHand = &mut self.0.hand;
+        listed(|room, count, length| {
+            // Safety: as in next.
+            unsafe {
+                raw::mst_sharded_directory(hand, room.as_mut_ptr(), room.len(), count, length)
+            }
+        })
+    }
+
+    /// Returns the number of the version that is pinned of a shard, from 0; None if there is no
+    /// such shard.
+    pub fn version_at(&mut self, shard: usize) -> Option<u64> {
+        let mut number = 0;
+        // Safety: both pointers are valid.
+        match unsafe { raw::mst_sharded_version_at(&mut self.0.hand, shard, &mut number) } {
+            ABSENT => None,
+            _ => Some(number),
+        }
+    }
+
+    /// Returns the format of the versions, in which the root digest and the proofs are.
+    pub fn format(&mut self) -> Result<Format, Error> {
+        // Safety: the hand is valid.
+        let code = unsafe { raw::mst_sharded_format(&mut self.0.hand) };
+        Format::told(code).map_err(Error::of)
     }
 
     /// Returns the root digest of all shards. It depends on their pairs, their format and the
@@ -219,6 +316,21 @@ impl Snapshot<'_> {
                 code => return Err(Error::of(code)),
             }
         }
+    }
+}
+
+/// The pairs that a call lists. A snapshot stays, so the second room is long enough.
+fn listed(call: impl Fn(&mut [u8], &mut usize, &mut usize) -> i32) -> Result<Vec<Pair>, Error> {
+    let (mut count, mut length) = (0, 0);
+    let mut room = vec![0; 64 * reads::PAIR_LONGEST];
+    let mut code = call(&mut room, &mut count, &mut length);
+    if code == SHORT_ROOM {
+        room.resize(length, 0);
+        code = call(&mut room, &mut count, &mut length);
+    }
+    match code {
+        0 => Ok(reads::pairs(&room, count)),
+        code => Err(Error::of(code)),
     }
 }
 

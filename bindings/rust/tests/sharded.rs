@@ -39,8 +39,28 @@ fn answers_are_those_of_a_map() {
     }
     assert_eq!(then.root(), Ok(root));
     assert!(!then.prove(b"a").unwrap().is_empty());
+    let pairs: Vec<_> = map.clone().into_iter().collect();
+    assert_eq!(then.range(b"", b"", usize::MAX), Ok(pairs.clone()));
+    assert_eq!(then.range(&pairs[3].0, b"", 2), Ok(pairs[3..5].to_vec()));
+    assert_eq!(then.next(b""), Ok(pairs.first().cloned()));
+    assert_eq!(then.next(&[255, 255]), Ok(None));
+    assert_eq!((then.format(), then.directory().unwrap().len()), (Ok(Format::One), 16));
+    assert!(then.version_at(15).is_some() && then.version_at(16).is_none());
     drop(then);
     assert_eq!(reader.get(b"a"), Ok(Some(b"later".to_vec())));
+}
+
+#[test]
+fn migrations_keep_snapshots() {
+    let mut handles = opened(Format::One, 256, 2);
+    let (mut reader, mut writer) = (handles.remove(0), handles.remove(0));
+    writer.put(b"a", b"1").unwrap();
+    let mut then = reader.snapshot();
+    writer.migrate(Format::Two).unwrap();
+    assert_eq!(then.format(), Ok(Format::One));
+    drop(then);
+    assert_eq!(reader.snapshot().format(), Ok(Format::Two));
+    assert_eq!(reader.get(b"a"), Ok(Some(b"1".to_vec())));
 }
 
 #[test]

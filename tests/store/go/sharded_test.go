@@ -77,6 +77,31 @@ func TestAShardedMapAnswersAsAMap(t *testing.T) {
 	if proof, err := then.Prove([]byte("a")); len(proof) == 0 || err != nil {
 		t.Fatal(err)
 	}
+	pairs, err := then.Range(nil, nil, -1)
+	if err != nil || len(pairs) != len(known) {
+		t.Fatal(len(pairs), len(known), err)
+	}
+	for _, pair := range pairs {
+		if !bytes.Equal(pair.Value, known[pair.Key[0]]) {
+			t.Fatal(pair)
+		}
+	}
+	if next, found, err := then.Next(pairs[0].Key); !found || err != nil ||
+		!bytes.Equal(next.Key, pairs[1].Key) {
+		t.Fatal(next, found, err)
+	}
+	if directory, err := then.Directory(); len(directory) != 16 || err != nil {
+		t.Fatal(directory, err)
+	}
+	if err := writer.Migrate(mst.Format2); err != nil {
+		t.Fatal(err)
+	}
+	if format, err := then.Format(); format != mst.Format1 || err != nil {
+		t.Fatal(format, err)
+	}
+	if _, found, err := then.VersionAt(16); found || err != nil {
+		t.Fatal(found, err)
+	}
 	then.Release()
 	then.Release()
 	if _, _, err := then.Get([]byte("a")); !errors.Is(err, mst.ErrClosed) {
