@@ -125,10 +125,14 @@ typedef struct mst_pass {
 /* A value has 0 to 64 bytes. */
 #define MST_BAD_VALUE (-6)
 
-/* The hand holds no pass. */
+/* The hand holds no pass; of a sharded map it holds no handle and no snapshot. */
 #define MST_CLOSED (-7)
 
-/* A pinned pass neither writes, migrates, pins nor counts rows; a free one does not unpin. */
+/*
+ * A pinned pass neither writes, migrates, pins nor counts rows; a free one does not unpin. Of a
+ * sharded map a snapshot neither writes, migrates nor takes a snapshot; a handle does nothing that
+ * is a snapshot's alone.
+ */
 #define MST_WRONG_STATE (-8)
 
 /*
