@@ -154,7 +154,7 @@ static void wrong_states(void) {
     EXPECT(mst_sharded_version_at(&handle, 1, &version) == MST_OK && version == 0);
     version = 77;
     EXPECT(mst_sharded_version_at(&handle, 2, &version) == MST_ABSENT && version == 77);
-    EXPECT(mst_sharded_next(&handle, NULL, 0, NULL, 0, &length, room, 64) == MST_NO_ROOM);
+    EXPECT(mst_sharded_next(&handle, NULL, 0, NULL, 0, &length, room, 64) == MST_SHORT_ROOM);
     EXPECT(mst_sharded_get(&handle, TEXT("a"), room, 64) == 5);
     EXPECT(mst_sharded_root(&handle, root, 31) == MST_SHORT_ROOM);
     EXPECT(mst_sharded_root(&handle, root, 32) == 32);
@@ -303,7 +303,7 @@ static void directories(void) {
     EXPECT(mst_sharded_open(2, 16, TEXT("\1b\2xy"), hands, 1) == MST_OK);
     EXPECT(mst_sharded_try_put(&hands[0], TEXT("c"), TEXT("1"), room, 64) == MST_ABSENT);
     EXPECT(mst_sharded_snapshot(&hands[0]) == MST_OK);
-    EXPECT(mst_sharded_directory(&hands[0], pairs, 0, &count, &length) == MST_NO_ROOM);
+    EXPECT(mst_sharded_directory(&hands[0], pairs, 0, &count, &length) == MST_SHORT_ROOM);
     EXPECT(count == 3 && length == 3 * (4 + 32) + 1 + 1 + 2 + 1 + 2);
     EXPECT(mst_sharded_directory(&hands[0], pairs, length, &count, &length) == MST_OK);
     begins = mst_pair_at(pairs, begins, &pair);
@@ -324,7 +324,7 @@ static void stopped_migrations(void) {
     EXPECT(mst_sharded_open(1, 5, TEXT("\1b"), &handle, 1) == MST_OK);
     EXPECT(mst_sharded_try_put(&handle, TEXT("c"), TEXT("1"), room, 64) == MST_ABSENT);
     EXPECT(mst_sharded_try_put(&handle, TEXT("d"), TEXT("1"), room, 64) == MST_ABSENT);
-    EXPECT(mst_sharded_try_migrate(&handle, 2, &stopped) == MST_ROWS_SPENT && stopped == 1);
+    EXPECT(mst_sharded_try_migrate(&handle, 2, &stopped) == MST_NO_FREE_ROWS && stopped == 1);
     EXPECT(mst_sharded_snapshot(&handle) == MST_OK);
     EXPECT(mst_sharded_format(&handle) == MST_MIXED_FORMATS);
     EXPECT(mst_sharded_root(&handle, root, 32) == MST_MIXED_FORMATS);

@@ -71,7 +71,7 @@ fn a_write_keeps_the_pins_of_the_record_before(rt: HostRuntime) -> Result<(), Fa
     let mut first = board.deal(&mut dealer);
     let mut second = board.deal(&mut dealer);
     let old = pin(&mut second, 2);
-    let Ok(None) = write(&mut first, 1, 2, &putting(1, b"1")?) else {
+    let Ok((None, _)) = write(&mut first, 1, 2, &putting(1, b"1")?) else {
         panic!(rt; "the map was empty")
     };
     let new = pin(&mut first, 1);
