@@ -9,9 +9,10 @@ from .maps import TOP
 LAYERS = [
     (("executable",), {"mst": 880}),
     (("command line",), {"mst_program": 880}),
-    (("its tasks; the", "library for C"), {"mst_c": 350, "mst_command": 880}),
+    (("its tasks",), {"mst_command": 880}),
+    (("for C; scripts over", "sharded maps"), {"mst_c": 350, "mst_sharded_script": 670}),
     (("scripts, loads;", "sharded maps"), {
-        "mst_load": 740, "mst_script": 1030, "mst_sharded": 350,
+        "mst_load": 770, "mst_script": 1030, "mst_sharded": 350,
     }),
     (("the store",), {"mst_store": 690}),
     (("the shared table;", "batches; replays"), {
