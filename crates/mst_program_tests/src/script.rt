@@ -8,6 +8,7 @@ mod memory;
 mod nodes;
 mod pins;
 mod rows;
+mod shards;
 
 ghost use Rattle.std.specs.Prelude.{◌≡◌, ◌<◌, ◌-◌, ◌^◌};
 ghost use Rattle.mst_store.specs.Passes.{new_passes};
