@@ -16,11 +16,11 @@ LAYERS = [
     }),
     (("the store",), {"mst_store": 690}),
     (("the shared table;", "batches; replays"), {
-        "mst_verifier": 284, "mst_report": 440, "mst_batch": 590, "mst_words": 750,
+        "mst_verifier": 262, "mst_report": 440, "mst_batch": 590, "mst_words": 750,
         "mst_replay": 930,
     }),
     (("verifiers; trees in", "rows; pins"), {
-        "mst_sharded_proof": 306, "mst_read": 630, "mst_path": 783, "mst_pin": 930,
+        "mst_sharded_proof": 330, "mst_read": 630, "mst_path": 783, "mst_pin": 930,
     }),
     (("proofs; rows;", "changes; requests"), {
         "mst_proof": 366, "mst_arena": 640, "mst_change": 800, "mst_requests": 1090,
@@ -111,7 +111,7 @@ def picture():
     canvas = Canvas("crates", "The crates in layers, with arrows to what each stands on", height)
     draw_layers(canvas)
     top = where["mst_verifier"][1] - 38
-    canvas.box(202, top, 350, 2 * APART + HIGH + 50, "dashed", "none", 10)
+    canvas.box(184, top, 368, 2 * APART + HIGH + 50, "dashed", "none", 10)
     for number, line in enumerate(("they stand", "on no store")):
         canvas.text(444, top + 218 + 20 * number, line, 15, bold=True)
     draw_arrows(canvas, crates, where)
