@@ -2,7 +2,7 @@
 use anyhow::{Error, Result};
 use mst_key::{Format, Key, Memory, Value};
 use mst_proof::verify_in;
-use mst_store::{Pinned, Shape, Store};
+use mst_store::{Pass, Pinned, Shape, Store};
 use std::alloc::Global;
 
 const SHAPE: Shape = Shape {
@@ -33,26 +33,36 @@ fn judged(root: &[u8; 32], key: &Key, answer: &Answer) -> &'static str {
     }
 }
 
-pub fn run(rt: &HostRuntime) -> Result<()> {
-    let (store, seats) = Store::open(rt.alloc(), SHAPE)?;
-    let Ok(mut passes) = store.deal(rt.alloc(), seats) else {
-        return Err(Error::msg("no memory for the passes"));
-    };
-    let Some(mut pass) = passes.pop() else {
-        return Err(Error::msg("there is one pass"));
-    };
+// Prints what the client finds of an answer.
+fn tell(rt: &HostRuntime, what: &str, root: &[u8; 32], key: &Key, answer: &Answer) -> Result<()> {
+    let verdict = judged(root, key, answer);
+    println!(rt; "{what}: {verdict}")?;
+    Ok(())
+}
+
+// The service answers, and somebody changes the value on the way.
+fn show(rt: &HostRuntime, mut pass: Pass<'_, Global>) -> Result<()> {
     let apple = Key::new(b"apple")?;
     pass.try_put(&apple, &Value::new(b"30")?)?;
     let mut pinned = pass.pin();
     let root = pinned.root();
     let told = answer_for(rt.alloc(), &mut pinned, &apple)?;
+    pinned.unpin();
+    tell(rt, "the answer", &root, &apple, &told)?;
     let forged = Answer {
         value: Some(Value::new(b"31")?),
-        proof: pinned.prove(rt.alloc(), &apple)?,
+        proof: told.proof,
     };
-    pinned.unpin();
-    let (first, second) = (judged(&root, &apple, &told), judged(&root, &apple, &forged));
-    println!(rt; "the answer: {first}")?;
-    println!(rt; "a forged one: {second}")?;
-    Ok(())
+    tell(rt, "a forged one", &root, &apple, &forged)
+}
+
+pub fn run(rt: &HostRuntime) -> Result<()> {
+    let (store, seats) = Store::open(rt.alloc(), SHAPE)?;
+    let Ok(mut passes) = store.deal(rt.alloc(), seats) else {
+        return Err(Error::msg("no memory for the passes"));
+    };
+    let Some(pass) = passes.pop() else {
+        return Err(Error::msg("there is one pass"));
+    };
+    show(rt, pass)
 }

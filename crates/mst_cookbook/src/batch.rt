@@ -26,16 +26,21 @@ fn apply(rt: &HostRuntime, pass: &mut Pass<'_, Global>, block: &[Edit]) -> Resul
     Ok(())
 }
 
+// Makes two blocks.
+fn show(rt: &HostRuntime, mut pass: Pass<'_, Global>) -> Result<()> {
+    let first = [put("apple", "30")?, put("plum", "12")?, put("pear", "20")?];
+    apply(rt, &mut pass, &first)?;
+    let second = [put("apple", "35")?, Edit::Remove(Key::new(b"plum")?)];
+    apply(rt, &mut pass, &second)
+}
+
 pub fn run(rt: &HostRuntime) -> Result<()> {
     let (store, seats) = Store::open(rt.alloc(), SHAPE)?;
     let Ok(mut passes) = store.deal(rt.alloc(), seats) else {
         return Err(Error::msg("no memory for the passes"));
     };
-    let Some(mut pass) = passes.pop() else {
+    let Some(pass) = passes.pop() else {
         return Err(Error::msg("there is one pass"));
     };
-    let first = [put("apple", "30")?, put("plum", "12")?, put("pear", "20")?];
-    let second = [put("apple", "35")?, Edit::Remove(Key::new(b"plum")?)];
-    apply(rt, &mut pass, &first)?;
-    apply(rt, &mut pass, &second)
+    show(rt, pass)
 }

@@ -70,22 +70,35 @@ fn catch_up(
     Ok(())
 }
 
-pub fn run(rt: &HostRuntime) -> Result<()> {
-    let (store, seats) = Store::open(rt.alloc(), SHAPE)?;
-    let (other_store, other_seats) = Store::open(rt.alloc(), SHAPE)?;
-    let (Ok(mut ours), Ok(mut theirs)) = (
-        store.deal(rt.alloc(), seats),
-        other_store.deal(rt.alloc(), other_seats),
-    ) else {
-        return Err(Error::msg("no memory for the passes"));
-    };
-    let (Some(mut ours), Some(mut theirs)) = (ours.pop(), theirs.pop()) else {
-        return Err(Error::msg("each has one pass"));
-    };
+// Lets theirs go on without us, and catches up.
+fn show(rt: &HostRuntime, mut ours: Pass<'_, Global>, mut theirs: Pass<'_, Global>) -> Result<()> {
     fill(rt, &mut ours, 0, 100)?;
     fill(rt, &mut theirs, 10, 130)?;
     let mut pinned = theirs.pin();
     catch_up(rt, &mut ours, &mut pinned)?;
     pinned.unpin();
     Ok(())
+}
+
+// Opens theirs beside ours.
+fn run_beside(rt: &HostRuntime, ours: Pass<'_, Global>) -> Result<()> {
+    let (store, seats) = Store::open(rt.alloc(), SHAPE)?;
+    let Ok(mut passes) = store.deal(rt.alloc(), seats) else {
+        return Err(Error::msg("no memory for the passes"));
+    };
+    let Some(theirs) = passes.pop() else {
+        return Err(Error::msg("there is one pass"));
+    };
+    show(rt, ours, theirs)
+}
+
+pub fn run(rt: &HostRuntime) -> Result<()> {
+    let (store, seats) = Store::open(rt.alloc(), SHAPE)?;
+    let Ok(mut passes) = store.deal(rt.alloc(), seats) else {
+        return Err(Error::msg("no memory for the passes"));
+    };
+    let Some(ours) = passes.pop() else {
+        return Err(Error::msg("there is one pass"));
+    };
+    run_beside(rt, ours)
 }

@@ -65,17 +65,25 @@ fn show(rt: &HostRuntime, mut ours: Pass<'_, Global>, mut theirs: Pass<'_, Globa
     compare(rt, &mut ours, &mut theirs)
 }
 
-pub fn run(rt: &HostRuntime) -> Result<()> {
+// Opens theirs beside ours.
+fn run_beside(rt: &HostRuntime, ours: Pass<'_, Global>) -> Result<()> {
     let (store, seats) = Store::open(rt.alloc(), SHAPE)?;
-    let (other_store, other_seats) = Store::open(rt.alloc(), SHAPE)?;
-    let (Ok(mut ours), Ok(mut theirs)) = (
-        store.deal(rt.alloc(), seats),
-        other_store.deal(rt.alloc(), other_seats),
-    ) else {
+    let Ok(mut passes) = store.deal(rt.alloc(), seats) else {
         return Err(Error::msg("no memory for the passes"));
     };
-    let (Some(ours), Some(theirs)) = (ours.pop(), theirs.pop()) else {
-        return Err(Error::msg("each has one pass"));
+    let Some(theirs) = passes.pop() else {
+        return Err(Error::msg("there is one pass"));
     };
     show(rt, ours, theirs)
+}
+
+pub fn run(rt: &HostRuntime) -> Result<()> {
+    let (store, seats) = Store::open(rt.alloc(), SHAPE)?;
+    let Ok(mut passes) = store.deal(rt.alloc(), seats) else {
+        return Err(Error::msg("no memory for the passes"));
+    };
+    let Some(ours) = passes.pop() else {
+        return Err(Error::msg("there is one pass"));
+    };
+    run_beside(rt, ours)
 }

@@ -37,6 +37,7 @@ fn tell(rt: &HostRuntime, whose: &str, format: Format, proof: &[u8]) -> Result<(
 
 // Migrates, and compares the version before, which the reader pins, with the one after.
 fn show(rt: &HostRuntime, mut writer: Pass<'_, Global>, reader: Pass<'_, Global>) -> Result<()> {
+    fill(rt, &mut writer)?;
     let key = Key::new(b"user 1")?;
     let mut pinned = reader.pin();
     writer.try_migrate(rt.alloc(), Format::Two)?;
@@ -53,9 +54,8 @@ pub fn run(rt: &HostRuntime) -> Result<()> {
     let Ok(mut passes) = store.deal(rt.alloc(), seats) else {
         return Err(Error::msg("no memory for the passes"));
     };
-    let (Some(reader), Some(mut writer)) = (passes.pop(), passes.pop()) else {
+    let (Some(reader), Some(writer)) = (passes.pop(), passes.pop()) else {
         return Err(Error::msg("there are two passes"));
     };
-    fill(rt, &mut writer)?;
     show(rt, writer, reader)
 }

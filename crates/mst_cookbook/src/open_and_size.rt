@@ -1,7 +1,8 @@
 //! Opens a store for 1,000 keys, puts them, and asks how many rows they take.
 use anyhow::{Error, Result};
 use mst_key::{Format, Key, Value};
-use mst_store::{Shape, Store};
+use mst_store::{Pass, Shape, Store};
+use std::alloc::Global;
 
 /// How many keys the map will have.
 const KEYS: u32 = 1_000;
@@ -21,22 +22,33 @@ const SHAPE: Shape = Shape {
     format: Format::One,
 };
 
-pub fn run(rt: &HostRuntime) -> Result<()> {
-    let (store, seats) = Store::open(rt.alloc(), SHAPE)?;
-    let Ok(mut passes) = store.deal(rt.alloc(), seats) else {
-        return Err(Error::msg("no memory for the passes"));
-    };
-    let Some(mut pass) = passes.pop() else {
-        return Err(Error::msg("there are two passes"));
-    };
+// Puts each key.
+fn fill(rt: &HostRuntime, pass: &mut Pass<'_, Global>) -> Result<()> {
     for number in 0..KEYS {
         let name = format!(in rt.alloc(); "user {number}")?;
         pass.try_put(&Key::new(name.as_bytes())?, &Value::new(b"new")?)?;
     }
+    Ok(())
+}
+
+// Fills the store, and prints how many rows are taken. Another pass could have the turn, or pin.
+fn show(rt: &HostRuntime, mut pass: Pass<'_, Global>) -> Result<()> {
+    fill(rt, &mut pass)?;
     let Some(taken) = pass.rows()? else {
         return Err(Error::msg("no pass pins a version"));
     };
     let rows = SHAPE.rows;
     println!(rt; "{KEYS} keys take {taken} rows of {rows}")?;
     Ok(())
+}
+
+pub fn run(rt: &HostRuntime) -> Result<()> {
+    let (store, seats) = Store::open(rt.alloc(), SHAPE)?;
+    let Ok(mut passes) = store.deal(rt.alloc(), seats) else {
+        return Err(Error::msg("no memory for the passes"));
+    };
+    let Some(pass) = passes.pop() else {
+        return Err(Error::msg("there are two passes"));
+    };
+    show(rt, pass)
 }

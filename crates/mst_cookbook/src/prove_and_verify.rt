@@ -2,7 +2,8 @@
 use anyhow::{Error, Result};
 use mst_key::{Format, Key, Value};
 use mst_proof::verify_in;
-use mst_store::{Shape, Store};
+use mst_store::{Pass, Shape, Store};
+use std::alloc::Global;
 use std::str;
 
 const SHAPE: Shape = Shape {
@@ -25,14 +26,8 @@ fn check(rt: &HostRuntime, format: Format, root: &[u8; 32], key: &Key, proof: &[
     Ok(())
 }
 
-pub fn run(rt: &HostRuntime) -> Result<()> {
-    let (store, seats) = Store::open(rt.alloc(), SHAPE)?;
-    let Ok(mut passes) = store.deal(rt.alloc(), seats) else {
-        return Err(Error::msg("no memory for the passes"));
-    };
-    let Some(mut pass) = passes.pop() else {
-        return Err(Error::msg("there is one pass"));
-    };
+// Proves two answers, and has them checked, the first one once more with a byte changed.
+fn show(rt: &HostRuntime, mut pass: Pass<'_, Global>) -> Result<()> {
     let (apple, pear) = (Key::new(b"apple")?, Key::new(b"pear")?);
     pass.try_put(&apple, &Value::new(b"30")?)?;
     // format, root digest and proofs must be of one version
@@ -47,4 +42,15 @@ pub fn run(rt: &HostRuntime) -> Result<()> {
         *digit = b'1';
     }
     check(rt, format, &root, &apple, &of_apple)
+}
+
+pub fn run(rt: &HostRuntime) -> Result<()> {
+    let (store, seats) = Store::open(rt.alloc(), SHAPE)?;
+    let Ok(mut passes) = store.deal(rt.alloc(), seats) else {
+        return Err(Error::msg("no memory for the passes"));
+    };
+    let Some(pass) = passes.pop() else {
+        return Err(Error::msg("there is one pass"));
+    };
+    show(rt, pass)
 }

@@ -19,6 +19,14 @@ fn tell(rt: &HostRuntime, what: &str, is_done: bool) -> Result<()> {
     Ok(())
 }
 
+// Asks for sizes that nothing has.
+fn show_sizes(rt: &HostRuntime) -> Result<()> {
+    let opened = Store::open(rt.alloc(), Shape { rows: 3, ..SHAPE });
+    tell(rt, "a store of 3 rows", opened.is_ok())?;
+    tell(rt, "a key of 33 bytes", Key::new(&[0; 33]).is_ok())?;
+    tell(rt, "a value of 65 bytes", Value::new(&[0; 65]).is_ok())
+}
+
 // Puts a pair. If another pass has the turn, it waits for it.
 fn put<T: Wait>(
     waits: &T,
@@ -58,14 +66,7 @@ fn show<T: Wait>(
 }
 
 pub fn run<T: Wait>(rt: &HostRuntime, waits: &T) -> Result<()> {
-    let too_few = Shape { rows: 3, ..SHAPE };
-    tell(
-        rt,
-        "a store of 3 rows",
-        Store::open(rt.alloc(), too_few).is_ok(),
-    )?;
-    tell(rt, "a key of 33 bytes", Key::new(&[0; 33]).is_ok())?;
-    tell(rt, "a value of 65 bytes", Value::new(&[0; 65]).is_ok())?;
+    show_sizes(rt)?;
     let (store, seats) = Store::open(rt.alloc(), SHAPE)?;
     let Ok(mut passes) = store.deal(rt.alloc(), seats) else {
         return Err(Error::msg("no memory for the passes"));

@@ -30,14 +30,8 @@ fn report(rt: &HostRuntime, pinned: &mut Pinned<'_, Global>) -> Result<()> {
     Ok(())
 }
 
-pub fn run(rt: &HostRuntime) -> Result<()> {
-    let (store, seats) = Store::open(rt.alloc(), SHAPE)?;
-    let Ok(mut passes) = store.deal(rt.alloc(), seats) else {
-        return Err(Error::msg("no memory for the passes"));
-    };
-    let (Some(reader), Some(mut writer)) = (passes.pop(), passes.pop()) else {
-        return Err(Error::msg("there are two passes"));
-    };
+// Reports on two versions.
+fn show(rt: &HostRuntime, mut writer: Pass<'_, Global>, reader: Pass<'_, Global>) -> Result<()> {
     put(&mut writer, "ann", "60")?;
     put(&mut writer, "bob", "40")?;
     let mut pinned = reader.pin();
@@ -48,4 +42,15 @@ pub fn run(rt: &HostRuntime) -> Result<()> {
     report(rt, &mut pinned)?;
     pinned.unpin();
     Ok(())
+}
+
+pub fn run(rt: &HostRuntime) -> Result<()> {
+    let (store, seats) = Store::open(rt.alloc(), SHAPE)?;
+    let Ok(mut passes) = store.deal(rt.alloc(), seats) else {
+        return Err(Error::msg("no memory for the passes"));
+    };
+    let (Some(reader), Some(writer)) = (passes.pop(), passes.pop()) else {
+        return Err(Error::msg("there are two passes"));
+    };
+    show(rt, writer, reader)
 }

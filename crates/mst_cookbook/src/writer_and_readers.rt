@@ -10,6 +10,12 @@ const READERS: u32 = 3;
 
 const CALLS: u32 = 1_000;
 
+const SHAPE: Shape = Shape {
+    rows: 100,
+    passes: 1 + READERS,
+    format: Format::One,
+};
+
 /// What a thread does with its pass.
 #[derive(Clone, Copy)]
 enum Work {
@@ -90,16 +96,12 @@ fn join_all<T: Threads>(threads: &T, handles: Vec<JoinHandle<bool>>) -> bool {
     all_well
 }
 
-pub fn run<T: Threads + Wait + Sync>(rt: &HostRuntime, threads: &T) -> Result<()> {
-    let shape = Shape {
-        rows: 100,
-        passes: 1 + READERS,
-        format: Format::One,
-    };
-    let (store, seats) = Store::open(rt.alloc(), shape)?;
-    let Ok(passes) = store.deal(rt.alloc(), seats) else {
-        return Err(Error::msg("no memory for the passes"));
-    };
+// Runs a thread for each pass, until all have ended.
+fn show<T: Threads + Wait + Sync>(
+    rt: &HostRuntime,
+    threads: &T,
+    passes: Vec<Pass<'_, Global>>,
+) -> Result<()> {
     let all_well = thread::scope(thread::scope_env(), threads, move |scope| -> Result<bool> {
         let handles = start_all(scope, rt.alloc(), passes)?;
         Ok(join_all(threads, handles))
@@ -109,4 +111,12 @@ pub fn run<T: Threads + Wait + Sync>(rt: &HostRuntime, threads: &T) -> Result<()
     }
     println!(rt; "1 writer, {READERS} readers: no refusal, no older version")?;
     Ok(())
+}
+
+pub fn run<T: Threads + Wait + Sync>(rt: &HostRuntime, threads: &T) -> Result<()> {
+    let (store, seats) = Store::open(rt.alloc(), SHAPE)?;
+    let Ok(passes) = store.deal(rt.alloc(), seats) else {
+        return Err(Error::msg("no memory for the passes"));
+    };
+    show(rt, threads, passes)
 }
