@@ -109,7 +109,7 @@ class Handle:
         return self._longest(lambda room, length: _lib.mst_sharded_prove(
             self._hand, key, len(key), room, len(room), length))
 
-    def _longest(self, call: Callable[[Any, Any], int]) -> bytes:
+    def _longest(self, call: Callable[[Any, Any], Any]) -> bytes:
         length = ctypes.c_size_t()
         with self._lock:
             while True:
