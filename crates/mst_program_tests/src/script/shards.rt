@@ -352,13 +352,13 @@ const SMALL: Shape = Shape {
     format: Format::One,
 };
 
-// A heap of each size: too small for the start, then for some lines, and then for none.
+// A heap of each size: too small for the start, then for some lines, and then large enough for all.
 #[test]
 fn growths_over_shards_are_refused(rt: HostRuntime) -> Result<(), Fail> {
     let whole = written_in(&rt, rt.alloc(), 4_000_000)?;
     let (mut nothing, mut less) = (0u32, 0u32);
     for step in 0..400usize {
-        let answers = written_in(&rt, rt.alloc(), 64 + 1_024 * step)?;
+        let answers = written_in(&rt, rt.alloc(), 198_000 + 40 * step)?;
         if answers.is_empty() {
             nothing += 1;
         } else if answers != whole {
