@@ -1,10 +1,9 @@
-//! Scripts over sharded maps: at random beside one store, and devices and memory that fail.
+//! Scripts over sharded maps: at random next to one store, and devices that fail.
 ghost use Rattle.std.specs.Prelude.{◌≡◌, ◌<◌, ◌-◌, ◌^◌};
 ghost use Rattle.mst_sharded.specs.Opening.{seats_of};
 
 use super::run_over;
 use crate::failing::{Reader, Writer};
-use linked_list_allocator::LocalHeap;
 use mst_devices::{BytesSink, BytesSource, Sink, Source, StdSink, StdSource};
 use mst_key::{Key, Memory};
 use mst_script::RunFault;
@@ -308,70 +307,4 @@ fn devices_fail_over_shards(rt: HostRuntime) {
     }
     let (ran, out) = written(rt.alloc(), u64::MAX, u64::MAX);
     assert!(rt; ran == Ok(()) && out.as_slice() == ANSWERS);
-}
-
-// ---- memory that is refused
-
-/// Lines that take memory, and change nothing behind the first two.
-const TAKING: &[u8] =
-    b"1 put 11 31\n2 put 1f 32\n1 root\n2 prove 11\n3 batch put 11 31 put 12 - del 12\n1 migrate 1\n2 get 11\n1 range - - 9";
-
-/// Whether each answer is the one with ample memory, or says that memory was refused. The pairs of
-/// the last line come behind all others.
-fn are_whole_or_refused(alloc: Global, answers: &[u8], whole: &[u8]) -> Result<bool, AllocError> {
-    let (Ok(answers), Ok(whole)) = (std::str::from_utf8(answers), std::str::from_utf8(whole)) else {
-        return Ok(false);
-    };
-    let answers: Vec<&str> = answers.split('\n').collect(alloc)?;
-    let whole: Vec<&str> = whole.split('\n').collect(alloc)?;
-    for (place, answer) in answers.iter().enumerate() {
-        let is_refused = answer.ends_with("memory") || answer.is_empty();
-        if !is_refused && whole.get(place) != Some(answer) {
-            return Ok(false);
-        }
-    }
-    Ok(true)
-}
-
-/// What is written in a heap of so many bytes, and nothing if that is too small for the start.
-fn written_in(rt: &impl Abort, alloc: Global, bytes: usize) -> Result<Vec<u8>, Fail> {
-    let heap = LocalHeap::new(alloc, bytes)?;
-    let mut source = BytesSource::new(TAKING);
-    let mut sink = BytesSink::new(alloc, 2_048)?;
-    let ran = run_shards(&heap, 2, SMALL, &mut source, &mut sink);
-    assert!(rt; ran != Err(RunFault::Device), "in {bytes} bytes");
-    assert!(rt; ran.is_err() == sink.bytes().is_empty(), "in {bytes} bytes");
-    assert!(rt; heap.used() == 0, "all is given back");
-    Ok(sink.bytes().to_vec(alloc)?)
-}
-
-/// A shard with room for a few keys.
-const SMALL: Shape = Shape {
-    rows: 32,
-    passes: 3,
-    format: Format::One,
-};
-
-// A heap of each size: too small for the start, then for some lines, and then large enough for all.
-#[test]
-fn growths_over_shards_are_refused(rt: HostRuntime) -> Result<(), Fail> {
-    let whole = written_in(&rt, rt.alloc(), 4_000_000)?;
-    let (mut nothing, mut less) = (0u32, 0u32);
-    for step in 0..400usize {
-        let answers = written_in(&rt, rt.alloc(), 198_000 + 40 * step)?;
-        if answers.is_empty() {
-            nothing += 1;
-        } else if answers != whole {
-            less += 1;
-            assert!(rt;
-                are_whole_or_refused(rt.alloc(), answers.as_slice(), whole.as_slice())?,
-                "step {step}"
-            );
-        }
-    }
-    assert!(rt;
-        nothing > 10 && less > 2 && nothing + less < 400,
-        "{nothing}, {less}"
-    );
-    Ok(())
 }
