@@ -3,5 +3,4 @@ pub mod Loading
 pub mod Commanding
 pub mod Recalling
 pub mod Reading
-pub mod Splits
 pub mod Programs

@@ -8,7 +8,6 @@ mod proofs;
 mod replays;
 mod scripts;
 mod sharded;
-mod splits;
 mod spoilt;
 mod starting;
 mod words;
