@@ -3,6 +3,7 @@
  * figure: its name, the number of threads, and the figure. Rates are calls a second of all threads
  * together, times microseconds a call, memory bytes a key.
  */
+#include "../common.h"
 #include "engine.h"
 #include <pthread.h>
 #include <stdio.h>
@@ -22,17 +23,7 @@ _Noreturn void give_up(const char *what, int code) {
 }
 
 static double now(void) {
-    struct timespec time;
-    clock_gettime(CLOCK_MONOTONIC, &time);
-    return (double)time.tv_sec + (double)time.tv_nsec * 1e-9;
-}
-
-/* splitmix64: random and the same in each run. */
-static uint64_t mixed(uint64_t number) {
-    number += 0x9e3779b97f4a7c15;
-    number = (number ^ number >> 30) * 0xbf58476d1ce4e5b9;
-    number = (number ^ number >> 27) * 0x94d049bb133111eb;
-    return number ^ number >> 31;
+    return seconds_of(CLOCK_MONOTONIC);
 }
 
 static void write_bytes(uint8_t *at, uint64_t number) {

@@ -9,6 +9,7 @@
  * Of a batch they are those of one of its puts. A load is a batch that fills a new map, one in each
  * round.
  */
+#include "../common.h"
 #include "engine.h"
 #include <pthread.h>
 #include <stdatomic.h>
@@ -66,14 +67,6 @@ void give_up(const char *what, int code) {
     exit(1);
 }
 
-/* SplitMix64. */
-static uint64_t mixed(uint64_t number) {
-    number += 0x9E3779B97F4A7C15u;
-    number = (number ^ (number >> 30)) * 0xBF58476D1CE4E5B9u;
-    number = (number ^ (number >> 27)) * 0x94D049BB133111EBu;
-    return number ^ (number >> 31);
-}
-
 static uint64_t drawn(struct chance *chance) {
     return mixed(chance->state++);
 }
@@ -129,12 +122,6 @@ static void make(enum thing thing, int seat, struct chance *chance) {
     }
 }
 
-static double processor_seconds(void) {
-    struct timespec now;
-    clock_gettime(CLOCK_THREAD_CPUTIME_ID, &now);
-    return (double)now.tv_sec + (double)now.tv_nsec * 1e-9;
-}
-
 static void make_call(const struct call *call, struct chance *chance) {
     if (call->thing == LOAD)
         load();
@@ -151,10 +138,10 @@ static double round_of_calls(const struct call *call, long count, struct chance 
         engine->open();
     }
     CALLGRIND_START_INSTRUMENTATION;
-    double before = processor_seconds();
+    double before = seconds_of(CLOCK_THREAD_CPUTIME_ID);
     for (long i = 0; i < count; i++)
         make_call(call, chance);
-    double took = processor_seconds() - before;
+    double took = seconds_of(CLOCK_THREAD_CPUTIME_ID) - before;
     CALLGRIND_STOP_INSTRUMENTATION;
     return took;
 }

@@ -7,6 +7,7 @@
  * `spin` by mst_try_put alone, again and again. Writes the puts a second of all writers, and which
  * part of those of the fastest writer the slowest one has made, in percent.
  */
+#include "../common.h"
 #include "mst_store.h"
 #include <pthread.h>
 #include <stdatomic.h>
@@ -33,14 +34,6 @@ struct writer {
 static void give_up(const char *what, int code) {
     fprintf(stderr, "%s: %d\n", what, code);
     exit(1);
-}
-
-/* SplitMix64. */
-static uint64_t mixed(uint64_t number) {
-    number += 0x9E3779B97F4A7C15u;
-    number = (number ^ (number >> 30)) * 0xBF58476D1CE4E5B9u;
-    number = (number ^ (number >> 27)) * 0x94D049BB133111EBu;
-    return number ^ (number >> 31);
 }
 
 static int32_t put_once(mst_pass *pass, const uint8_t *key, const uint8_t *value, uint8_t *old) {
@@ -79,17 +72,11 @@ static void *writes(void *given) {
     return NULL;
 }
 
-static double seconds(void) {
-    struct timespec now;
-    clock_gettime(CLOCK_MONOTONIC, &now);
-    return (double)now.tv_sec + (double)now.tv_nsec * 1e-9;
-}
-
 /* Lets the writers put for so long. Returns the seconds that it took. */
 static double run(struct writer *writers, int count, long milliseconds) {
     pthread_t threads[MOST];
     struct timespec length = {milliseconds / 1000, milliseconds % 1000 * 1000000};
-    double before = seconds();
+    double before = seconds_of(CLOCK_MONOTONIC);
     atomic_store(&going, 1);
     for (int i = 0; i < count; i++) {
         writers[i].seat = i;
@@ -100,7 +87,7 @@ static double run(struct writer *writers, int count, long milliseconds) {
     atomic_store(&going, 0);
     for (int i = 0; i < count; i++)
         pthread_join(threads[i], NULL);
-    return seconds() - before;
+    return seconds_of(CLOCK_MONOTONIC) - before;
 }
 
 static enum how how_named(const char *name) {
