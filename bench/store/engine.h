@@ -1,5 +1,6 @@
 /*
- * What is timed: a map of keys of 16 bytes and values of 32, through seats, one for each thread.
+ * What is timed: a map of keys of 16 bytes and values of 32, if the compiler is told no other
+ * lengths, of 8 bytes at least; through seats, one for each thread.
  * Each call ends the program if the map returns anything other than it has to.
  */
 #ifndef ENGINE_H
@@ -8,11 +9,17 @@
 #include <stddef.h>
 #include <stdint.h>
 
+#ifndef KEY_LENGTH
 #define KEY_LENGTH 16
 #define VALUE_LENGTH 32
+#endif
 #define RANGE_PAIRS 100
 #define SEATS 2
 #define BATCH_MOST 32768
+
+#ifdef __cplusplus
+extern "C" {
+#endif
 
 struct engine {
     const char *name;
@@ -37,8 +44,14 @@ struct engine {
 
 extern const struct engine store_engine;
 extern const struct engine lmdb_engine;
+extern const struct engine sqlite_engine;
+extern const struct engine map_engine;
 
 /* Ends the program. */
 void give_up(const char *what, int code);
+
+#ifdef __cplusplus
+}
+#endif
 
 #endif

@@ -3,7 +3,7 @@
  *
  *     speed ENGINE KEYS CALL [COUNT [ROUNDS]]
  *
- * ENGINE is store or lmdb; CALL one of the names below. Fills the map, then makes COUNT calls at
+ * ENGINE is store, lmdb, sqlite or map; CALL one of the names below. Fills the map, then makes COUNT calls at
  * random keys in each of ROUNDS rounds, and writes the microseconds a call of the fastest round:
  * those of the processor that the calling thread had, so that what else runs there counts little.
  * Of a batch they are those of one of its puts. A load is a batch that fills a new map, one in each
@@ -71,8 +71,9 @@ static uint64_t drawn(struct chance *chance) {
     return mixed(chance->state++);
 }
 
+/* Different numbers have different keys: their first 8 bytes differ. */
 static void key_bytes(uint8_t *key, uint64_t number) {
-    uint64_t parts[2] = {mixed(number), number};
+    uint64_t parts[4] = {mixed(number), number, 0, 0};
     memcpy(key, parts, KEY_LENGTH);
 }
 
@@ -197,6 +198,14 @@ static const struct engine *engine_named(const char *name) {
 #ifdef WITH_LMDB
     if (strcmp(name, "lmdb") == 0)
         return &lmdb_engine;
+#endif
+#ifdef WITH_SQLITE
+    if (strcmp(name, "sqlite") == 0)
+        return &sqlite_engine;
+#endif
+#ifdef WITH_MAP
+    if (strcmp(name, "map") == 0)
+        return &map_engine;
 #endif
     give_up("no such engine", 0);
     return NULL;
