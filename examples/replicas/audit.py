@@ -15,7 +15,7 @@ import urllib.request
 
 here = os.path.dirname(os.path.abspath(__file__))
 top = os.path.join(here, "../..")
-sys.path.append(os.path.join(top, "by_hand/python"))
+sys.path.append(os.path.join(top, "verifiers/python"))
 import mst_verifier
 
 FORMAT = 1
@@ -23,7 +23,7 @@ HEXADECIMAL = frozenset("0123456789abcdef")
 
 # The page and the verifier, each at its path from the address: the page's modules name the verifier
 # by its place in the repository, and a browser goes no higher than the address.
-PAGE, VERIFIER = "examples/replicas/page/", "by_hand/javascript/"
+PAGE, VERIFIER = "examples/replicas/page/", "verifiers/javascript/"
 KINDS = {"html": "text/html; charset=utf-8", "css": "text/css", "mjs": "text/javascript"}
 FILES = {
     "": PAGE + "index.html",

@@ -18,7 +18,7 @@ import random
 import sys
 
 here = os.path.dirname(os.path.abspath(__file__))
-sys.path += [os.path.join(here, "../..", it) for it in ("bindings/python", "by_hand/python")]
+sys.path += [os.path.join(here, "../..", it) for it in ("bindings/python", "verifiers/python")]
 from mst_store import open_store
 from mst_verifier import read_frame, read_node
 

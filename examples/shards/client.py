@@ -6,7 +6,7 @@ import os
 import sys
 
 here = os.path.dirname(os.path.abspath(__file__))
-sys.path += [os.path.join(here, it) for it in ("../replicas", "../../by_hand/python")]
+sys.path += [os.path.join(here, it) for it in ("../replicas", "../../verifiers/python")]
 import audit
 from mst_verifier import Refused, verify_sharded
 

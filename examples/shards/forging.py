@@ -4,7 +4,7 @@ import os
 import sys
 
 here = os.path.dirname(os.path.abspath(__file__))
-sys.path += [os.path.join(here, "../..", it) for it in ("vectors", "by_hand/python")]
+sys.path += [os.path.join(here, "../..", it) for it in ("vectors", "verifiers/python")]
 import client
 from mst_verifier import read_frame
 from sharding import Map

@@ -12,7 +12,7 @@ import mst_store
 from mst_store import Format, Handle, Refused, open_sharded
 
 HERE = os.path.dirname(os.path.abspath(__file__))
-sys.path.append(os.path.join(HERE, "..", "..", "by_hand", "python"))
+sys.path.append(os.path.join(HERE, "..", "..", "verifiers", "python"))
 import mst_verifier  # noqa: E402
 
 SPLITS = [bytes([number]) for number in range(16, 256, 16)]

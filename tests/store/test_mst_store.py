@@ -13,7 +13,7 @@ import mst_store
 from mst_store import Busy, Format, Pass, Refused, RefusedEdit, _library, open_store
 
 HERE = os.path.dirname(os.path.abspath(__file__))
-sys.path.append(os.path.join(HERE, "..", "..", "by_hand", "python"))
+sys.path.append(os.path.join(HERE, "..", "..", "verifiers", "python"))
 import mst_verifier  # noqa: E402
 
 

@@ -7,8 +7,8 @@
 import { createHash } from "node:crypto";
 import process from "node:process";
 
-import { Refused, verify, verifySharded } from "../../by_hand/javascript/mst_verifier.mjs";
-import { sha256 } from "../../by_hand/javascript/sha256.mjs";
+import { Refused, verify, verifySharded } from "../../verifiers/javascript/mst_verifier.mjs";
+import { sha256 } from "../../verifiers/javascript/sha256.mjs";
 
 const ROOT = bytesOf("d4a8a9fc55058427163bd8a1f09ca5ec542de1cdaf28df100be5472e47b72503");
 const PROOF = bytesOf("0101000000110100000200016101310003616263017800");

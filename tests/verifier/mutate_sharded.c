@@ -6,7 +6,7 @@
  * of vectors, with the library's answer.
  *
  *     cc -O2 -I../../include -Dmst_verify=by_hand -Dmst_verify_sharded=by_hand_sharded \
- *         -c ../../by_hand/c/mst_verifier.c -o by_hand.o
+ *         -c ../../verifiers/c/mst_verifier.c -o by_hand.o
  *     cc -O2 -I../../include mutate_sharded.c by_hand.o \
  *         ../../crates/mst_verifier/out/libmst_verifier.a -o mutate_sharded
  *     ./mutate_sharded FILE [COUNT [OUT]]

@@ -7,7 +7,7 @@ import os
 import sys
 
 here = os.path.dirname(os.path.abspath(__file__))
-sys.path.append(os.path.join(here, "..", "..", "by_hand", "python"))
+sys.path.append(os.path.join(here, "..", "..", "verifiers", "python"))
 from mst_verifier import line_for, verify, verify_sharded
 
 

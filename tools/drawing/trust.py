@@ -49,7 +49,7 @@ BOXES = [
     )),
     ("dashed", RIGHT, PORTED, COLUMN, "what is not in Rattle", (
         "C files, bindings, verifiers by hand",
-        "bindings, by_hand",
+        "bindings, verifiers",
     )),
 ]
 LEGEND = [

@@ -5,10 +5,10 @@
  *
  * @module
  */
-import { Refused, verify } from "../../../by_hand/javascript/mst_verifier.mjs";
-import { sha256 } from "../../../by_hand/javascript/sha256.mjs";
+import { Refused, verify } from "../../../verifiers/javascript/mst_verifier.mjs";
+import { sha256 } from "../../../verifiers/javascript/sha256.mjs";
 
-/** @typedef {import("../../../by_hand/javascript/mst_verifier.mjs").Format} Format */
+/** @typedef {import("../../../verifiers/javascript/mst_verifier.mjs").Format} Format */
 
 /**
  * @typedef {object} Node what stands in the text of a node (docs/FORMAT.md)

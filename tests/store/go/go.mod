@@ -9,5 +9,5 @@ require (
 
 replace (
 	mst => ../../../bindings/go
-	mstverifier => ../../../by_hand/go
+	mstverifier => ../../../verifiers/go
 )

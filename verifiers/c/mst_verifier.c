@@ -3,7 +3,7 @@
  * library is measured against. Of the header it has `mst_verify` and `mst_verify_sharded`. It
  * stands in the library's place:
  *
- *     cc -O2 -Iinclude examples/verify.c by_hand/c/mst_verifier.c -o verify
+ *     cc -O2 -Iinclude examples/verify.c verifiers/c/mst_verifier.c -o verify
  */
 #include "mst_verifier.h"
 
