@@ -62,9 +62,9 @@ extern "C" {
  * MST_VERSION_NUMBER is greater for each later one.
  */
 #define MST_VERSION_MAJOR 0
-#define MST_VERSION_MINOR 2
+#define MST_VERSION_MINOR 3
 #define MST_VERSION_PATCH 0
-#define MST_VERSION_TEXT "0.2.0"
+#define MST_VERSION_TEXT "0.3.0"
 #define MST_VERSION_NUMBER \
     (MST_VERSION_MAJOR * 1000000 + MST_VERSION_MINOR * 1000 + MST_VERSION_PATCH)
 

@@ -44,9 +44,9 @@ extern "C" {
 
 /* The version of this header, as that of mst_store.h: MAJOR.MINOR.PATCH. */
 #define MST_VERSION_MAJOR 0
-#define MST_VERSION_MINOR 2
+#define MST_VERSION_MINOR 3
 #define MST_VERSION_PATCH 0
-#define MST_VERSION_TEXT "0.2.0"
+#define MST_VERSION_TEXT "0.3.0"
 #define MST_VERSION_NUMBER \
     (MST_VERSION_MAJOR * 1000000 + MST_VERSION_MINOR * 1000 + MST_VERSION_PATCH)
 

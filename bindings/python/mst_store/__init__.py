@@ -28,7 +28,7 @@ from ._refusals import (
 from ._refusals import BAD_SPLITS, MIXED_FORMATS, STRAY_KEY
 from ._sharded import Handle, open_sharded
 
-__version__ = "0.2.0"
+__version__ = "0.3.0"
 
 __all__ = [
     "ABSENT", "BAD_BATCH", "BAD_KEY", "BAD_SHAPE", "BAD_VALUE", "BUSY", "CLOSED", "KEY_LONGEST",

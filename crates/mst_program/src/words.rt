@@ -27,10 +27,10 @@ Exit statuses:
   4  memory was refused, or a thread could not be started";
 
 /// The number of the program's version.
-const VERSION: &str = "0.2.0";
+const VERSION: &str = "0.3.0";
 
 /// The text of the version, if nothing else is asked.
-const VERSION_TEXT: &str = "mst 0.2.0\n";
+const VERSION_TEXT: &str = "mst 0.3.0\n";
 
 // An option that is a number and has to be given.
 fn required_number<'a>(alloc: Global, name: &'a str, help: &'a str) -> Arg<'a> {

@@ -37,7 +37,7 @@ Exit statuses:
   4  memory was refused, or a thread could not be started
 ";
 
-const VERSION: &str = "mst 0.2.0\n";
+const VERSION: &str = "mst 0.3.0\n";
 
 const NO_SUCH_OPTION: &str = "error: unexpected argument '--version' found
 
