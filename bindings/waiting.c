@@ -110,7 +110,7 @@ int32_t mst_sharded_remove(mst_handle *handle, const uint8_t *key, size_t key_le
     return told;
 }
 
-/* A shard that is in the format already is not moved again, so each try goes on where one stopped. */
+/* A shard that is in the format already is not moved again: each try goes on where one stopped. */
 int32_t mst_sharded_migrate(mst_handle *handle, uint32_t format, size_t *stopped) {
     struct waited waited = {0, 0};
     int32_t told;

@@ -45,7 +45,7 @@
  *
  * Link with libmst_store, which `make -C bindings` makes: `pkg-config --cflags --libs mst_store`
  * says how, after `make -C bindings install`. docs/STORE_C.md has examples. If you link the proved
- * archive libmst_c.a itself, compile what bindings/ has in C beside your program.
+ * archive libmst_c.a itself, compile the C files of bindings/ along with your program.
  */
 #ifndef MST_STORE_H
 #define MST_STORE_H
@@ -273,10 +273,10 @@ int32_t mst_format(mst_pass *pass);
 int32_t mst_rows(mst_pass *pass, uint32_t *rows);
 
 /*
- * Sets *rows to the number of rows that are free to the next write, beside pinned versions too: as
- * long as no pass writes, pins or unpins, a write that takes at most as many rows is not refused
- * with MST_NO_FREE_ROWS, and one that takes more is. Returns MST_OK; MST_CLOSED; MST_WRONG_STATE for
- * a pinned pass; MST_BUSY.
+ * Sets *rows to the number of rows that are free to the next write, also while versions are pinned.
+ * As long as no pass writes, pins or unpins, a write that takes at most that many rows is not
+ * refused with MST_NO_FREE_ROWS, and one that takes more is. Returns MST_OK; MST_CLOSED;
+ * MST_WRONG_STATE for a pinned pass; MST_BUSY.
  */
 int32_t mst_free_rows(mst_pass *pass, uint32_t *rows);
 
@@ -332,9 +332,9 @@ int32_t mst_try_apply(mst_pass *pass, const uint8_t *edits, size_t length, size_
  * MST_CLOSED; MST_UNKNOWN_FORMAT for another format; MST_WRONG_STATE for a pinned pass, MST_BUSY,
  * MST_VERSIONS_SPENT, MST_MEMORY, MST_NO_FREE_ROWS: nothing is written.
  *
- * It takes a row for each pair and each node of the new tree, beside the rows of the old one, and
- * memory for the pairs and that tree, which it gives back. A migration to the current format takes
- * no row and no memory.
+ * It takes a row for each pair and each node of the new tree, in addition to those of the old one,
+ * and memory for the pairs and that tree, which it gives back. A migration to the current format
+ * takes no row and no memory.
  */
 int32_t mst_try_migrate(mst_pass *pass, uint32_t format);
 
@@ -548,8 +548,8 @@ int32_t mst_sharded_release(mst_handle *handle);
  * Returns 32, the length of the root digest of all shards together, and its bytes stand first in
  * `root`. It depends on the content, the format and the splits alone. Returns MST_CLOSED;
  * MST_WRONG_STATE for a handle; MST_MIXED_FORMATS, MST_STRAY_KEY, MST_MEMORY; MST_VERSIONS_SPENT if
- * the handle's list of shards has changed 2^63 - 1 times; MST_SHORT_ROOM if root_length is less than
- * 32.
+ * the handle's list of shards has changed 2^63 - 1 times; MST_SHORT_ROOM if root_length is less
+ * than 32.
  */
 int32_t mst_sharded_root(mst_handle *handle, uint8_t *root, size_t root_length);
 
@@ -557,8 +557,8 @@ int32_t mst_sharded_root(mst_handle *handle, uint8_t *root, size_t root_length);
  * Makes the proof of the key's answer, which mst_verify_sharded judges in the format and by the
  * root digest of the same snapshot. Returns MST_OK: its bytes stand first in the room, and *length
  * is their number. Returns MST_CLOSED, MST_BAD_KEY, and what mst_sharded_root returns but
- * MST_SHORT_ROOM: room and *length are as they were. Returns MST_SHORT_ROOM if the room is too short:
- * *length is the length of the proof, and the room is as it was.
+ * MST_SHORT_ROOM: room and *length are as they were. Returns MST_SHORT_ROOM if the room is too
+ * short: *length is the length of the proof, and the room is as it was.
  */
 int32_t mst_sharded_prove(mst_handle *handle, const uint8_t *key, size_t key_length,
                           uint8_t *room, size_t room_length, size_t *length);
@@ -596,18 +596,18 @@ int32_t mst_sharded_format(mst_handle *handle);
  * Lists of each shard, in the order of their keys, its lower bound as a key, and as its value the
  * shard's root digest, of 32 bytes, and the upper bound, of none if there is no bound: the pairs of
  * the directory, whose root digest is that of mst_sharded_root. They stand in the room as those of
- * mst_range, and MST_PAIR_LONGEST bytes for each shard are enough. Returns MST_OK or MST_SHORT_ROOM as
- * mst_range; otherwise what mst_sharded_root returns: room, *count and *length are as they were.
+ * mst_range, and MST_PAIR_LONGEST bytes for each shard are enough. Returns MST_OK or MST_SHORT_ROOM
+ * as mst_range; otherwise what mst_sharded_root returns: room, *count and *length are as they were.
  */
 int32_t mst_sharded_directory(mst_handle *handle, uint8_t *room, size_t room_length,
                               size_t *count, size_t *length);
 
 /*
  * Turns each shard to format 1 or 2, one after the other. Meanwhile a snapshot may find shards in
- * both. Returns MST_OK. Returns MST_BUSY, MST_VERSIONS_SPENT, MST_MEMORY, MST_NO_FREE_ROWS if a shard
- * refused it: *stopped is the number of this shard, from 0. Those before it are migrated, those
- * behind it not tried: call again with the same format, since a shard in it takes no row and no
- * memory. Returns MST_CLOSED; MST_UNKNOWN_FORMAT; MST_WRONG_STATE for a snapshot; MST_MEMORY if
+ * both. Returns MST_OK. Returns MST_BUSY, MST_VERSIONS_SPENT, MST_MEMORY, MST_NO_FREE_ROWS if a
+ * shard refused it: *stopped is the number of this shard, from 0. Those before it are migrated,
+ * those behind it not tried: call again with the same format, since a shard in it takes no row and
+ * no memory. Returns MST_CLOSED; MST_UNKNOWN_FORMAT; MST_WRONG_STATE for a snapshot; MST_MEMORY if
  * there is none for the list of the shards: nothing has changed, and *stopped is as it was.
  */
 int32_t mst_sharded_try_migrate(mst_handle *handle, uint32_t format, size_t *stopped);

@@ -29,7 +29,7 @@
  *     else
  *         distrust(told);                // nothing is shown; the value's bytes are as they were
  *
- * Link with libmst_verifier, which `make -C bindings` makes beside the store's library, or with
+ * Link with libmst_verifier, which `make -C bindings` makes along with the store's library, or with
  * libmst_verifier.a alone, which `rt lib` makes in crates/mst_verifier.
  */
 #ifndef MST_VERIFIER_H
@@ -87,10 +87,10 @@ extern "C" {
 /*
  * Says what the proof shows of the key, in the map with this root digest.
  *
- * Returns 0 to 64 if the key has a value of so many bytes, which now stands first in the room. All
- * other results are the numbers above. The format is tested first, then the root digest, the key,
- * the proof, and the room last. The room's bytes after the value stay, and all of them stay if no
- * value is returned.
+ * Returns 0 to 64 if the key has a value of that many bytes, which now stands first in the room.
+ * All other results are the numbers above. The format is tested first, then the root digest, the
+ * key, the proof, and the room last. The room's bytes after the value stay, and all of them stay if
+ * no value is returned.
  */
 int32_t mst_verify(uint32_t format,
                    const uint8_t *root, size_t root_length,
@@ -138,15 +138,15 @@ int32_t mst_verify_sharded(uint32_t format,
                            const uint8_t *proof, size_t proof_length,
                            uint8_t *room, size_t room_length);
 
-/* The first text that a proof of one map frames begins after so many bytes. */
+/* The first text that a proof of one map frames begins after this many bytes. */
 #define MST_TOP_TEXT_AT 6
 
 /*
  * Returns the length of the first text that a proof of one map frames: proof[MST_TOP_TEXT_AT] and
- * what follows. If the proof is a true one, this is the text of the top node of its map's tree. Returns
- * -1 if the proof frames no text, as that of the empty map, or if the first is cut short. Nothing
- * is verified: only the bytes up to the end of that text are looked at, and of the version and the
- * count only whether the count is 0.
+ * what follows. If the proof is a true one, this is the text of the top node of its map's tree.
+ * Returns -1 if the proof frames no text, as that of the empty map, or if the first is cut short.
+ * Nothing is verified: only the bytes up to the end of that text are looked at, and of the version
+ * and the count only whether the count is 0.
  */
 int64_t mst_top_text(const uint8_t *proof, size_t proof_length);
 

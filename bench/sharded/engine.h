@@ -15,7 +15,7 @@
 
 struct engine {
     const char *name;
-    /* an empty map for so many random keys, in so many parts of equal size */
+    /* an empty map for a number of random keys, in a number of parts of equal size */
     void (*open)(size_t keys, size_t shards);
     void (*close)(void);
     /* a put that waits for its turn, of a key that had a value or had none */

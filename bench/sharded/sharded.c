@@ -1,12 +1,12 @@
 /*
  * The sharded map: shards of equal intervals, since the keys are random, each with room for its keys
- * and as many rows again beside them, as pinned versions need.
+ * and as many rows again, as pinned versions need.
  */
 #include "engine.h"
 #include "mst_store.h"
 #include <stdlib.h>
 
-/* Rows for a key of format 1, in 16ths, and rows beside them for the paths of puts. */
+/* Rows for a key of format 1, in 16ths, and further rows for the paths of puts. */
 #define ROWS_OF_KEY 20
 #define SPARE_ROWS 1024
 #define ROWS_MOST 65535

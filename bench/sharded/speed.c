@@ -79,7 +79,7 @@ static void *run_job(void *given) {
     return NULL;
 }
 
-/* The seconds that so many threads take, one for each seat. */
+/* The seconds that this many threads take, one for each seat. */
 static double seconds(int threads, void (*work)(const struct job *job)) {
     pthread_t started[SEATS];
     struct job jobs[SEATS];

@@ -64,7 +64,7 @@ static void *reads(void *given) {
     return NULL;
 }
 
-/* Lets the readers get for so long. Returns the seconds that it took. */
+/* Lets the readers get for this long. Returns the seconds that it took. */
 static double run(struct reader *readers, int count, long milliseconds) {
     pthread_t threads[MOST];
     struct timespec length = {milliseconds / 1000, milliseconds % 1000 * 1000000};

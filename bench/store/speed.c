@@ -1,5 +1,5 @@
 /*
- * The microseconds of one call, and those of it beside another thread.
+ * The microseconds of one call, alone and while another thread calls.
  *
  *     speed ENGINE KEYS CALL [COUNT [ROUNDS]]
  *

@@ -72,7 +72,7 @@ static void *writes(void *given) {
     return NULL;
 }
 
-/* Lets the writers put for so long. Returns the seconds that it took. */
+/* Lets the writers put for this long. Returns the seconds that it took. */
 static double run(struct writer *writers, int count, long milliseconds) {
     pthread_t threads[MOST];
     struct timespec length = {milliseconds / 1000, milliseconds % 1000 * 1000000};

@@ -307,7 +307,7 @@ public:
         return answer;
     }
 
-    // Returns how many rows are free to the next write, beside pinned versions too; nothing if
+    // Returns how many rows are free to the next write, also while versions are pinned; nothing if
     // another pass has the turn.
     std::optional<std::uint32_t> free_rows() {
         std::uint32_t rows = 0;

@@ -18,7 +18,7 @@ using pair = std::pair<std::string, std::string>;
 // The formats of trees and proofs, by their numbers in mst_store.h and mst_verifier.h.
 enum class format : std::uint32_t { one = 1, two = 2 };
 
-// Why a call was refused. It changed nothing.
+// Why a call was refused. It changed nothing, but where the call says otherwise.
 class refused : public std::runtime_error {
     int number;
 

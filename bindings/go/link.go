@@ -2,7 +2,7 @@
 
 package mst
 
-// The library that `make -C bindings` makes, beside this package.
+// The library that `make -C bindings` makes, next to this package.
 
 // #cgo CFLAGS: -I${SRCDIR}/../../include
 // #cgo LDFLAGS: ${SRCDIR}/../out/libmst_store.a

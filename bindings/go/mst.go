@@ -16,8 +16,8 @@
 //
 // Keys have 1 to 32 bytes, values 0 to 64. What a call is given it does not keep, and what it
 // returns is the caller's own. Each refusal is one of the errors below, as errors.Is finds it;
-// after one nothing has changed. MST_SHORT_ROOM of the library, with which a put has been made all
-// the same, is none of them: a call has room for each answer.
+// after one nothing has changed, but where the call says otherwise. MST_SHORT_ROOM of the library,
+// with which a put has been made all the same, is none of them: a call has room for each answer.
 //
 // The package links bindings/out/libmst_store.a, which `make -C bindings` makes; with the build tag
 // mst_installed that of the system, which pkg-config finds as mst_store.

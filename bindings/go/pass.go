@@ -79,8 +79,8 @@ func (p *Pass) Rows() (int, error) {
 	return int(rows), nil
 }
 
-// FreeRows returns how many rows are free to the next write, beside pinned versions too. The error
-// is ErrClosed, ErrPinned, or ErrBusy.
+// FreeRows returns how many rows are free to the next write, also while versions are pinned. The
+// error is ErrClosed, ErrPinned, or ErrBusy.
 func (p *Pass) FreeRows() (int, error) {
 	s, err := p.take()
 	if err != nil {

@@ -1,4 +1,4 @@
-/* Turns a store to format 2, beside a reader that pins the version before. */
+/* Turns a store to format 2 while a reader pins the version before. */
 #include "mst_store.h"
 #include <stdio.h>
 

@@ -62,7 +62,7 @@ class Asker:
 
 
 def is_checked(shown, verdict, texts, *words):
-    """Whether an answer is shown as that of the map, with so many texts, each with its digest, and
+    """Whether an answer is shown as that of the map, with this many texts, each with its digest, and
     with these words."""
     boxes = ["Root digest that you trust", *(f"Node {it + 1}" for it in range(texts)), "Answer"]
     is_whole = shown["boxes"] == boxes and shown["arrows"] == texts + 1
@@ -101,7 +101,7 @@ def forgeries(key):
     """Names of forgeries with what each makes of a true answer, and the test and the box in which
     it is refused. The true proof has three texts, the last of which holds the key."""
     return {
-        "a forged value beside a true proof": (lambda value, it: (value + b"!", it), "", "Answer"),
+        "a forged value with a true proof": (lambda value, it: (value + b"!", it), "", "Answer"),
         "a key that is hidden": (lambda value, it: (None, it), "", "Answer"),
         "a forged value in the proof": (
             lambda value, it: (value[:-1] + b"!", with_value(it, 2, key)), "P5", "Node 3"),

@@ -34,7 +34,7 @@ class Source:
         self.producer.flush()
 
     def change(self, count, shards=range(splits.SHARDS)):
-        """Changes so many keys of these shards: a quarter is taken out, the others get new values,
+        """Changes this many keys of these shards: a quarter is taken out, the others get new values,
         and some of them are new."""
         while count:
             key = key_of(self.some.randrange(self.count * 9 // 8))

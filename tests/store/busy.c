@@ -15,7 +15,7 @@
 #include <time.h>
 #include <unistd.h>
 
-#define SLEEPS 50 /* so long a call that waits is kept waiting */
+#define SLEEPS 50 /* how long a call that waits is kept waiting */
 
 extern void *__libc_malloc(size_t size);
 

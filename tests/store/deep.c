@@ -136,7 +136,7 @@ enum {
     MIGRATE = BATCH - 1,
 };
 
-/* Puts the keys of the lowest layers, so many, in a new store of format 2. */
+/* Puts a number of keys of the lowest layers into a new store of format 2. */
 static void opens(const struct path *path, int nodes) {
     EXPECT(mst_open(2, 128, &pass, 1) == MST_OK && mst_open(2, 128, &empty, 1) == MST_OK);
     edits_length = 0;
@@ -160,7 +160,7 @@ struct cost {
     int depth;
 };
 
-/* What each call takes over a tree of so many nodes. */
+/* What each call takes over a tree of a number of nodes. */
 static void measure(const struct path *path, int nodes, struct cost *costs) {
     size_t alone = stack_of(no_call);
     opens(path, nodes);

@@ -58,7 +58,7 @@ void free(void *at) {
     __libc_free(at);
 }
 
-/* Counts, and refuses the call after so many; -1: none. */
+/* Counts calls, and refuses the one after this many; -1: none. */
 static inline void count_from(long calls) {
     left = calls;
     counting = 1;

@@ -1,4 +1,4 @@
-/* The rows that are free beside pinned versions, and the version that a pass made. */
+/* The rows that are free while versions are pinned, and the version that a pass made. */
 #include "tests.h"
 
 static uint8_t room[MST_VALUE_LONGEST];

@@ -9,7 +9,7 @@
 #include <stdlib.h>
 
 #define HANDS 4
-#define KEYS 200 /* keys are of one or two bytes, from so many */
+#define KEYS 200 /* the number of keys, each of one or two bytes */
 #define ROWS 2000
 #define PROOF_ROOM 16384
 

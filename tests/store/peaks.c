@@ -1,5 +1,5 @@
 /*
- * The most memory that a call holds at any time beside what the store had before, at 1,000 and at
+ * The most memory that a call holds at any time in addition to what the store had before, at 1,000 and at
  * 28,000 keys, the most of which the trees of both formats have room, and of a proof in a node of
  * 1,000 entries. Nothing of it stays: only mst_open takes what mst_close gives back.
  */
@@ -55,7 +55,7 @@ static int32_t migrates(uint32_t to) {
 /* The number of the first key of the next batch, and the step to each other one. */
 static uint32_t first = 0, step = 1;
 
-/* A batch of so many puts of new values. */
+/* A batch of a number of puts of new values. */
 static int32_t applies(uint32_t edits) {
     static uint8_t value[32];
     size_t length = 0, place;
@@ -65,7 +65,7 @@ static int32_t applies(uint32_t edits) {
     return mst_try_apply(&pass, room, length, &place);
 }
 
-/* Whether a call with this argument ends well and holds at most so many bytes more than before. */
+/* Whether a call with this argument ends well and holds at most this many bytes more than before. */
 static void takes(int32_t (*call)(uint32_t), uint32_t argument, size_t most, int stays) {
     size_t before = held;
     peak = held;
@@ -86,7 +86,7 @@ static void reads(uint32_t keys) {
         takes(proves, number, PROOF, 0);
 }
 
-/* Batches of so many edits in a map with so many keys, all over it, and side by side. */
+/* Batches of a number of edits in a map of a number of keys, all over it, and side by side. */
 static void batches_of(uint32_t edits, uint32_t keys) {
     size_t touch = edits * (size_t)TOUCH, all = (keys + edits) * (size_t)ENTRIES;
     size_t most = ROWS + (touch < all ? touch : all);
@@ -115,7 +115,7 @@ static void loads_of(uint32_t keys) {
     }
 }
 
-/* A store with so many keys, free and pinned, in both formats. */
+/* A store with a number of keys, free and pinned, in both formats. */
 static void calls(uint32_t keys) {
     takes(opens, ROWS, ROWS * (size_t)ROW, 1);
     for (uint32_t number = 0; number < keys; number++)
@@ -161,7 +161,7 @@ int main(void) {
     count_from(-1);
     calls(1000);
     calls(28000);
-    /* the lists of so many have just grown */
+    /* the lists of this many have just grown */
     loads_of(33);
     loads_of(1025);
     loads_of(16385);

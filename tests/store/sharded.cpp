@@ -1,4 +1,4 @@
-// Sharded maps from C++: their answers beside those of std::map, their proofs beside the verifier.
+// Sharded maps from C++: their answers against those of std::map, their proofs against the verifier.
 #include "mst_sharded.hpp"
 #include "mst_verifier.h"
 #include "tests.h"

@@ -64,7 +64,7 @@ static void *applies(void *unused) {
     return unused;
 }
 
-/* Fills a batch with new values of so many keys from one on. */
+/* Fills a batch with new values of a number of keys, from one on. */
 static void fill_batch(uint64_t first, size_t keys) {
     uint8_t key[8];
     edits_length = 0;

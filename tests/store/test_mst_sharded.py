@@ -1,4 +1,4 @@
-"""Sharded maps from Python: their answers beside those of a dict, their proofs beside the
+"""Sharded maps from Python: their answers against those of a dict, their proofs against the
 verifier."""
 import copy
 import os

@@ -1,4 +1,4 @@
-"""The store from Python: its answers beside those of a dict, its proofs beside the verifier."""
+"""The store from Python: its answers against those of a dict, its proofs against the verifier."""
 import copy
 import ctypes
 import os

@@ -18,7 +18,7 @@
 #define AUDITS 256
 #define MOST_WRITERS 8
 #define KEYS 500
-#define MIGRATES_EACH 20 /* so many puts of a writer, and then a migration */
+#define MIGRATES_EACH 20 /* how many puts a writer makes before each migration */
 
 struct audit {
     uint8_t root[32], key[4], value[8], proof[8192];

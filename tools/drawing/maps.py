@@ -10,7 +10,7 @@ SCRIPT = os.path.join(TOP, "docs", "pictures", "map.txt")
 
 
 class Version:
-    """The map after so many puts: its pairs, its nodes by their digests, its root digest."""
+    """The map after a number of puts: its pairs, its nodes by their digests, its root digest."""
 
     def __init__(self, puts):
         self.number = len(puts)

@@ -1,4 +1,4 @@
-"""A put beside a pinned reader: the words of the table, step by step as in docs/PROTOCOL.md."""
+"""A put while a reader pins: the words of the table, step by step as in docs/PROTOCOL.md."""
 from .canvas import TINT, WIDTH, Canvas
 
 READER, WRITER = 2, 1  # passes
@@ -95,7 +95,7 @@ def draw_heads(canvas):
 
 
 def picture():
-    title = "A put beside a pinned reader: the words of the table after each step"
+    title = "A put while a reader pins: the words of the table after each step"
     canvas = Canvas("put", title, 624)
     table = Table()
     draw_heads(canvas)

@@ -57,7 +57,7 @@ def file_of(folder, module):
 
 
 def defined(path):
-    """What a file defines or takes from modules beside it, by name."""
+    """What a file defines or takes from modules next to it, by name."""
     tree, folder = parsed(path), os.path.dirname(path)
     found = {}
     for node in tree.body:

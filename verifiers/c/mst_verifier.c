@@ -68,7 +68,7 @@ static void sha256(const uint8_t *bytes, size_t length, uint8_t digest[32])
 
 struct text { const uint8_t *at; size_t left; };
 
-/* So many bytes from the front, or null if fewer are left. */
+/* This many bytes from the front, or null if fewer are left. */
 static const uint8_t *take(struct text *from, size_t count)
 {
     const uint8_t *at = from->at;

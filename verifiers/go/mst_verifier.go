@@ -102,7 +102,7 @@ func (r *reader) take(count uint64) []byte {
 	return part
 }
 
-// number takes a number of so many bytes, the high one first.
+// number takes a number of a given count of bytes, the high one first.
 func (r *reader) number(size uint64) uint64 {
 	var number uint64
 	for _, it := range r.take(size) {
@@ -111,7 +111,7 @@ func (r *reader) number(size uint64) uint64 {
 	return number
 }
 
-// counted takes a length in one byte, and so many bytes.
+// counted takes a length in one byte, and as many bytes as it says.
 func (r *reader) counted(least, most uint64) []byte {
 	length := r.number(1)
 	if length < least || length > most {

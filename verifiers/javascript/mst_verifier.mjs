@@ -1,6 +1,6 @@
 /**
  * The verifier of proofs in JavaScript, written from docs/FORMAT.md alone, for browsers and Node.
- * With sha256.mjs beside it it needs nothing else.
+ * It needs sha256.mjs next to it, and nothing else.
  *
  *     import { verify, verifySharded, Refused } from "./mst_verifier.mjs";
  *

@@ -187,8 +187,8 @@ class Pass:
         return self._number(_lib.mst_rows, ctypes.c_uint32())
 
     def try_free_rows(self) -> int:
-        """Returns how many rows are free to the next write, beside pinned versions too; raises Busy
-        if another pass has the turn."""
+        """Returns how many rows are free to the next write, also while versions are pinned; raises
+        Busy if another pass has the turn."""
         return self._number(_lib.mst_free_rows, ctypes.c_uint32())
 
     def made(self) -> Optional[int]:

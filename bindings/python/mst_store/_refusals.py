@@ -43,7 +43,8 @@ _REASONS = {
 
 
 class Refused(Exception):
-    """A refusal: nothing has changed. `code` is its number in include/mst_store.h."""
+    """A refusal: nothing has changed, but where the call says otherwise. `code` is its number in
+    include/mst_store.h."""
 
     def __init__(self, code: int) -> None:
         super().__init__(_REASONS.get(code, f"the library answered {code}"))

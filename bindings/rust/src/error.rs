@@ -1,7 +1,7 @@
 //! What the store refuses.
 use std::fmt;
 
-/// A refusal. If a call returns one, nothing has changed.
+/// A refusal. If a call returns one, nothing has changed, but where the call says otherwise.
 #[derive(Debug, Clone, Copy, PartialEq, Eq, Hash)]
 #[non_exhaustive]
 pub enum Error {
@@ -160,7 +160,7 @@ impl fmt::Display for TryError {
 
 impl std::error::Error for TryError {}
 
-/// For `?`, where reads stand beside calls that try.
+/// For `?`, where reads stand next to calls that try.
 impl From<Error> for TryError {
     fn from(error: Error) -> TryError {
         TryError::Refused(error)

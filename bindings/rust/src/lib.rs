@@ -242,9 +242,9 @@ impl Pass {
         }
     }
 
-    /// Returns how many rows are free to the next write, beside pinned versions too, if no other
-    /// pass writes. As long as nobody writes, pins or unpins, a write that takes at most so many
-    /// rows is not refused as `RowsSpent`, and one that takes more is.
+    /// Returns how many rows are free to the next write, also while versions are pinned, if no
+    /// other pass writes. As long as nobody writes, pins or unpins, a write that takes at most that
+    /// many rows is not refused as `NoFreeRows`, and one that takes more is.
     pub fn try_free_rows(&mut self) -> Result<u32, TryError> {
         let mut rows = 0;
         // Safety: both pointers are valid.

@@ -35,7 +35,7 @@ pub(crate) fn value(code: i32, room: &[u8]) -> Result<Option<Vec<u8>>, i32> {
 /// The most bytes that a pair takes in the room of mst_range.
 pub(crate) const PAIR_LONGEST: usize = 4 + KEY_LONGEST + VALUE_LONGEST;
 
-/// So many pairs, which stand first in the room of mst_range.
+/// A number of pairs, which stand first in the room of mst_range.
 pub(crate) fn pairs(room: &[u8], count: usize) -> Vec<Pair> {
     let mut rest = room;
     let mut taken = |length: usize| {

@@ -1,4 +1,4 @@
-//! Answers of sharded maps beside those of a BTreeMap.
+//! Answers of sharded maps, compared with those of a BTreeMap.
 use mst_store::{open_sharded, Error, Format, Handle};
 use std::collections::BTreeMap;
 use std::thread;

@@ -1,4 +1,4 @@
-//! The store's answers beside those of a BTreeMap, over writes by a fixed generator.
+//! The store's answers, compared with those of a BTreeMap, over writes by a fixed generator.
 use mst_store::Edit::{Put, Remove};
 use mst_store::{open, open_format, Error, Format, Pass, Reads, TryError};
 use std::collections::BTreeMap;

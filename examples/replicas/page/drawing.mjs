@@ -260,7 +260,7 @@ export function isSame(one, other) {
  * @param {1 | 2} format
  * @param {Uint8Array} root
  * @param {Path} path
- * @param {Uint8Array | null} told the answer beside the proof
+ * @param {Uint8Array | null} told the answer that came with the proof
  */
 export function boxes(format, root, path, told) {
   const title = element("h3", {}, "Root digest that you trust");
