@@ -7,7 +7,8 @@
 //! rows do not suffice for both trees, it says so. Then it times a load: all keys, by one batch, in
 //! an empty store. Then it times ten puts a key with nothing pinned
 //! and ten beside a version that stays pinned, gets of that version, and says how many rows the map
-//! takes; and it times one to four readers, each on a thread of its own, without and with a writer.
+//! takes; and it times one to four readers, each on a thread of its own: of the newest version, of
+//! versions that stay pinned, and of the newest one beside a writer.
 //! Keys, values and their order are the same in each run.
 //!
 //! `mst_bench KIND KEYS CALLS [1|2]` makes calls of one kind alone, in a store of format 1 or 2,

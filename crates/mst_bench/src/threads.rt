@@ -1,4 +1,5 @@
-//! Readers on threads of their own, with and without a writer.
+//! Readers on threads of their own: of the newest version, of versions that stay pinned, and beside
+//! a writer.
 ghost use Rattle.std.specs.Prelude.{◌<◌, ◌≤◌, length};
 
 use crate::calls::{self, FIRST_NEW_VALUE};
@@ -17,13 +18,23 @@ use std::{io, thread};
 const MOST_READERS: u32 = 4;
 
 /// How many gets each reader makes for one put of the writer, so that the writer, whose put takes
-/// longer than so many gets, is the last to end.
+/// longer than this many gets, is the last to end.
 const GETS_PER_PUT: u32 = 20;
 
-// What a thread does with its pass: gets, or puts.
+// How the readers read: each get of the newest version, which it pins; each of a version that stays
+// pinned; or of the newest version, beside a writer.
+#[derive(Clone, Copy)]
+enum Reading {
+    Newest,
+    Pinned,
+    BesideWriter,
+}
+
+// What a thread does with its pass: gets of the newest or of a pinned version, or puts.
 #[derive(Clone, Copy)]
 enum Work {
     Gets(u32),
+    PinnedGets(u32),
     Puts(u32),
 }
 
@@ -33,6 +44,7 @@ fn make(mut pass: Pass<'_, Global>, keys: &[Key], work: Work) -> bool
 {
     match work {
         Work::Gets(calls) => reads::get(&mut pass, keys, calls),
+        Work::PinnedGets(calls) => reads::get_pinned(&mut pass.pin(), keys, calls),
         Work::Puts(calls) => calls::put(&mut pass, keys, calls, FIRST_NEW_VALUE),
     }
 }
@@ -52,31 +64,54 @@ fn start<'s, 'a: 's, E>(
     }
 }
 
-// Starts a thread for each pass: the first one writes if there is a writer, all others read.
+// How many writers there are.
+fn writers(reading: Reading) -> u32
+    ensures few { result ≤ 1 }
+{
+    match reading {
+        Reading::BesideWriter => 1,
+        Reading::Newest | Reading::Pinned => 0,
+    }
+}
+
+// What the first thread does: it is the writer, if there is one.
+fn first_work(reading: Reading, calls: u32) -> Work {
+    match reading {
+        Reading::BesideWriter => Work::Puts(calls / GETS_PER_PUT),
+        Reading::Pinned => Work::PinnedGets(calls),
+        Reading::Newest => Work::Gets(calls),
+    }
+}
+
+// What all other threads do.
+fn other_work(reading: Reading, calls: u32) -> Work {
+    match reading {
+        Reading::Pinned => Work::PinnedGets(calls),
+        Reading::Newest | Reading::BesideWriter => Work::Gets(calls),
+    }
+}
+
+// Starts a thread for each pass.
 fn start_all<'s, 'a: 's, E>(
     scope: &Scope<'s, E>,
     alloc: Global,
     passes: Vec<Pass<'a, Global>>,
     keys: &'s [Key],
     calls: u32,
-    writes: bool,
+    reading: Reading,
 ) -> io::Result<Vec<JoinHandle<bool>>>
     requires some { 0 < length keys.now }
 {
     let mut handles = Vec::new(alloc);
-    let mut next = if writes {
-        Work::Puts(calls / GETS_PER_PUT)
-    } else {
-        Work::Gets(calls)
-    };
+    let mut next = first_work(reading, calls);
     for pass in passes {
         handles.push(start(scope, pass, keys, next)?)?;
-        next = Work::Gets(calls);
+        next = other_work(reading, calls);
     }
     Ok(handles)
 }
 
-// Joins threads, the last one first, until so many are left. Returns true if each call went
+// Joins threads, the last one first, until this many are left. Returns true if each call went
 // through.
 fn join_down_to<T: Threads>(threads: &T, handles: &mut Vec<JoinHandle<bool>>, left: usize) -> bool {
     let mut done = true;
@@ -96,7 +131,7 @@ fn run_threads<T: Threads + Wait + Sync>(
     passes: Vec<Pass<'_, Global>>,
     keys: &[Key],
     calls: u32,
-    writes: bool,
+    reading: Reading,
 ) -> io::Result<Duration>
     requires some { 0 < length keys.now }
 {
@@ -107,8 +142,9 @@ fn run_threads<T: Threads + Wait + Sync>(
             requires some { 0 < length keys.now }
         {
             let start = Instant::now(rt)?;
-            let mut handles = start_all(scope, rt.alloc(), passes, keys, calls, writes)?;
-            let read = join_down_to(threads, &mut handles, usize::from(writes));
+            let mut handles = start_all(scope, rt.alloc(), passes, keys, calls, reading)?;
+            let left = writers(reading) as usize;
+            let read = join_down_to(threads, &mut handles, left);
             let elapsed = start.elapsed(rt)?;
             if join_down_to(threads, &mut handles, 0) && read {
                 Ok(elapsed)
@@ -119,21 +155,30 @@ fn run_threads<T: Threads + Wait + Sync>(
     )
 }
 
-// Times so many readers at a map of these keys, and prints their gets a second.
+// What a line adds to the number of threads.
+fn name_of(reading: Reading) -> &'static str {
+    match reading {
+        Reading::Newest => "",
+        Reading::Pinned => ", each with a pin",
+        Reading::BesideWriter => " beside a writer",
+    }
+}
+
+// Times this many readers at a map of these keys, and prints their gets a second.
 fn time_readers<T: Threads + Wait + Sync>(
     rt: &HostRuntime,
     threads: &T,
     keys: &[Key],
     calls: u32,
     readers: u32,
-    writes: bool,
+    reading: Reading,
 ) -> io::Result<()>
     requires some { 0 < length keys.now }
     requires few { readers ≤ 4 }
 {
     let shape = Shape {
         rows: 65_535,
-        passes: readers + u32::from(writes),
+        passes: readers + writers(reading),
         format: Format::One,
     };
     let (store, seats) = opened(rt.alloc(), shape)?;
@@ -144,15 +189,15 @@ fn time_readers<T: Threads + Wait + Sync>(
     if !calls::fill(first, keys) {
         return Err(io::ErrorKind::Other.into());
     }
-    let elapsed = run_threads(rt, threads, passes, keys, calls, writes)?;
+    let elapsed = run_threads(rt, threads, passes, keys, calls, reading)?;
     let each = nanos(elapsed).max(1);
     let rate = u64::from(calls) * u64::from(readers) * 1_000_000 / (each / 1_000).max(1);
-    let beside = if writes { " beside a writer" } else { "" };
-    let count = keys.len();
-    println!(rt; "gets of {readers} threads{beside}: {count} keys, {rate} a second in all")
+    let (name, count) = (name_of(reading), keys.len());
+    println!(rt; "gets of {readers} threads{name}: {count} keys, {rate} a second in all")
 }
 
-/// Times one to four readers, each on a thread of its own, without and with a writer.
+/// Times one to four readers, each on a thread of its own: of the newest version, of versions that
+/// stay pinned, and of the newest one beside a writer.
 pub fn run<T: Threads + Wait + Sync>(
     rt: &HostRuntime,
     threads: &T,
@@ -162,8 +207,9 @@ pub fn run<T: Threads + Wait + Sync>(
     requires some { 0 < length keys.now }
 {
     for readers in 1..=MOST_READERS {
-        time_readers(rt, threads, keys, calls, readers, false)?;
-        time_readers(rt, threads, keys, calls, readers, true)?;
+        time_readers(rt, threads, keys, calls, readers, Reading::Newest)?;
+        time_readers(rt, threads, keys, calls, readers, Reading::Pinned)?;
+        time_readers(rt, threads, keys, calls, readers, Reading::BesideWriter)?;
     }
     Ok(())
 }
