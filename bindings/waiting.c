@@ -3,7 +3,7 @@
  * for twice as long; then it gives the processor up a few times; then it sleeps, from a microsecond
  * up to a millisecond. So a short wait ends at once, and a long one takes no processor from the
  * pass that has the turn. A sleep is an eighth longer than the one before, and so a small part of
- * the wait so far: who waits does not fall far behind those who do not.
+ * the wait so far: one that waits does not fall far behind those that do not.
  */
 #define _POSIX_C_SOURCE 200112L
 #include "mst_store.h"
