@@ -39,12 +39,14 @@ applies_all splits edits places ps qs are steps = record {
 pub stops_applying : (splits : List (List ℕ)) (edits : List Edit) (places : List ℕ)
     (ps qs : List Known) (stop : ℕ) (fault : ApplyFault)
     → places ≡ map (λ e. place splits (key_of e)) edits → stop < length ps
+    → 0 < length (picked places edits stop)
     → StepsFrom (StopsAt stop (λ at. AppliesPart (picked places edits at))
     (RefusesBatch fault (picked places edits stop))) 0 ps qs
     → StopsApplying stop fault edits (sharding splits ps) (sharding splits qs)
-stops_applying splits edits places ps qs stop fault are there steps = record {
+stops_applying splits edits places ps qs stop fault are there some steps = record {
   splits = refl;
   there = there;
+  some = subst (λ (part : List Edit). 0 < length part) (part_is splits edits places stop are) some;
   steps = steps_weaker (StopsAt stop (λ at. AppliesPart (picked places edits at))
       (RefusesBatch fault (picked places edits stop)))
       (StopsAt stop (λ at. AppliesPart (edits_at splits edits at))

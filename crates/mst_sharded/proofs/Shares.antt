@@ -8,8 +8,14 @@ use Rattle.mst_key.specs.declared.history.Change.{Change}
 use Rattle.mst_store.specs.Migrating.{RefusesMigration}
 use Rattle.mst_store.specs.declared.faults.MigrateFault.{MigrateFault}
 use Rattle.mst_store.specs.declared.faults.MigrateFault.TheVariants as migrate
+use Rattle.mst_key.specs.declared.history.Edit.{Edit}
+use Rattle.mst_store.specs.Applying.{RefusesBatch}
+use Rattle.mst_store.specs.declared.faults.ApplyFault.{ApplyFault}
+use Rattle.mst_store.specs.declared.faults.ApplyFault.TheVariants as apply
 use Rattle.mst_sharded.specs.declared.faults.StoppedMigration.{StoppedMigration}
-use Rattle.mst_sharded.specs.Applying.{Migrates, StepsFrom, StopsAt}
+use Rattle.mst_sharded.specs.declared.faults.SpreadFault.{SpreadFault}
+use Rattle.mst_sharded.specs.declared.faults.SpreadFault.TheVariants as spread
+use Rattle.mst_sharded.specs.Applying.{edits_at, AppliesPart, Migrates, StepsFrom, StopsAt, AppliesAll, RefusesEdits}
 use Rattle.mst_key.specs.History.{had}
 use Rattle.mst_store.specs.Passes.{StoreId, Known, HasShape, Wrote, Refuses, made_by, new_pass}
 use Rattle.mst_store.specs.declared.faults.WriteFault.{WriteFault}
@@ -264,6 +270,35 @@ moved_own (Err stopped) stores to ps qs ok err own =
     steps_own (StopsAt stopped.shard (λ at. Migrates to) (RefusesMigration stopped.fault to)) 0 ps
     qs (stops_own stopped.shard (λ at. Migrates to) (RefusesMigration stopped.fault to)
     (λ at p q m. m.1.same.0) (kept_own stopped.fault to)) err ∙ own
+
+part_own : (edits : List Edit) (p q : Known) → AppliesPart edits p q → q.store ≡ p.store
+part_own [] p q is = ap store is
+part_own (e ∷ edits) p q w = w.same.0
+
+unmade_own : (fault : ApplyFault) (edits : List Edit) (p q : Known) → RefusesBatch fault edits p q
+    → q.store ≡ p.store
+unmade_own apply.Busy edits p q r = ap store r.0
+unmade_own apply.VersionsSpent edits p q r = r.0.same.0
+unmade_own (apply.Memory refused) edits p q r = r.0.same.0
+unmade_own apply.NoRoom edits p q r = r.0.same.0
+
+pub applied_own : (r : Result (Unit {0}) SpreadFault) (stores : List StoreId) (edits : List Edit)
+    (splits : List (List ℕ)) (ps qs : List Known)
+    → OnOk r (AppliesAll edits (sharding splits ps) (sharding splits qs))
+    → IfErr r (λ fault. RefusesEdits fault edits (sharding splits ps) (sharding splits qs))
+    → AreOf stores ps → AreOf stores qs
+applied_own (Ok done) stores edits splits ps qs ok err own =
+    steps_own (λ at. AppliesPart (edits_at splits edits at)) 0 ps qs
+    (λ at p q made. part_own (edits_at splits edits at) p q made) ok.steps ∙ own
+applied_own (Err (spread.Memory refused)) stores edits splits ps qs ok err own =
+    ap (λ (h : Sharding). map store h.shards) err ∙ own
+applied_own (Err (spread.Shard stop fault)) stores edits splits ps qs ok err own =
+    steps_own (StopsAt stop (λ at. AppliesPart (edits_at splits edits at))
+    (RefusesBatch fault (edits_at splits edits stop))) 0 ps qs
+    (stops_own stop (λ at. AppliesPart (edits_at splits edits at))
+    (RefusesBatch fault (edits_at splits edits stop))
+    (λ at p q made. part_own (edits_at splits edits at) p q made)
+    (unmade_own fault (edits_at splits edits stop))) err.steps ∙ own
 
 -- the same of lists by other names
 pub renamed : (P : Sharding → Sharding → Type 0) (splits others : List (List ℕ))

@@ -1,5 +1,5 @@
 -- A batch of edits of a sharded map, and a migration: one shard after the other.
-use Rattle.std.specs.Prelude.{◌≡◌, ◌<◌, ◌==◌, ℕ, suc, if◌then◌else◌, List, [], ◌∷◌, filter, length}
+use Rattle.std.specs.Prelude.{◌≡◌, ◌<◌, ◌==◌, ℕ, suc, nat_le, if◌then◌else◌, List, [], ◌∷◌, filter, length}
 use Rattle.mst_key.specs.declared.format.Format.{Format}
 use Rattle.mst_key.specs.declared.history.Change.TheVariants.{Batch, Migrate}
 use Rattle.mst_key.specs.declared.history.Edit.{Edit}
@@ -17,6 +17,10 @@ use Rattle.mst_sharded.specs.declared.faults.SpreadFault.TheVariants.{Memory, Sh
 -- the edits of one shard, in their order
 abbrev pub edits_at : List (List ℕ) → List Edit → ℕ → List Edit
 edits_at splits edits i = filter (λ e. place splits (key_of e) == i) edits
+
+-- the edits of the shards from this one on, in their order
+abbrev pub edits_behind : List (List ℕ) → List Edit → ℕ → List Edit
+edits_behind splits edits from = filter (λ e. nat_le from (place splits (key_of e))) edits
 
 -- of edits, each with a place, those whose place is this one, in their order
 abbrev pub picked : List ℕ → List Edit → ℕ → List Edit
@@ -61,11 +65,12 @@ pub record HasEdited (edits : List Edit) (k : List ℕ) (p q : Known) : Type 0 w
   pub value : map_get (after q.seen) k ≡ value_after edits k (map_get (after log) k)
 
 -- the shards before this one made their edits, this one was refused its own, and those behind it
--- were not tried
+-- were not tried. A shard with no edits refuses none
 pub record StopsApplying (stop : ℕ) (fault : ApplyFault) (edits : List Edit) (h i : Sharding)
     : Type 0 where
   pub splits : i.splits ≡ h.splits
   pub there : stop < length h.shards
+  pub some : 0 < length (edits_at h.splits edits stop)
   pub steps : StepsFrom (StopsAt stop (λ at. AppliesPart (edits_at h.splits edits at))
       (RefusesBatch fault (edits_at h.splits edits stop))) 0 h.shards i.shards
 

@@ -1,11 +1,11 @@
 //! A batch of edits of a sharded map, and its migration: one shard after the other.
-ghost use Rattle.std.specs.Prelude.{◌≡◌, ◌==◌, ◌<◌, ◌≤◌, ◌+◌, ◌++◌, if◌then◌else◌, [], ◌∷◌, map, length, vec_len, vec_capacity, IfOk, IfErr, OnOk};
+ghost use Rattle.std.specs.Prelude.{◌≡◌, ◌==◌, ◌<◌, ◌≤◌, ◌+◌, ◌++◌, nat_le, if◌then◌else◌, [], ◌∷◌, map, length, vec_len, vec_capacity, IfOk, IfErr, OnOk, OnErr};
 ghost use Rattle.mst_key.specs.History.{key_of};
 ghost use Rattle.mst_store.specs.Applying.{RefusesBatch};
 ghost use Rattle.mst_store.specs.Migrating.{RefusesMigration};
 ghost use Rattle.mst_sharded_proof.specs.Shards.{least, AreSplits};
 ghost use Rattle.mst_sharded.specs.Sharding.{sharding, AllStep, SeesMore, place as place_in};
-ghost use Rattle.mst_sharded.specs.Applying.{picked, AppliesPart, Migrates, StepsFrom, StopsAt, AppliesAll, RefusesEdits, MigratesAll, StopsMigrating};
+ghost use Rattle.mst_sharded.specs.Applying.{edits_behind, picked, AppliesPart, Migrates, StepsFrom, StopsAt, AppliesAll, RefusesEdits, MigratesAll, StopsMigrating};
 
 use crate::faults::{SpreadFault, StoppedMigration};
 use crate::handle::Handle;
@@ -41,11 +41,42 @@ fn places_of<C: Allocator>(
     Ok(places)
 }
 
-// A list with room for so many edits.
+// An empty list with room for so many edits.
 fn room_for_edits<C: Allocator>(alloc: C, count: usize) -> Result<Vec<Edit, C>, Memory>
+    ensures empty { IfOk result (λ list. list.items ≡ []) }
     ensures room { IfOk result (λ list. count ≤ vec_capacity list) }
 {
     Ok(Vec::with_capacity(alloc, count)?)
+}
+
+// Adds a copy of an edit to those that are left, if its place is this one or one behind it.
+fn keep_one<C: Allocator>(left: &mut Vec<Edit, C>, edit: &Edit, place: usize, from: usize)
+    requires room { vec_len left.old < vec_capacity left.old }
+    ensures left { left.new.items
+        ≡ left.old.items ++ (if nat_le from place then edit.now ∷ [] else []) }
+    ensures len { vec_len left.new ≤ vec_len left.old + 1 }
+    ensures room { vec_capacity left.new ≡ vec_capacity left.old }
+{
+    if from <= place {
+        left.push_reserved(copied(edit));
+    }
+}
+
+// Copies of the edits whose shard is that of the place or one behind it, in their order.
+pub(crate) fn left_from<C: Allocator>(
+    alloc: C,
+    splits: &[Key],
+    edits: &[Edit],
+    from: usize,
+) -> Result<Vec<Edit, C>, Memory>
+    requires rising { AreSplits least splits.now }
+    ensures left { IfOk result (λ left. left.items ≡ edits_behind splits.now edits.now from) }
+{
+    let mut left = room_for_edits(alloc, edits.len())?;
+    for edit in edits {
+        keep_one(&mut left, edit, place_of(splits, edit.key()), from);
+    }
+    Ok(left)
 }
 
 // Adds a copy of an edit to those of a shard, if the edit's place is that of the shard.
@@ -82,6 +113,7 @@ fn apply_part<A: Allocator + Copy, C: Allocator + Copy>(
 ) -> Result<(), ApplyFault>
     ensures ok { OnOk result (AppliesPart part.now pass.old pass.new) }
     ensures err { IfErr result (λ fault. RefusesBatch fault part.now pass.old pass.new) }
+    ensures some { OnErr result (0 < length part.now) }
 {
     match part {
         [] => Ok(()),
@@ -104,6 +136,8 @@ fn apply_parts<'a, A: Allocator + Copy, B: Allocator, C: Allocator + Copy>(
         (StepsFrom (λ at. AppliesPart (picked places.now edits.now at)) 0 passes.old.items
         passes.new.items) }
     ensures there { IfErr result (λ stopped. stopped.0 < length passes.old.items) }
+    ensures some { IfErr result
+        (λ stopped. 0 < length (picked places.now edits.now stopped.0)) }
     ensures err { IfErr result (λ stopped.
         StepsFrom (StopsAt stopped.0 (λ at. AppliesPart (picked places.now edits.now at))
         (RefusesBatch stopped.1 (picked places.now edits.now stopped.0))) 0 passes.old.items
@@ -159,7 +193,7 @@ fn prepare<C: Allocator + Copy>(
 }
 
 // Makes the edits, those of each shard in turn.
-fn spread<'a, A: Allocator + Copy, B: Allocator, C: Allocator + Copy>(
+pub(crate) fn spread<'a, A: Allocator + Copy, B: Allocator, C: Allocator + Copy>(
     passes: &mut Vec<Pass<'a, A>, B>,
     alloc: C,
     splits: &[Key],

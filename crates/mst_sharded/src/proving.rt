@@ -139,9 +139,9 @@ impl<'a, A: Allocator + Copy, B: Allocator> Snapshot<'a, A, B> {
     /// pairs of the map. Only shards that have changed since the handle's last such call are looked
     /// at, and if none has it takes no memory.
     ///
-    /// Returns `Mixed` exactly if two shards are in different formats. Otherwise returns `Stray`
-    /// only if a shard has a key outside of its interval, `VersionsSpent` only if the handle's
-    /// directory cannot change any more, and `Memory` only if a growth was refused.
+    /// Returns `Mixed` only if two shards are in different formats, `Stray` only if a shard has a
+    /// key outside of its interval, `VersionsSpent` if the handle's directory cannot change any
+    /// more, and `Memory` if a growth was refused.
     pub fn root<C: Allocator + Copy>(&mut self, alloc: C) -> Result<[u8; 32], DirectoryFault>
         ensures ok { IfOk result (λ digest. OfClean
             (λ format m. HasShardedRoot format m self.old.splits digest) self.old) }

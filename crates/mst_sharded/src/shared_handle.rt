@@ -5,15 +5,15 @@ ghost use Rattle.mst_key.specs.History.{had};
 ghost use Rattle.mst_key.specs.Map.{map_get};
 ghost use Rattle.mst_store.specs.Passes.{Answers, made_by, Wrote, Refuses};
 ghost use Rattle.mst_sharded.specs.Sharding.{Routes, PinsAll};
-ghost use Rattle.mst_sharded.specs.Applying.{MigratesAll};
+ghost use Rattle.mst_sharded.specs.Applying.{edits_behind, AppliesAll, RefusesEdits, MigratesAll};
 ghost use Rattle.mst_sharded.specs.Shared.{RefusesMoves};
 
-use crate::applying::migrate_all;
-use crate::faults::MoveFault;
+use crate::applying::{left_from, migrate_all, spread};
+use crate::faults::{MoveFault, SpreadFault};
 use crate::moving::{lay_all, lay_at, lift_all, lift_at, pin_laid};
 use crate::place::place_of;
 use crate::shared::{SharedHandle, SharedSnapshot};
-use mst_key::{Format, Key, Memory, Value};
+use mst_key::{Edit, Format, Key, Memory, Value};
 use mst_store::{Pass, WriteFault};
 use std::alloc::Allocator;
 use std::mem::replace;
@@ -97,6 +97,55 @@ impl<A: Allocator + Copy> SharedHandle<A> {
             Ok(()) => Ok(()),
             Err(stopped) => Err(MoveFault::Shard(stopped)),
         }
+    }
+
+    /// Makes the edits of the shards from a place on, from 0, as
+    /// [`Handle::try_apply`](crate::Handle::try_apply) makes all: with the place 0 these are all
+    /// edits. Those of shards before it are passed over.
+    ///
+    /// Returns `Memory` if a list of the edits or of the passes was refused memory; no shard was
+    /// changed or read then. Returns `Shard` with a place and a fault if that shard was refused its
+    /// edits. The call with the same edits from that place on makes those that are left, and none
+    /// again.
+    pub fn try_apply(
+        self,
+        alloc: A,
+        edits: &[Edit],
+        from: usize,
+    ) -> (SharedHandle<A>, Result<(), SpreadFault>)
+        ensures ok { OnOk result.1
+            (AppliesAll (edits_behind self.splits edits.now from) self result.0) }
+        ensures err { IfErr result.1
+            (λ fault. RefusesEdits fault (edits_behind self.splits edits.now from) self result.0) }
+    {
+        let left = match left_from(alloc, self.map.split_keys(), edits, from) {
+            Ok(left) => left,
+            Err(refused) => return (self, Err(SpreadFault::Memory(refused))),
+        };
+        let space = match room_for_passes(alloc, self.passes.len()) {
+            Ok(space) => space,
+            Err(refused) => return (self, Err(SpreadFault::Memory(refused))),
+        };
+        let SharedHandle {
+            map,
+            number,
+            passes: laid,
+            directory,
+            room,
+        } = self;
+        let (mut passes, space) = lift_all(map.shard_stores(), laid, space);
+        let applied = spread(&mut passes, alloc, map.split_keys(), left.as_slice());
+        let passes = lay_all(passes, space);
+        (
+            SharedHandle {
+                map,
+                number,
+                passes,
+                directory,
+                room,
+            },
+            applied,
+        )
     }
 
     /// As [`Handle::snapshot`](crate::Handle::snapshot). It takes no memory.

@@ -1,4 +1,4 @@
-use Rattle.std.proofs.Common.{◌∙◌, List, vec_items, subst, arith}
+use Rattle.std.proofs.Common.{◌∙◌, ◌<◌, List, length, vec_items, subst, arith}
 use Rattle.mst_key.specs.declared.history.Edit.{Edit}
 use Rattle.mst_store.specs.Applying.{RefusesBatch}
 use Rattle.mst_sharded.specs.Applying.{picked, AppliesPart}
@@ -41,6 +41,11 @@ returns-in-Err-clause-err g c =
     (subst (λ (part : List Edit). RefusesBatch c.in-Err.fault part c.index_mut.result.now
     c.apply_part.new.pass) (c.as_slice.ensures.value ∙ c.pick.ensures.picked)
     c.in-Err.ensures.err) c.loop-shard.invariant.0
+
+pub returns-in-Err-clause-some : goal.returns-in-Err-clause-some
+returns-in-Err-clause-some g c =
+    subst (λ (part : List Edit). 0 < length part)
+    (c.as_slice.ensures.value ∙ c.pick.ensures.picked) c.in-Err.ensures.some
 
 pub returns-in-Err-clause-more : goal.returns-in-Err-clause-more
 returns-in-Err-clause-more g c =

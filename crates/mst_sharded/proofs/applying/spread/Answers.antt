@@ -18,4 +18,4 @@ returns-clause-err g c =
     (vec_items c.args.passes.now) (vec_items c.apply_parts.new.passes)
     c.in-Err-apply_parts.shard c.in-Err-apply_parts.fault
     (c.as_slice.ensures.value ∙ c.in-Ok.ensures.places) c.in-Err-apply_parts.ensures.there
-    c.in-Err-apply_parts.ensures.err
+    c.in-Err-apply_parts.ensures.some c.in-Err-apply_parts.ensures.err
