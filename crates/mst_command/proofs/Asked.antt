@@ -6,16 +6,16 @@ use Rattle.std.specs.declared.alloc.Global.{Global}
 use Rattle.std.proofs.lemmas.Bool.{false≢true}
 use Rattle.std.proofs.lemmas.Option.{none-some, same_Some}
 use denote.Ref.{Bor}
-use Rattle.mst_command.specs.Commanding.{AsksFor, Ends, EndsWords, IsDevice, IsPlain, NamesShape, ProofWords, Unread, Untouched, status_of, told, asks_replay, asks_verify, verified_words}
+use Rattle.mst_command.specs.Commanding.{AsksFor, Ends, EndsWords, IsDevice, IsPlain, NamesShape, ProofWords, Unread, Untouched, status_of, told, asks_replay, asks_verify, splits_in, verified_words}
 use Rattle.mst_command.specs.Loading.{IsLoadOf, RanLoad, asks_load}
 use Rattle.mst_devices.specs.Device.{Breaks}
-use Rattle.mst_command.specs.Programs.{RanScript, RanReplay, RanVerify, Did, Helped, HasBadShape, HasBadRoot, HasBadKey, IsBad, Comes}
+use Rattle.mst_command.specs.Programs.{RanScript, RanSharded, RanReplay, RanVerify, Did, Helped, HasBadShape, HasBadSplits, HasBadRoot, HasBadKey, IsBad, Comes}
 use Rattle.mst_command.specs.declared.task.Task.{Task}
-use Rattle.mst_command.specs.declared.task.Task.TheVariants.{Run, Verify, UnknownFormat, Replay, Load, Help}
+use Rattle.mst_command.specs.declared.task.Task.TheVariants.{Run, RunSharded, Verify, UnknownFormat, Replay, Load, Help}
 use Rattle.mst_command.specs.declared.task.Ending.{Ending}
 use Rattle.mst_command.specs.declared.task.Ending.TheVariants.{Done}
 use Rattle.mst_command.specs.declared.task.Refusal.{Refusal}
-use Rattle.mst_command.specs.declared.task.Refusal.TheVariants.{Words, NotText, Shape, BadRoot, BadKey, Device, Memory}
+use Rattle.mst_command.specs.declared.task.Refusal.TheVariants.{Words, NotText, Shape, Splits, BadRoot, BadKey, Device, Memory}
 
 module _ {S W : Type 0} (gives : S → List ℕ → S → Type 0) (left : S → ℕ)
     (takes : W → List ℕ → W → Type 0) (words : List (Bor (List ℕ))) where
@@ -34,21 +34,51 @@ module _ {S W : Type 0} (gives : S → List ℕ → S → Type 0) (left : S → 
 
   pub asked_script : (task : Task) (r : Result Ending Refusal) (s t : S) (w x : W)
       → AsksFor words task → IfOk r (λ ending. Did gives left takes task s w ending t x)
-      → asks_replay words ≡ false → asks_verify words ≡ None → asks_load words ≡ false →
+      → asks_replay words ≡ false → asks_verify words ≡ None → asks_load words ≡ false
+      → splits_in words ≡ None →
       OnOk r (((shape : _) × NamesShape words shape × RanScript gives takes shape s w t x
       × (left t ≡ 0)) ⊎ Helped takes words s w t x)
-  asked_script (Run shape) (Ok ending) s t w x asked did is none other =
-      inl (shape, asked.2, did.0, did.1)
-  asked_script (Verify kind format root key) (Ok ending) s t w x asked did is none other =
+  asked_script (Run shape) (Ok ending) s t w x asked did is none other one =
+      inl (shape, asked.2.0, did.0, did.1)
+  asked_script (RunSharded shape word) (Ok ending) s t w x asked did is none other one =
+      absurd (none-some word.now (sym one ∙ asked.2.1))
+  asked_script (Verify kind format root key) (Ok ending) s t w x asked did is none other one =
       absurd (none-some (kind, Some format, root.now, key.now) (sym none ∙ sym asked.1))
-  asked_script UnknownFormat (Ok ending) s t w x asked did is none other = absurd did
-  asked_script Replay (Ok ending) s t w x asked did is none other =
+  asked_script UnknownFormat (Ok ending) s t w x asked did is none other one = absurd did
+  asked_script Replay (Ok ending) s t w x asked did is none other one =
       absurd (false≢true (sym (asked.0 ∙ is)))
-  asked_script (Load size) (Ok ending) s t w x asked did is none other =
+  asked_script (Load size) (Ok ending) s t w x asked did is none other one =
       absurd (false≢true (sym (asked.3 ∙ other)))
-  asked_script (Help text) (Ok ending) s t w x asked did is none other =
+  asked_script (Help text) (Ok ending) s t w x asked did is none other one =
       inr (helped text s t w x asked did.0 did.1)
-  asked_script task (Err why) s t w x asked did is none other = tt
+  asked_script task (Err why) s t w x asked did is none other one = tt
+
+  pub asked_sharded : (task : Task) (r : Result Ending Refusal) (s t : S) (w x : W)
+      → AsksFor words task → IfOk r (λ ending. Did gives left takes task s w ending t x)
+      → asks_replay words ≡ false → asks_verify words ≡ None → asks_load words ≡ false
+      → (word : List ℕ) → splits_in words ≡ Some word →
+      OnOk r (((shape : _) × NamesShape words shape × RanSharded gives takes shape word s w t x
+      × (left t ≡ 0)) ⊎ Helped takes words s w t x)
+  asked_sharded (Run shape) (Ok ending) s t w x asked did is none other word one =
+      absurd (none-some word (sym asked.2.1 ∙ one))
+  asked_sharded (RunSharded shape splits) (Ok ending) s t w x asked did is none other word one =
+      inl (
+        shape,
+        asked.2.0,
+        subst (λ (text : List ℕ). RanSharded gives takes shape text s w t x)
+            (same_Some splits.now word (sym asked.2.1 ∙ one)) did.0,
+        did.1,
+      )
+  asked_sharded (Verify kind format root key) (Ok ending) s t w x asked did is none other word one =
+      absurd (none-some (kind, Some format, root.now, key.now) (sym none ∙ sym asked.1))
+  asked_sharded UnknownFormat (Ok ending) s t w x asked did is none other word one = absurd did
+  asked_sharded Replay (Ok ending) s t w x asked did is none other word one =
+      absurd (false≢true (sym (asked.0 ∙ is)))
+  asked_sharded (Load size) (Ok ending) s t w x asked did is none other word one =
+      absurd (false≢true (sym (asked.3 ∙ other)))
+  asked_sharded (Help text) (Ok ending) s t w x asked did is none other word one =
+      inr (helped text s t w x asked did.0 did.1)
+  asked_sharded task (Err why) s t w x asked did is none other word one = tt
 
   pub asked_load : (task : Task) (r : Result Ending Refusal) (s t : S) (w x : W)
       → AsksFor words task → IfOk r (λ ending. Did gives left takes task s w ending t x)
@@ -56,6 +86,8 @@ module _ {S W : Type 0} (gives : S → List ℕ → S → Type 0) (left : S → 
       OnOk r (((size : _) × IsLoadOf words size × RanLoad takes size w x × (t ≡ s))
       ⊎ Helped takes words s w t x)
   asked_load (Run shape) (Ok ending) s t w x asked did is = absurd (false≢true (asked.3 ∙ is))
+  asked_load (RunSharded shape splits) (Ok ending) s t w x asked did is =
+      absurd (false≢true (asked.3 ∙ is))
   asked_load (Verify kind format root key) (Ok ending) s t w x asked did is =
       absurd (false≢true (asked.3 ∙ is))
   asked_load UnknownFormat (Ok ending) s t w x asked did is = absurd did
@@ -70,6 +102,8 @@ module _ {S W : Type 0} (gives : S → List ℕ → S → Type 0) (left : S → 
       → asks_replay words ≡ true →
       OnOk r ((RanReplay gives takes s w t x × (left t ≡ 0)) ⊎ Helped takes words s w t x)
   asked_replay (Run shape) (Ok ending) s t w x asked did is = absurd (false≢true (asked.0 ∙ is))
+  asked_replay (RunSharded shape splits) (Ok ending) s t w x asked did is =
+      absurd (false≢true (asked.0 ∙ is))
   asked_replay (Verify kind format root key) (Ok ending) s t w x asked did is =
       absurd (false≢true (asked.0 ∙ is))
   asked_replay UnknownFormat (Ok ending) s t w x asked did is = absurd did
@@ -84,6 +118,8 @@ module _ {S W : Type 0} (gives : S → List ℕ → S → Type 0) (left : S → 
       IfOk r (λ ending. (named : _) → asks_verify words ≡ Some named → RanVerify gives left takes
       named s w ending t x ⊎ (Helped takes words s w t x × (ending ≡ Done)))
   asked_verify (Run shape) (Ok ending) s t w x asked did =
+      λ named is. absurd (none-some named (asked.1 ∙ is))
+  asked_verify (RunSharded shape splits) (Ok ending) s t w x asked did =
       λ named is. absurd (none-some named (asked.1 ∙ is))
   asked_verify (Verify kind format root key) (Ok ending) s t w x asked did =
       λ named is. inl
@@ -102,6 +138,7 @@ module _ {S W : Type 0} (gives : S → List ℕ → S → Type 0) (left : S → 
       → AsksFor words task → IfOk r (λ ending. Did gives left takes task s w ending t x) →
       IfOk r (λ ending. asks_verify words ≡ None → ending ≡ Done)
   asked_others (Run shape) (Ok ending) s t w x asked did = λ none. did.2
+  asked_others (RunSharded shape splits) (Ok ending) s t w x asked did = λ none. did.2
   asked_others (Verify kind format root key) (Ok ending) s t w x asked did =
       λ none. absurd (none-some (kind, Some format, root.now, key.now) (sym none ∙ sym asked.1))
   asked_others UnknownFormat (Ok ending) s t w x asked did = absurd did
@@ -114,6 +151,7 @@ module _ {S W : Type 0} (gives : S → List ℕ → S → Type 0) (left : S → 
 pub not_verified : (words : List (Bor (List ℕ))) (task : Task) → AsksFor words task
     → asks_verify words ≡ None → verified_words task ≡ None
 not_verified words (Run shape) asked none = refl
+not_verified words (RunSharded shape splits) asked none = refl
 not_verified words (Verify kind format root key) asked none = asked.1 ∙ none
 not_verified words UnknownFormat asked none = refl
 not_verified words Replay asked none = refl
@@ -125,6 +163,7 @@ pub words_device : (why : Refusal) → EndsWords why → (n : ℕ) → IsDevice 
 words_device (Words text) h n = refl
 words_device NotText h n = absurd h
 words_device Shape h n = absurd h
+words_device Splits h n = absurd h
 words_device BadRoot h n = absurd h
 words_device BadKey h n = absurd h
 words_device Device h n = absurd h
@@ -134,6 +173,7 @@ pub still_unread : {S : Type 0} (why : Refusal) (s : S) → Unread why s s
 still_unread (Words text) s = refl
 still_unread NotText s = refl
 still_unread Shape s = refl
+still_unread Splits s = refl
 still_unread BadRoot s = refl
 still_unread BadKey s = refl
 still_unread Device s = tt
@@ -143,6 +183,7 @@ pub still_untouched : {S : Type 0} (why : Refusal) (s : S) → Untouched why s s
 still_untouched (Words text) s = refl
 still_untouched NotText s = refl
 still_untouched Shape s = refl
+still_untouched Splits s = refl
 still_untouched BadRoot s = refl
 still_untouched BadKey s = refl
 still_untouched Device s = tt
@@ -165,6 +206,8 @@ not_bad task r shape root key a b c = λ bad. elim bad [
 no_words : (task : Task) (why : Refusal) → Ends task why → EndsOfWords why → ⊥
 no_words (Run shape) (Words text) ends of = ends
 no_words (Run shape) NotText ends of = ends
+no_words (RunSharded shape splits) (Words text) ends of = ends
+no_words (RunSharded shape splits) NotText ends of = ends
 no_words (Verify kind format root key) (Words text) ends of = ends
 no_words (Verify kind format root key) NotText ends of = ends
 no_words UnknownFormat (Words text) ends of = ends
@@ -176,6 +219,7 @@ no_words (Load size) NotText ends of = ends
 no_words (Help text) (Words said) ends of = ends
 no_words (Help text) NotText ends of = ends
 no_words task Shape ends of = of
+no_words task Splits ends of = of
 no_words task BadRoot ends of = of
 no_words task BadKey ends of = of
 no_words task Device ends of = of
@@ -183,19 +227,21 @@ no_words task (Memory refused) ends of = of
 
 -- a task that is cut short is so for a reason that is possible
 pub task_comes : (words : List (Bor (List ℕ))) (task : Task) (r : Result Ending Refusal)
-    → AsksFor words task → IsErrOf r Shape ↔ HasBadShape task → IsErrOf r BadRoot ↔ HasBadRoot task
+    → AsksFor words task → IsErrOf r Shape ↔ HasBadShape task
+    → (IsErrOf r Splits → HasBadSplits task) → IsErrOf r BadRoot ↔ HasBadRoot task
     → IsErrOf r BadKey ↔ HasBadKey task →
     IfErr r (λ why. Ends task why) → IfErr r (λ why. Comes words why)
-task_comes words task (Ok ending) asked shape root key ends = tt
-task_comes words task (Err (Words text)) asked shape root key ends =
+task_comes words task (Ok ending) asked shape splits root key ends = tt
+task_comes words task (Err (Words text)) asked shape splits root key ends =
     absurd (no_words task (Words text) ends tt)
-task_comes words task (Err NotText) asked shape root key ends =
+task_comes words task (Err NotText) asked shape splits root key ends =
     absurd (no_words task NotText ends tt)
-task_comes words task (Err Shape) asked shape root key ends = (task, asked, shape.0 refl)
-task_comes words task (Err BadRoot) asked shape root key ends = (task, asked, root.0 refl)
-task_comes words task (Err BadKey) asked shape root key ends = (task, asked, key.0 refl)
-task_comes words task (Err Device) asked shape root key ends = tt
-task_comes words task (Err (Memory refused)) asked shape root key ends =
+task_comes words task (Err Shape) asked shape splits root key ends = (task, asked, shape.0 refl)
+task_comes words task (Err Splits) asked shape splits root key ends = (task, asked, splits refl)
+task_comes words task (Err BadRoot) asked shape splits root key ends = (task, asked, root.0 refl)
+task_comes words task (Err BadKey) asked shape splits root key ends = (task, asked, key.0 refl)
+task_comes words task (Err Device) asked shape splits root key ends = tt
+task_comes words task (Err (Memory refused)) asked shape splits root key ends =
     λ plain. (
       task,
       asked,
@@ -209,6 +255,7 @@ pub words_come : (words : List (Bor (List ℕ))) (why : Refusal) → EndsWords w
 words_come words (Words text) h other = other
 words_come words NotText h other = absurd h
 words_come words Shape h other = absurd h
+words_come words Splits h other = absurd h
 words_come words BadRoot h other = absurd h
 words_come words BadKey h other = absurd h
 words_come words Device h other = absurd h
@@ -220,6 +267,7 @@ pub no_device : (why : Refusal) → EndsWords why
 no_device (Words text) h is = cc
 no_device NotText h is = h
 no_device Shape h is = h
+no_device Splits h is = h
 no_device BadRoot h is = h
 no_device BadKey h is = h
 no_device Device h is = h
@@ -229,6 +277,7 @@ only_device : (why : Refusal) → status_of why ≡ 3 → why ≡ Device
 only_device (Words text) is = absurd (omega (arith, is))
 only_device NotText is = absurd (omega (arith, is))
 only_device Shape is = absurd (omega (arith, is))
+only_device Splits is = absurd (omega (arith, is))
 only_device BadRoot is = absurd (omega (arith, is))
 only_device BadKey is = absurd (omega (arith, is))
 only_device Device is = refl

@@ -2,4 +2,6 @@ pub mod Asked
 mod Ends
 pub mod Fresh
 mod Inputs
+pub mod Opening
 pub mod PlainWords
+pub mod Splitting

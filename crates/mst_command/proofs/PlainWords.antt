@@ -11,15 +11,16 @@ use Rattle.std.proofs.lemmas.Slice.Eq.{bytes_eq-Decides}
 use denote.Ref.{Bor}
 use mir.Val.{of_z, to_z}
 use Rattle.mst_key.specs.declared.format.Format.{Format}
+use Rattle.mst_words.specs.declared.view.Shape.{Shape}
 use Rattle.mst_report.specs.declared.report.ProofKind.{ProofKind}
 use Rattle.mst_command.specs.declared.task.Subcommand.TheVariants.{Run as RunWords, Load as LoadWords, Replay as ReplayWords, Verify as VerifyWords}
 use Rattle.mst_command.specs.Options.{IsNumber, are_words_of, format_named, kind_named, operand_at}
-use Rattle.mst_command.specs.Commanding.{AsksFor, IsPlain, IsRunOf, IsSizeIn, ProofWords, asks_replay, asks_run, asks_script, asks_verify, format_in, is_replay_alone, is_whole_verify, value_or}
+use Rattle.mst_command.specs.Commanding.{AsksFor, IsPlain, IsRunOf, IsSizeIn, NamesShape, ProofWords, asks_replay, asks_run, asks_script, asks_verify, format_in, is_replay_alone, is_whole_verify, splits_in, value_or}
 use Rattle.mst_command.specs.declared.task.Size.{Size}
 use Rattle.mst_command.specs.declared.task.Load.{Load as LoadSize}
 use Rattle.mst_command.specs.Loading.{IsLoadIn, IsLoadOf, asks_load, load_options_of, load_words}
 use Rattle.mst_command.specs.declared.task.Task.{Task}
-use Rattle.mst_command.specs.declared.task.Task.TheVariants.{Run, Verify, UnknownFormat, Replay, Load}
+use Rattle.mst_command.specs.declared.task.Task.TheVariants.{Run, RunSharded, Verify, UnknownFormat, Replay, Load}
 
 abbrev Word : Type 0
 Word = Bor (List ℕ)
@@ -153,17 +154,24 @@ module _ (words : List Word) (size : Size) (of : IsRunOf words size) where
   script : IsScript words
   script = run_named words of.0 of.1
 
-  pub script_asked : (format : Format) → format_in words ≡ Some format
-      → AsksFor words (Run (record { rows = size.rows; passes = size.passes; format = format }))
-  script_asked format is = (
-    sym script.0,
-    sym script.1,
-    record { script = script.3; format = is; size = of },
-    sym script.2,
-  )
+  pub script_named : (format : Format) → format_in words ≡ Some format
+      → NamesShape words (record { rows = size.rows; passes = size.passes; format = format })
+  script_named format is = record { script = script.3; format = is; size = of }
 
   pub script_unknown : format_in words ≡ None → AsksFor words UnknownFormat
   script_unknown is = (script.0, script.2, is, inl script.3, inl (size, of))
+
+pub one_asked : (words : List Word) (shape : Shape) → NamesShape words shape
+    → splits_in words ≡ None → AsksFor words (Run shape)
+one_asked words shape names none =
+    let script = run_named words names.size.0 names.size.1 in
+    (sym script.0, sym script.1, (names, none), sym script.2)
+
+pub sharded_asked : (words : List Word) (shape : Shape) (splits : Word) → NamesShape words shape
+    → splits_in words ≡ Some splits.now → AsksFor words (RunSharded shape splits)
+sharded_asked words shape splits names is =
+    let script = run_named words names.size.0 names.size.1 in
+    (sym script.0, sym script.1, (names, is), sym script.2)
 
 pub replay_asked : (words : List Word) → is_replay_alone words ≡ true → AsksFor words Replay
 replay_asked [] is = absurd (false≢true is)

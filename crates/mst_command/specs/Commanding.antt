@@ -10,11 +10,11 @@ use Rattle.mst_words.specs.declared.view.Shape.{Shape}
 use Rattle.mst_command.specs.declared.task.Task.{Task}
 use Rattle.mst_command.specs.declared.task.Size.{Size}
 use Rattle.mst_command.specs.declared.task.Load.{Load as LoadSize}
-use Rattle.mst_command.specs.declared.task.Task.TheVariants.{Run, Verify, UnknownFormat, Replay, Load, Help}
+use Rattle.mst_command.specs.declared.task.Task.TheVariants.{Run, RunSharded, Verify, UnknownFormat, Replay, Load, Help}
 use Rattle.mst_command.specs.declared.task.Ending.{Ending}
 use Rattle.mst_command.specs.declared.task.Ending.TheVariants.{Done, ProofRefused}
 use Rattle.mst_command.specs.declared.task.Refusal.{Refusal}
-use Rattle.mst_command.specs.declared.task.Refusal.TheVariants.{Words, NotText, Shape as BadShape, BadRoot, BadKey, Device, Memory}
+use Rattle.mst_command.specs.declared.task.Refusal.TheVariants.{Words, NotText, Shape as BadShape, Splits, BadRoot, BadKey, Device, Memory}
 use Rattle.mst_command.specs.declared.task.Subcommand.TheVariants.{Run as RunWords, Verify as VerifyWords, Replay as ReplayWords}
 use Rattle.mst_command.specs.Loading.{asks_load, IsLoadOf}
 use Rattle.mst_command.specs.Options.{IsNumber, are_words_of, format_named, kind_named, operand_at, value_of}
@@ -33,6 +33,11 @@ asks_script _ = false
 abbrev pub format_in : List (Bor (List ℕ)) → Option Format
 format_in (program ∷ name ∷ words) = format_named words
 format_in _ = Some One
+
+-- the word for the splits, if the words after the command name one
+abbrev pub splits_in : List (Bor (List ℕ)) → Option (List ℕ)
+splits_in (program ∷ name ∷ words) = value_of (codes "--splits") words
+splits_in _ = None
 
 -- what the words of a proof name: its kind, its format, and the words for the root digest and the
 -- key
@@ -72,7 +77,7 @@ abbrev pub IsRunOf : List (Bor (List ℕ)) → Size → Type 0
 IsRunOf words size =
     (named : List ℕ × List ℕ) × (asks_run words ≡ Some named) × IsSizeIn named size
 
--- the words are those of a script over a store of this shape
+-- the words are those of a script over stores of this shape
 pub record NamesShape (words : List (Bor (List ℕ))) (shape : Shape) : Type 0 where
   pub script : asks_script words ≡ true
   pub format : format_in words ≡ Some shape.format
@@ -119,6 +124,7 @@ AskText words = AskHelp words ⊎ AskVersion words
 
 abbrev pub is_replay : Task → Bool
 is_replay (Run shape) = false
+is_replay (RunSharded shape splits) = false
 is_replay (Verify kind format root key) = false
 is_replay UnknownFormat = false
 is_replay Replay = true
@@ -127,6 +133,7 @@ is_replay (Help text) = false
 
 abbrev pub is_load : Task → Bool
 is_load (Run shape) = false
+is_load (RunSharded shape splits) = false
 is_load (Verify kind format root key) = false
 is_load UnknownFormat = false
 is_load Replay = false
@@ -135,6 +142,7 @@ is_load (Help text) = false
 
 abbrev pub verified_words : Task → Option ProofWords
 verified_words (Run shape) = None
+verified_words (RunSharded shape splits) = None
 verified_words (Verify kind format root key) = Some (kind, Some format, root.now, key.now)
 verified_words UnknownFormat = None
 verified_words Replay = None
@@ -158,7 +166,9 @@ IsTold words text = asks_version_alone words ≡ true → text ≡ version_text
 
 -- the words name this task's numbers and its format, and nothing else
 abbrev pub IsSized : List (Bor (List ℕ)) → Task → Type 0
-IsSized words (Run shape) = NamesShape words shape
+IsSized words (Run shape) = NamesShape words shape × (splits_in words ≡ None)
+IsSized words (RunSharded shape splits) =
+    NamesShape words shape × (splits_in words ≡ Some splits.now)
 IsSized words (Verify kind format root key) = is_whole_verify words ≡ true
 IsSized words Replay = is_replay_alone words ≡ true
 IsSized words (Load size) = IsLoadOf words size
@@ -183,6 +193,14 @@ EndsScript BadShape = Unit {0}
 EndsScript Device = Unit {0}
 EndsScript (Memory refused) = Unit {0}
 EndsScript _ = ⊥
+
+-- how a script over a sharded map may end early
+abbrev pub EndsSharded : Refusal → Type 0
+EndsSharded BadShape = Unit {0}
+EndsSharded Splits = Unit {0}
+EndsSharded Device = Unit {0}
+EndsSharded (Memory refused) = Unit {0}
+EndsSharded _ = ⊥
 
 -- how the judging of a proof may end early
 abbrev pub EndsVerify : Refusal → Type 0
@@ -218,6 +236,7 @@ EndsHelp _ = ⊥
 -- how a task may end early
 abbrev pub Ends : Task → Refusal → Type 0
 Ends (Run shape) why = EndsScript why
+Ends (RunSharded shape splits) why = EndsSharded why
 Ends (Verify kind format root key) why = EndsVerify why
 Ends UnknownFormat why = EndsUnknown why
 Ends Replay why = EndsReplay why
@@ -252,6 +271,7 @@ abbrev pub told : Refusal → List ℕ
 told (Words text) = string_bytes text
 told NotText = codes "error: invalid UTF-8 was detected in one or more arguments" ++ 10 ∷ []
 told BadShape = codes "shape" ++ 10 ∷ []
+told Splits = codes "splits" ++ 10 ∷ []
 told BadRoot = codes "bad root" ++ 10 ∷ []
 told BadKey = codes "bad key" ++ 10 ∷ []
 told Device = codes "device" ++ 10 ∷ []

@@ -128,7 +128,8 @@ operand_at place words = get_or (operands false words) place []
 -- the options of each command
 abbrev pub is_option : Subcommand → List ℕ → Bool
 is_option Run name = bytes_eq name (codes "--rows")
-    || (bytes_eq name (codes "--passes") || bytes_eq name (codes "--format"))
+    || (bytes_eq name (codes "--passes")
+    || (bytes_eq name (codes "--format") || bytes_eq name (codes "--splits")))
 is_option Verify name = bytes_eq name (codes "--format")
 is_option Replay name = false
 is_option Load name = bytes_eq name (codes "--readers")

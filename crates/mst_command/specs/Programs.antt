@@ -13,16 +13,21 @@ use Rattle.mst_report.specs.declared.report.Report.{Report}
 use Rattle.mst_report.specs.Words.{root_of, key_of}
 use Rattle.mst_report.specs.Report.{limit, report_of, line_of, is_refusal}
 use Rattle.mst_command.specs.declared.task.Task.{Task}
-use Rattle.mst_command.specs.declared.task.Task.TheVariants.{Run, Verify, UnknownFormat, Replay as TaskReplay, Load, Help}
+use Rattle.mst_command.specs.declared.task.Task.TheVariants.{Run, RunSharded, Verify, UnknownFormat, Replay as TaskReplay, Load, Help}
 use Rattle.mst_command.specs.declared.task.Ending.{Ending}
 use Rattle.mst_command.specs.declared.task.Ending.TheVariants.{Done, ProofRefused}
 use denote.Ref.{Bor}
 use Rattle.mst_command.specs.declared.task.Refusal.{Refusal}
-use Rattle.mst_command.specs.declared.task.Refusal.TheVariants.{Words, NotText, Shape as BadShape, BadRoot, BadKey, Device, Memory}
+use Rattle.mst_command.specs.declared.task.Refusal.TheVariants.{Words, NotText, Shape as BadShape, Splits, BadRoot, BadKey, Device, Memory}
 use Rattle.mst_command.specs.Commanding.{AskText, AsksFor, IsPlain, IsTold, ProofWords, Unread, Untouched, asks_verify}
 use Rattle.mst_command.specs.Loading.{IsLoadSize, RanLoad, BrokeLoad}
 use Rattle.mst_command.specs.Reading.{piece}
 use Rattle.mst_command.specs.Recalling.{Recalls}
+use Rattle.mst_command.specs.Splits.{splits_of}
+use Rattle.mst_sharded.specs.Sharding.{IsSplits}
+use Rattle.mst_sharded.specs.Opening.{Shards, HasShards, new_handles}
+use Rattle.mst_sharded_script.specs.States.{State, are_free}
+use Rattle.mst_sharded_script.specs.Serving.{Serves}
 
 -- how the program ends that said this
 abbrev pub ending_of : Report → Ending
@@ -48,6 +53,34 @@ pub record BrokeScript {S W : Type 0}
   pub size : HasShape shape store
   pub last : Machine
   pub stopped : Stopped gives takes failures (Line store) s w (with_no_pins []) t x last
+
+-- a new sharded map with the splits that the word spells, and with shards of this size, all within
+-- the limits
+pub record IsOpened (shape : Shape) (word : List ℕ) (shards : Shards) : Type 0 where
+  pub fits : IsShape shape
+  pub splits : List (List ℕ)
+  pub spelt : splits_of word ≡ Some splits
+  pub rise : IsSplits splits
+  pub opened : HasShards splits shape shards
+
+-- The source gave a script, and the sink took what the handles of such a map answer its lines, none
+-- of which had done anything.
+pub record RanSharded {S W : Type 0}
+    (gives : Flow S) (takes : Flow W) (shape : Shape) (word : List ℕ)
+    (s : S) (w : W) (t : S) (x : W) : Type 0 where
+  pub shards : Shards
+  pub opened : IsOpened shape word shards
+  pub last : List State
+  pub ran : Ran gives takes Serves s w (are_free (new_handles shards)) t x last
+
+-- The same, where a device failed.
+pub record BrokeSharded {S W : Type 0}
+    (gives : Flow S) (takes : Flow W) (failures : W → ℕ) (shape : Shape) (word : List ℕ)
+    (s : S) (w : W) (t : S) (x : W) : Type 0 where
+  pub shards : Shards
+  pub opened : IsOpened shape word shards
+  pub last : List State
+  pub stopped : Stopped gives takes failures Serves s w (are_free (new_handles shards)) t x last
 
 -- The source gave events of a core, and the sink took what the core answers each of them, from no
 -- core on.
@@ -116,6 +149,8 @@ abbrev pub Did : {S W : Type 0} → Flow S → (S → ℕ) → Flow W
     → Task → S → W → Ending → S → W → Type 0
 Did gives left takes (Run shape) s w ending t x =
     RanScript gives takes shape s w t x × (left t ≡ 0) × (ending ≡ Done)
+Did gives left takes (RunSharded shape splits) s w ending t x =
+    RanSharded gives takes shape splits.now s w t x × (left t ≡ 0) × (ending ≡ Done)
 Did gives left takes (Verify kind format root key) s w ending t x =
     RanVerify gives left takes (kind, Some format, root.now, key.now) s w ending t x
 Did gives left takes UnknownFormat s w ending t x = ⊥
@@ -129,6 +164,8 @@ Did gives left takes (Help text) s w ending t x =
 abbrev pub Broke : {S W : Type 0} → Flow S → (S → ℕ) → Flow W → (W → ℕ)
     → Task → S → W → S → W → Type 0
 Broke gives left takes failures (Run shape) s w t x = BrokeScript gives takes failures shape s w t x
+Broke gives left takes failures (RunSharded shape splits) s w t x =
+    BrokeSharded gives takes failures shape splits.now s w t x
 Broke gives left takes failures (Verify kind format root key) s w t x =
     (x ≡ w) ⊎ BrokeVerify gives left takes (kind, Some format, root.now, key.now) s w t x
 Broke gives left takes failures UnknownFormat s w t x = ⊥
@@ -153,9 +190,25 @@ pub record Helped {S W : Type 0}
 -- cannot have its numbers
 abbrev pub HasBadShape : Task → Type 0
 HasBadShape (Run shape) = ¬ (IsShape shape)
+HasBadShape (RunSharded shape splits) = ¬ (IsShape shape)
 HasBadShape UnknownFormat = Unit {0}
 HasBadShape (Load size) = ¬ (IsLoadSize size)
 HasBadShape _ = ⊥
+
+-- a word spells no splits that a sharded map may have
+abbrev pub SpellsBadSplits : List ℕ → Type 0
+SpellsBadSplits word = (splits : List (List ℕ)) → splits_of word ≡ Some splits → ¬ (IsSplits splits)
+
+-- why no sharded map was opened for the word of its splits
+abbrev pub RefusesSplits : Refusal → List ℕ → Type 0
+RefusesSplits Splits word = SpellsBadSplits word
+RefusesSplits (Memory refused) word = Unit {0}
+RefusesSplits _ word = ⊥
+
+-- a task whose word for the splits spells none that a sharded map may have
+abbrev pub HasBadSplits : Task → Type 0
+HasBadSplits (RunSharded shape word) = SpellsBadSplits word.now
+HasBadSplits _ = ⊥
 
 -- a task whose word for the root digest spells none
 abbrev pub HasBadRoot : Task → Type 0
@@ -167,7 +220,8 @@ abbrev pub HasBadKey : Task → Type 0
 HasBadKey (Verify kind format root key) = IsSome (root_of root.now) × (key_of key.now ≡ None)
 HasBadKey _ = ⊥
 
--- a task that is refused before anything is read
+-- A task that is refused before anything is read, and for which no memory is taken first; that for
+-- the list of splits is.
 abbrev pub IsBad : Task → Type 0
 IsBad task = HasBadShape task ⊎ HasBadRoot task ⊎ HasBadKey task
 
@@ -178,6 +232,7 @@ abbrev pub Comes : List (Bor (List ℕ)) → Refusal → Type 0
 Comes words (Words text) = ¬ (IsPlain words)
 Comes words NotText = ⊥
 Comes words BadShape = (task : Task) × AsksFor words task × HasBadShape task
+Comes words Splits = (task : Task) × AsksFor words task × HasBadSplits task
 Comes words BadRoot = (task : Task) × AsksFor words task × HasBadRoot task
 Comes words BadKey = (task : Task) × AsksFor words task × HasBadKey task
 Comes words Device = Unit {0}

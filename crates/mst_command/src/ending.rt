@@ -34,6 +34,7 @@ pub fn complain<W: Sink>(err: &mut W, why: &Refusal) -> u8
         Refusal::Words(text) => text.as_str(),
         Refusal::NotText => "error: invalid UTF-8 was detected in one or more arguments\n",
         Refusal::Shape => "shape\n",
+        Refusal::Splits => "splits\n",
         Refusal::BadRoot => "bad root\n",
         Refusal::BadKey => "bad key\n",
         Refusal::Device => "device\n",

@@ -12,10 +12,10 @@
 //! ```
 //!
 //! [`plain_task`] reads the words that name a task, with options in any spelling and order, and
-//! [`execute`] does a task: it answers a script, judges a proof, replays the core of pins, runs a
-//! load, or writes a text. `specs/Programs.antt` says what each task reads and writes,
-//! `specs/Commanding.antt` what words ask for and how a program ends early, `specs/Options.antt`
-//! what they say by options.
+//! [`execute`] does a task: it answers a script over a store or a sharded map, judges a proof,
+//! replays the core of pins, runs a load, or writes a text. `specs/Programs.antt` says what each
+//! task reads and writes, `specs/Commanding.antt` what words ask for and how a program ends early,
+//! `specs/Options.antt` what they say by options.
 //!
 //! What is said of all other words, `mst_program` has from `clap`. Nothing here takes the terminal
 //! or the program's own arguments.
@@ -31,6 +31,8 @@ mod options;
 mod plain;
 mod programs;
 mod replay;
+mod sharded;
+mod splits;
 mod task;
 mod verify;
 mod words;

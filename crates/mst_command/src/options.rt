@@ -1,6 +1,7 @@
 //! What the words after a command say by their options, and what they say beside them.
 ghost use Rattle.std.specs.Prelude.{◌≡◌, [], ◌||◌, get_or, map, false};
 ghost use Rattle.std.specs.Option.{option_map};
+ghost use Rattle.mst_command.specs.declared.task.Subcommand.TheVariants.{Run};
 ghost use Rattle.mst_command.specs.Options.{are_words as are_all, are_words_of as are_all_of, cut as cut_at, first as first_of, format_named as named_by, format_of as named, format_or as named_or, has_switch as switch_in, is_flag as has_dash, is_new_option as is_named_first, is_new_switch as is_switched_first, is_option as is_named, is_switch as is_switched, kind_named as kind_by, joined as joined_to, name_of as name_at, operand_count as count_of, operands, significant as zeroless, value_of as value_behind, without_plus as plusless};
 
 use crate::task::Subcommand;
@@ -176,12 +177,19 @@ pub fn operand<'a>(words: &[&'a str], is_value: bool, place: usize) -> &'a str
     }
 }
 
+// Whether a script has this option.
+fn is_script_option(name: &str) -> bool
+    ensures { result ≡ is_named Run name.now }
+{
+    name == "--rows" || name == "--passes" || name == "--format" || name == "--splits"
+}
+
 // Whether the command has this option.
 fn is_option(command: Subcommand, name: &str) -> bool
     ensures { result ≡ is_named command name.now }
 {
     match command {
-        Subcommand::Run => name == "--rows" || name == "--passes" || name == "--format",
+        Subcommand::Run => is_script_option(name),
         Subcommand::Verify => name == "--format",
         Subcommand::Replay => false,
         Subcommand::Load => name == "--readers" || name == "--writers" || name == "--calls",

@@ -2,12 +2,13 @@
 ghost use Rattle.std.specs.Prelude.{◌≡◌, ◌<◌, ◌-◌, ◌+◌, ◌^◌, ◌↔◌, OnOk, IfOk, IfErr, IsErrOf, [], None};
 ghost use Rattle.mst_devices.specs.Device.{Breaks};
 ghost use Rattle.mst_store.specs.Passes.{IsShape};
-ghost use Rattle.mst_command.specs.Programs.{RanScript, BrokeScript, RanReplay, BrokeReplay, Did, Broke, HasBadShape, HasBadRoot, HasBadKey};
+ghost use Rattle.mst_command.specs.Programs.{RanScript, BrokeScript, RanReplay, BrokeReplay, Did, Broke, HasBadShape, HasBadSplits, HasBadRoot, HasBadKey};
 ghost use Rattle.mst_command.specs.Commanding.{IsDevice, Ends, EndsHelp, EndsReplay, EndsScript, Untouched, Unread, verified_words};
 ghost use Rattle.mst_command.specs.declared.task.Ending.TheVariants.{Done};
 
 use crate::events::replay_events;
 use crate::loading::run_load;
+use crate::sharded::run_sharded;
 use crate::task::{Ending, Refusal, Task};
 use crate::verify::run_verify;
 use mst_devices::{Device, Sink, Source, write_all};
@@ -116,8 +117,9 @@ fn show<W: Sink>(out: &mut W, text: &str) -> Result<Ending, Refusal>
 /// each call of a load and told after it.
 ///
 /// Returns `Shape` for a size out of the store's limits, for an unknown format and for numbers that
-/// a load may not have, and `BadRoot` and then `BadKey` for words that spell no root digest and no
-/// key: all before anything is read or run. Returns `Memory` if a growth was refused or a thread
+/// a load may not have, `Splits` for a word that spells no splits of a sharded map, unless their
+/// list was refused memory, and `BadRoot` and then `BadKey` for words that spell no root digest and
+/// no key: all before anything is read or run. Returns `Memory` if a growth was refused or a thread
 /// could not be started: nothing was written then, and nothing read but a proof. Returns `Device`
 /// if a read or a write failed.
 pub fn execute<R, A: Allocator + Copy, G: Gate + Sync, S: Source, W: Sink>(
@@ -145,6 +147,7 @@ where
         → IfErr result (λ why. Untouched why source.old source.new) }
     ensures unwritten { IfErr result (λ why. Untouched why out.old out.new) }
     ensures shape { IsErrOf result Refusal.Shape ↔ HasBadShape task.entry }
+    ensures splits { IsErrOf result Refusal.Splits → HasBadSplits task.entry }
     ensures root { IsErrOf result Refusal.BadRoot ↔ HasBadRoot task.entry }
     ensures key { IsErrOf result Refusal.BadKey ↔ HasBadKey task.entry }
     ensures ends { IfErr result (λ why. Ends task.entry why) }
@@ -153,6 +156,7 @@ where
 {
     match task {
         Task::Run(shape) => run_script(alloc, shape, source, out),
+        Task::RunSharded(shape, splits) => run_sharded(alloc, shape, splits, source, out),
         Task::Verify(kind, format, root, key) => {
             run_verify(alloc, kind, format, root, key, source, out)
         }

@@ -41,6 +41,9 @@ pub enum Subcommand {
 pub enum Task<'a> {
     /// To answer a script over a store of this size, opened in this format.
     Run(Shape),
+    /// To answer a script over a sharded map, each shard of this size and opened in this format,
+    /// for the word of its splits.
+    RunSharded(Shape, &'a str),
     /// To say what a proof of this kind in this format shows, for the words of a root digest and a
     /// key.
     Verify(ProofKind, Format, &'a str, &'a str),
@@ -72,6 +75,8 @@ pub enum Refusal {
     NotText,
     /// The store cannot have this size, a load these numbers, or there is no such format.
     Shape,
+    /// The word for the splits spells none that a sharded map may have.
+    Splits,
     /// The word for the root digest is not 64 hexadecimal digits.
     BadRoot,
     /// The word for the key is not the hexadecimal form of 1 to 32 bytes.

@@ -1,9 +1,9 @@
 //! What words ask for, by the words alone.
 ghost use Rattle.std.specs.Prelude.{◌≡◌, ◌↔◌, IfSome, IfNone, true, None};
 ghost use Rattle.std.specs.Option.{option_map};
-ghost use Rattle.mst_command.specs.Commanding.{AskHelp, AskText, AskVersion, AsksFor, IsHelp, IsRunOf, IsVersion, asks_verify, asks_version_alone, format_in as named_format, is_whole_verify};
+ghost use Rattle.mst_command.specs.Commanding.{AskHelp, AskText, AskVersion, AsksFor, IsHelp, IsRunOf, IsVersion, NamesShape, asks_verify, asks_version_alone, format_in as named_format, is_whole_verify, splits_in as named_splits};
 
-use crate::options::{format_named, kind_named, operand};
+use crate::options::{format_named, kind_named, operand, value_of};
 use crate::task::{Size, Task};
 use mst_key::Format;
 use mst_report::ProofKind;
@@ -110,17 +110,39 @@ pub fn verify_task<'a>(words: &[&'a str]) -> Option<Task<'a>>
     }
 }
 
-/// The task of the words of a script over a store of this size, in the format that they name.
-pub fn script_task(words: &[&str], size: Size) -> Task<'static>
+// The word for the splits, if the words after the command name one.
+fn splits_in<'a>(words: &[&'a str]) -> Option<&'a str>
+    ensures { option_map (λ w. w.now) result ≡ named_splits words.now }
+{
+    match words {
+        [_, _, others @ ..] => value_of("--splits", others),
+        _ => None,
+    }
+}
+
+// The task of the words of a script over stores of this shape.
+fn task_over<'a>(words: &[&'a str], shape: Shape) -> Task<'a>
+    requires { NamesShape words.now shape }
+    ensures { AsksFor words.now result }
+{
+    match splits_in(words) {
+        Some(splits) => Task::RunSharded(shape, splits),
+        None => Task::Run(shape),
+    }
+}
+
+/// The task of the words of a script over stores of this size, in the format that they name.
+pub fn script_task<'a>(words: &[&'a str], size: Size) -> Task<'a>
     requires { IsRunOf words.now size }
     ensures { AsksFor words.now result }
 {
-    match format_in(words) {
-        Some(format) => Task::Run(Shape {
-            rows: size.rows,
-            passes: size.passes,
-            format,
-        }),
-        None => Task::UnknownFormat,
-    }
+    let Some(format) = format_in(words) else {
+        return Task::UnknownFormat;
+    };
+    let shape = Shape {
+        rows: size.rows,
+        passes: size.passes,
+        format,
+    };
+    task_over(words, shape)
 }

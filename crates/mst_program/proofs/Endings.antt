@@ -7,7 +7,7 @@ use Rattle.mst_command.specs.declared.task.Task.{Task}
 use Rattle.mst_command.specs.declared.task.Ending.{Ending}
 use Rattle.mst_command.specs.declared.task.Ending.TheVariants.{Done, ProofRefused}
 use Rattle.mst_command.specs.declared.task.Refusal.{Refusal}
-use Rattle.mst_command.specs.declared.task.Refusal.TheVariants.{Words, NotText, Shape, BadRoot, BadKey, Device, Memory}
+use Rattle.mst_command.specs.declared.task.Refusal.TheVariants.{Words, NotText, Shape, Splits, BadRoot, BadKey, Device, Memory}
 use Rattle.mst_program.specs.Commanded.{Performed}
 
 pub performed : {S W : Type 0} (gives : S → List ℕ → S → Type 0) (left : S → ℕ)
@@ -36,6 +36,7 @@ two_or_more : (why : Refusal) → 2 ≤ status_of why
 two_or_more (Words text) = omega arith
 two_or_more NotText = omega arith
 two_or_more Shape = omega arith
+two_or_more Splits = omega arith
 two_or_more BadRoot = omega arith
 two_or_more BadKey = omega arith
 two_or_more Device = omega arith

@@ -1,8 +1,8 @@
 //! The program, over a source and two sinks.
 ghost use Rattle.std.specs.Prelude.{◌≡◌, ◌<◌, ◌-◌, ◌+◌, ◌^◌, ◌↔◌, ◌⊎◌, OnOk, IfOk, IfErr, IsErrOf, [], Some, None, true, false};
-ghost use Rattle.mst_command.specs.Programs.{RanScript, RanReplay, RanVerify, Helped, Broke, Comes};
+ghost use Rattle.mst_command.specs.Programs.{RanScript, RanSharded, RanReplay, RanVerify, Helped, Broke, Comes};
 ghost use Rattle.mst_command.specs.Loading.{IsLoadOf, RanLoad, asks_load};
-ghost use Rattle.mst_command.specs.Commanding.{AsksFor, IsDevice, NamesShape, Untouched, Unread, asks_replay, asks_verify};
+ghost use Rattle.mst_command.specs.Commanding.{AsksFor, IsDevice, NamesShape, Untouched, Unread, asks_replay, asks_verify, splits_in};
 ghost use Rattle.mst_command.specs.declared.task.Ending.TheVariants.{Done, ProofRefused};
 ghost use Rattle.mst_program.specs.Commanded.{Commanded, Performed};
 
@@ -28,9 +28,15 @@ fn perform<R: Threads + Wait + AllocGlobal + Sync, G: Gate + Sync, S: Source, W:
     ensures performed { IfOk result (λ ending. Performed S.gives S.left W.takes words.now source.old
         out.old ending source.new out.new) }
     ensures ran { asks_replay words.now ≡ false → asks_verify words.now ≡ None
-        → asks_load words.now ≡ false
+        → asks_load words.now ≡ false → splits_in words.now ≡ None
         → OnOk result (((shape : _) × NamesShape words.now shape
         × RanScript S.gives W.takes shape source.old out.old source.new out.new
+        × (S.left source.new ≡ 0))
+        ⊎ Helped W.takes words.now source.old out.old source.new out.new) }
+    ensures sharded { asks_replay words.now ≡ false → asks_verify words.now ≡ None
+        → asks_load words.now ≡ false → (word : _) → splits_in words.now ≡ Some word
+        → OnOk result (((shape : _) × NamesShape words.now shape
+        × RanSharded S.gives W.takes shape word source.old out.old source.new out.new
         × (S.left source.new ≡ 0))
         ⊎ Helped W.takes words.now source.old out.old source.new out.new) }
     ensures replayed { asks_replay words.now ≡ true
@@ -67,7 +73,7 @@ fn perform<R: Threads + Wait + AllocGlobal + Sync, G: Gate + Sync, S: Source, W:
 /// Does what the words ask for, the first of which is the program's name, and returns the exit
 /// status: 0 done, 1 a proof refused, 2 words refused, 3 a read or a write failed, 4 a growth was
 /// refused or a thread could not be started. With 2, 3 and 4 it says so on standard error, with 2
-/// by clap's own text, `shape`, `bad root` or `bad key`.
+/// by clap's own text, `shape`, `splits`, `bad root` or `bad key`.
 ///
 /// The gate is asked before each call of a load and told after it. What it writes by itself is in
 /// no clause.
@@ -88,9 +94,15 @@ where
     ensures commanded { Commanded S.gives S.left S.failures O.takes O.failures E.takes E.failures
         words.now source.old out.old err.old result source.new out.new err.new }
     ensures done { result ≡ 0 → asks_replay words.now ≡ false → asks_verify words.now ≡ None
-        → asks_load words.now ≡ false
+        → asks_load words.now ≡ false → splits_in words.now ≡ None
         → ((shape : _) × NamesShape words.now shape
         × RanScript S.gives O.takes shape source.old out.old source.new out.new
+        × (S.left source.new ≡ 0))
+        ⊎ Helped O.takes words.now source.old out.old source.new out.new }
+    ensures sharded { result ≡ 0 → asks_replay words.now ≡ false → asks_verify words.now ≡ None
+        → asks_load words.now ≡ false → (word : _) → splits_in words.now ≡ Some word
+        → ((shape : _) × NamesShape words.now shape
+        × RanSharded S.gives O.takes shape word source.old out.old source.new out.new
         × (S.left source.new ≡ 0))
         ⊎ Helped O.takes words.now source.old out.old source.new out.new }
     ensures replayed { result ≡ 0 → asks_replay words.now ≡ true

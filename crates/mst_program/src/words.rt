@@ -14,6 +14,7 @@ use std::alloc::{AllocError, Global};
 const AFTER_HELP: &str = "Examples:
   mst run --rows 64 --passes 2 < script
   mst run --format 2 < script
+  mst run --splits 40,80,c0 < script
   mst verify ROOT KEY < proof
   mst verify --format 2 ROOT KEY < proof
   mst verify --sharded ROOT KEY < proof
@@ -65,6 +66,16 @@ fn format_option<'a>(alloc: Global, help: &'a str) -> Arg<'a> {
         .default_value("1")
 }
 
+// The option that makes a script's map a sharded one. Values that are no splits are refused by the
+// task that the words ask for, and not by clap.
+fn splits_option<'a>(alloc: Global) -> Arg<'a> {
+    Arg::new(alloc, "splits")
+        .long("splits")
+        .value_name("K,K,..")
+        .help("The splits of a sharded map: rising hexadecimal keys")
+        .action(ArgAction::Set)
+}
+
 // A word that has to be given.
 fn required_word<'a>(alloc: Global, name: &'a str, help: &'a str) -> Arg<'a> {
     Arg::new(alloc, name)
@@ -99,7 +110,8 @@ fn run_command<'a>(alloc: Global) -> Result<Command<'a>, AllocError> {
         .about("Answers the lines of standard input, each of them a command of a pass")
         .arg(usual_number(alloc, "rows", rows, "1024"))?
         .arg(usual_number(alloc, "passes", passes, "4"))?
-        .arg(format_option(alloc, format))
+        .arg(format_option(alloc, format))?
+        .arg(splits_option(alloc))
 }
 
 // The command that verifies a proof.

@@ -15,6 +15,7 @@ use std::thread::Threads;
 #[derive(Clone, Copy)]
 enum Asked {
     Script,
+    Sharded,
     Replay,
     Proof,
     Load,
@@ -30,6 +31,14 @@ impl Asked {
                 passes: 4,
                 format: Format::One,
             }),
+            Asked::Sharded => Task::RunSharded(
+                Shape {
+                    rows: 4,
+                    passes: 4,
+                    format: Format::One,
+                },
+                "61,62",
+            ),
             Asked::Replay => Task::Replay,
             Asked::Proof => Task::Verify(ProofKind::Plain, Format::One, ROOT_OF_TWO, "62"),
             Asked::Load => Task::Load(Load {
@@ -51,7 +60,7 @@ impl Asked {
     /// Whether this is written with ample memory.
     fn is_answered(self, out: &[u8]) -> bool {
         match self {
-            Asked::Script => out == ANSWERS.as_bytes(),
+            Asked::Script | Asked::Sharded => out == ANSWERS.as_bytes(),
             Asked::Replay => out == REPLIES.as_bytes(),
             Asked::Proof => out == b"P1\n".as_slice(),
             Asked::Load => out.starts_with(b"events 3\nfalls 0\nroot "),
@@ -122,6 +131,12 @@ fn each_heap_serves_or_refuses<R: Abort + Threads + Wait + AllocGlobal + Sync>(
 #[test]
 fn growths_of_a_script_are_refused(rt: HostRuntime) {
     each_heap_serves_or_refuses(&rt, Asked::Script, SCRIPT.as_bytes(), 40);
+}
+
+// Of the splits, each store and its passes, and of the handles.
+#[test]
+fn growths_of_a_script_over_shards_are_refused(rt: HostRuntime) {
+    each_heap_serves_or_refuses(&rt, Asked::Sharded, SCRIPT.as_bytes(), 120);
 }
 
 #[test]

@@ -8,6 +8,7 @@ mod proofs;
 mod replays;
 mod scripts;
 mod sharded;
+mod splits;
 mod spoilt;
 mod starting;
 mod words;

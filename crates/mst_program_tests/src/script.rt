@@ -8,6 +8,7 @@ mod memory;
 mod nodes;
 mod pins;
 mod rows;
+mod shard_memory;
 mod shards;
 
 ghost use Rattle.std.specs.Prelude.{◌≡◌, ◌<◌, ◌-◌, ◌^◌};

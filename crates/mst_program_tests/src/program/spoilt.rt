@@ -44,6 +44,9 @@ const CUTS: &[(&str, &str)] = &[
     ("mst ", " run"),
     ("mst ", ""),
     ("mst run ", ""),
+    ("mst run --splits ", ""),
+    ("mst run --splits 62 ", ""),
+    ("mst run --splits ", " --rows 9"),
     ("mst ", " replay"),
     ("mst replay ", ""),
     ("mst ", " load --readers=2 --writers=3 --calls=5"),
@@ -86,7 +89,7 @@ fn is_refused_between<R: Threads + Wait + AllocGlobal + Sync>(
     is_refused(rt, line.as_str())
 }
 
-// Some 280 lines of 3 to 9 words: a strange word between any two of right ones, or in the place of
+// Some 300 lines of 3 to 9 words: a strange word between any two of right ones, or in the place of
 // one.
 #[test]
 fn strange_words(rt: HostRuntime) {
@@ -162,6 +165,19 @@ const WRONG: &[&str] = &[
     "mst run --format -1",
     "mst run --format 3 --rows x",
     "mst run --formats 2",
+    "mst run --splits",
+    "mst run --splits --rows 9",
+    "mst run --splits 62 64",
+    "mst run --splits 62 --splits 64",
+    "mst run --splits=62 --splits 62",
+    "mst run --splits -62",
+    "mst run --split 62",
+    "mst run -splits 62",
+    "mst run -- --splits 62",
+    "mst --splits 62 run",
+    "mst load --readers 2 --writers 3 --calls 5 --splits 62",
+    "mst replay --splits 62",
+    "mst verify --splits 62 61 61",
     "mst run -format 2",
     "mst --format 2 run",
     "mst load --format 2",

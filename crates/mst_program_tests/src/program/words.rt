@@ -24,6 +24,7 @@ Options:
 Examples:
   mst run --rows 64 --passes 2 < script
   mst run --format 2 < script
+  mst run --splits 40,80,c0 < script
   mst verify ROOT KEY < proof
   mst verify --format 2 ROOT KEY < proof
   mst verify --sharded ROOT KEY < proof
@@ -51,10 +52,11 @@ const RUN_HELP: &str = "Answers the lines of standard input, each of them a comm
 Usage: mst run [OPTIONS]
 
 Options:
-      --rows <N>    How many rows the store has, 4 to 65535 [default: 1024]
-      --passes <N>  How many passes the store has, 1 to 32 [default: 4]
-      --format <F>  The format in which the store opens, 1 or 2 [default: 1]
-  -h, --help        Print help
+      --rows <N>         How many rows the store has, 4 to 65535 [default: 1024]
+      --passes <N>       How many passes the store has, 1 to 32 [default: 4]
+      --format <F>       The format in which the store opens, 1 or 2 [default: 1]
+      --splits <K,K,..>  The splits of a sharded map: rising hexadecimal keys
+  -h, --help             Print help
 ";
 
 const NO_NUMBER: &str = "error: invalid value 'x' for '--rows <N>': invalid digit found in string

@@ -44,9 +44,11 @@ fn states_over<'a, A: Allocator + Copy>(
     states_of(alloc, handles)
 }
 
-/// Runs a script over a new map of so many shards.
-fn run_shards<S: Source, W: Sink, A: Allocator + Copy>(
+/// Runs a script over a new map of so many shards, with the memory of another allocator for lines
+/// and answers.
+pub(super) fn run_shards<S: Source, W: Sink, A: Allocator + Copy>(
     alloc: A,
+    lines: A,
     shards: u8,
     shape: Shape,
     source: &mut S,
@@ -71,7 +73,7 @@ fn run_shards<S: Source, W: Sink, A: Allocator + Copy>(
     if states.len() > 32 {
         return Err(RunFault::Device);
     }
-    run_sharded(alloc, source, sink, &mut states)
+    run_sharded(lines, source, sink, &mut states)
 }
 
 // ---- random scripts
@@ -192,7 +194,7 @@ fn of_shards(
 ) -> Result<Vec<u8>, AllocError> {
     let mut source = BytesSource::new(script.as_bytes());
     let mut sink = BytesSink::new(alloc, 400_000)?;
-    let ran = run_shards(alloc, shards, SHAPE, &mut source, &mut sink);
+    let ran = run_shards(alloc, alloc, shards, SHAPE, &mut source, &mut sink);
     assert!(rt; ran == Ok(()));
     sink.bytes().to_vec(alloc)
 }
@@ -284,7 +286,7 @@ fn written(alloc: Global, reads: u64, writes: u64) -> (Result<(), RunFault>, Vec
     let ran = {
         let mut source = StdSource::new(reader);
         let mut sink = StdSink::new(&mut out);
-        run_shards(alloc, 2, SHAPE, &mut source, &mut sink)
+        run_shards(alloc, alloc, 2, SHAPE, &mut source, &mut sink)
     };
     (ran, out.bytes)
 }

@@ -1,5 +1,5 @@
 use Rattle.std.proofs.Common.{rules}
-use Rattle.mst_command.proofs.Ends.{script_root, script_key, verify_shape, replay_shape, replay_root, replay_key, load_root, load_key, help_shape, help_root, help_key}
+use Rattle.mst_command.proofs.Ends.{script_root, script_key, verify_shape, replay_shape, replay_root, replay_key, load_root, load_key, help_shape, help_root, help_key, sharded_root, sharded_key, script_splits, verify_splits, replay_splits, load_splits, help_splits}
 use Rattle.mst_command.proofs.programs.execute.Goals as goal
 
 pub returns-in-Run-clause-root : goal.returns-in-Run-clause-root
@@ -193,3 +193,66 @@ returns-in-Load-clause-stopped g c = search rules
 
 pub returns-in-Help-clause-stopped : goal.returns-in-Help-clause-stopped
 returns-in-Help-clause-stopped g c = search rules
+
+pub returns-in-Run-clause-splits : goal.returns-in-Run-clause-splits
+returns-in-Run-clause-splits g c = search (rules, script_splits)
+
+pub returns-in-Verify-clause-splits : goal.returns-in-Verify-clause-splits
+returns-in-Verify-clause-splits g c = search (rules, verify_splits)
+
+pub returns-in-Replay-clause-splits : goal.returns-in-Replay-clause-splits
+returns-in-Replay-clause-splits g c = search (rules, replay_splits)
+
+pub returns-in-Load-clause-splits : goal.returns-in-Load-clause-splits
+returns-in-Load-clause-splits g c = search (rules, load_splits)
+
+pub returns-in-Help-clause-splits : goal.returns-in-Help-clause-splits
+returns-in-Help-clause-splits g c = search (rules, help_splits)
+
+pub returns-in-RunSharded-clause-did : goal.returns-in-RunSharded-clause-did
+returns-in-RunSharded-clause-did g c = search rules
+
+pub returns-in-RunSharded-clause-steady : goal.returns-in-RunSharded-clause-steady
+returns-in-RunSharded-clause-steady g c = search rules
+
+pub returns-in-RunSharded-clause-device : goal.returns-in-RunSharded-clause-device
+returns-in-RunSharded-clause-device g c = search rules
+
+pub returns-in-RunSharded-clause-unread : goal.returns-in-RunSharded-clause-unread
+returns-in-RunSharded-clause-unread g c = search rules
+
+pub returns-in-RunSharded-clause-untouched : goal.returns-in-RunSharded-clause-untouched
+returns-in-RunSharded-clause-untouched g c = search rules
+
+pub returns-in-RunSharded-clause-unwritten : goal.returns-in-RunSharded-clause-unwritten
+returns-in-RunSharded-clause-unwritten g c = search rules
+
+pub returns-in-RunSharded-clause-shape : goal.returns-in-RunSharded-clause-shape
+returns-in-RunSharded-clause-shape g c = search rules
+
+pub returns-in-RunSharded-clause-splits : goal.returns-in-RunSharded-clause-splits
+returns-in-RunSharded-clause-splits g c = search rules
+
+pub returns-in-RunSharded-clause-root : goal.returns-in-RunSharded-clause-root
+returns-in-RunSharded-clause-root g c = search (rules, sharded_root)
+
+pub returns-in-RunSharded-clause-key : goal.returns-in-RunSharded-clause-key
+returns-in-RunSharded-clause-key g c = search (rules, sharded_key)
+
+pub returns-in-RunSharded-clause-ends : goal.returns-in-RunSharded-clause-ends
+returns-in-RunSharded-clause-ends g c = search rules
+
+pub returns-in-RunSharded-clause-stopped : goal.returns-in-RunSharded-clause-stopped
+returns-in-RunSharded-clause-stopped g c = search rules
+
+pub run_sharded-requires-text-splits : goal.run_sharded-requires-text-splits
+run_sharded-requires-text-splits g c = search rules
+
+pub run_sharded-requires-clause-source : goal.run_sharded-requires-clause-source
+run_sharded-requires-clause-source g c = search rules
+
+pub run_sharded-requires-clause-out : goal.run_sharded-requires-clause-out
+run_sharded-requires-clause-out g c = search rules
+
+pub returns-in-UnknownFormat-clause-splits : goal.returns-in-UnknownFormat-clause-splits
+returns-in-UnknownFormat-clause-splits g c = search rules

@@ -135,3 +135,12 @@ returns-in-Err-clause-verified g c = search rules
 
 pub returns-in-Err-clause-proof_refused : goal.returns-in-Err-clause-proof_refused
 returns-in-Err-clause-proof_refused g c = search rules
+
+pub returns-in-Ok-Done-clause-sharded : goal.returns-in-Ok-Done-clause-sharded
+returns-in-Ok-Done-clause-sharded g c = search rules
+
+pub returns-in-Ok-ProofRefused-clause-sharded : goal.returns-in-Ok-ProofRefused-clause-sharded
+returns-in-Ok-ProofRefused-clause-sharded g c = search rules
+
+pub returns-in-Err-clause-sharded : goal.returns-in-Err-clause-sharded
+returns-in-Err-clause-sharded g c = search rules

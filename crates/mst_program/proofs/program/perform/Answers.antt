@@ -1,6 +1,6 @@
 use Rattle.std.proofs.Common.{rules}
 use Rattle.std.proofs.Common.{◌+◌}
-use Rattle.mst_command.proofs.Asked.{asked_script, asked_replay, asked_verify, asked_load, asked_others, not_verified, words_device, still_unread, still_untouched, task_comes, words_come, no_device}
+use Rattle.mst_command.proofs.Asked.{asked_script, asked_sharded, asked_replay, asked_verify, asked_load, asked_others, not_verified, words_device, still_unread, still_untouched, task_comes, words_come, no_device}
 use Rattle.mst_program.proofs.Endings.{performed}
 use Rattle.mst_program.proofs.program.perform.Goals as goal
 
@@ -8,6 +8,14 @@ pub returns-in-Ok-clause-ran : goal.returns-in-Ok-clause-ran
 returns-in-Ok-clause-ran g c = asked_script g.S.Source.gives g.S.Source.left g.W.Sink.takes
     c.args.words.now c.in-Ok.task c.execute.result c.args.source.now c.execute.new.source
     c.args.out.now c.execute.new.out c.in-Ok.ensures.asked c.execute.ensures.did
+
+pub returns-in-Ok-clause-sharded : goal.returns-in-Ok-clause-sharded
+returns-in-Ok-clause-sharded g c = asked_sharded g.S.Source.gives g.S.Source.left g.W.Sink.takes
+    c.args.words.now c.in-Ok.task c.execute.result c.args.source.now c.execute.new.source
+    c.args.out.now c.execute.new.out c.in-Ok.ensures.asked c.execute.ensures.did
+
+pub returns-in-Err-clause-sharded : goal.returns-in-Err-clause-sharded
+returns-in-Err-clause-sharded g c = search rules
 
 pub returns-in-Ok-clause-replayed : goal.returns-in-Ok-clause-replayed
 returns-in-Ok-clause-replayed g c = asked_replay g.S.Source.gives g.S.Source.left g.W.Sink.takes
@@ -49,8 +57,8 @@ returns-in-Err-clause-unwritten g c = still_untouched c.in-Err.why c.args.out.no
 
 pub returns-in-Ok-clause-comes : goal.returns-in-Ok-clause-comes
 returns-in-Ok-clause-comes g c = task_comes c.args.words.now c.in-Ok.task c.execute.result
-    c.in-Ok.ensures.asked c.execute.ensures.shape c.execute.ensures.root c.execute.ensures.key
-    c.execute.ensures.ends
+    c.in-Ok.ensures.asked c.execute.ensures.shape c.execute.ensures.splits c.execute.ensures.root
+    c.execute.ensures.key c.execute.ensures.ends
 
 pub returns-in-Ok-clause-stopped : goal.returns-in-Ok-clause-stopped
 returns-in-Ok-clause-stopped g c =
