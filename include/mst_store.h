@@ -315,7 +315,7 @@ int32_t mst_try_remove(mst_pass *pass, const uint8_t *key, size_t key_length,
  * bytes, the high one first, that of the value in two bytes, the key, the value. A remove has no
  * value. mst_edit_put and mst_edit_remove below write them.
  *
- * Returns MST_OK; MST_CLOSED; if an edit is none, then for the first such one MST_BAD_KEY or
+ * Returns MST_OK; MST_CLOSED; if an edit is not valid, for the first such one MST_BAD_KEY or
  * MST_BAD_VALUE if a length is out of its limits, otherwise MST_BAD_BATCH, and *place is the number
  * of that edit, from 0; MST_WRONG_STATE for a pinned pass; MST_MEMORY if there is none for the list
  * of the edits; MST_BUSY, MST_VERSIONS_SPENT, MST_MEMORY, MST_NO_FREE_ROWS. If it does not return

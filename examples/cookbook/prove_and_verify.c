@@ -5,8 +5,7 @@
 
 #define TEXT(text) (const uint8_t *)(text), sizeof(text) - 1
 
-/* What somebody finds who has the root digest and its format from where he trusts it, and the
- * proof from anybody. */
+/* What somebody finds who trusts the root digest and its format, and has the proof from anybody. */
 static void check(uint32_t format, const uint8_t *root, const uint8_t *key, size_t key_length,
                   const uint8_t *proof, size_t length) {
     uint8_t value[MST_VALUE_ROOM];

@@ -108,7 +108,7 @@ struct found {
     struct bound low, high, first, last;
 };
 
-/* Reads a child; 0 if the text is cut short or the flag is none. */
+/* Reads a child; 0 if the text is cut short or the flag is not 0 or 1. */
 static int read_child(struct text *text, const uint8_t **child)
 {
     const uint8_t *flag = take(text, 1);

@@ -252,7 +252,7 @@ func (c claim) opened(held answer) (answer, error) {
 
 // ---- the tests of a proof
 
-// expected is what is expected of a text. Bounds that are nil are none.
+// expected is what is expected of a text. A bound that is nil does not bind.
 type expected struct {
 	digest    []byte
 	upper     uint64
