@@ -1,6 +1,5 @@
 /*
- * What is timed: a map of keys of 16 bytes and values of 32, if the compiler is told no other
- * lengths, of 8 bytes at least; through seats, one for each thread.
+ * What is timed: a map of keys of 16 bytes and values of 32, through seats, one for each thread.
  * Each call ends the program if the map returns anything other than it has to.
  */
 #ifndef ENGINE_H
@@ -9,10 +8,8 @@
 #include <stddef.h>
 #include <stdint.h>
 
-#ifndef KEY_LENGTH
 #define KEY_LENGTH 16
 #define VALUE_LENGTH 32
-#endif
 #define RANGE_PAIRS 100
 #define SEATS 2
 #define BATCH_MOST 32768

@@ -71,9 +71,8 @@ static uint64_t drawn(struct chance *chance) {
     return mixed(chance->state++);
 }
 
-/* Different numbers have different keys: their first 8 bytes differ. */
 static void key_bytes(uint8_t *key, uint64_t number) {
-    uint64_t parts[4] = {mixed(number), number, 0, 0};
+    uint64_t parts[2] = {mixed(number), number};
     memcpy(key, parts, KEY_LENGTH);
 }
 
