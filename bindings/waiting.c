@@ -110,6 +110,16 @@ int32_t mst_sharded_remove(mst_handle *handle, const uint8_t *key, size_t key_le
     return told;
 }
 
+/* Each try goes on at the shard that was busy, so none gets its edits twice. */
+int32_t mst_sharded_apply(mst_handle *handle, const uint8_t *edits, size_t length,
+                          size_t *place, size_t *shard) {
+    struct waited waited = {0, 0};
+    int32_t told;
+    while ((told = mst_sharded_try_apply(handle, edits, length, place, shard)) == MST_BUSY)
+        wait_more(&waited);
+    return told;
+}
+
 /* A shard that is in the format already is not moved again: each try goes on where one stopped. */
 int32_t mst_sharded_migrate(mst_handle *handle, uint32_t format, size_t *stopped) {
     struct waited waited = {0, 0};

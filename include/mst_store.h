@@ -106,7 +106,7 @@ typedef struct mst_pass {
  */
 #define MST_OK 0
 
-/* There is no such key. This is an answer, not a refusal. */
+/* There is no such key, or no such shard. For a key this is an answer, not a refusal. */
 #define MST_ABSENT (-1)
 
 /*
@@ -613,6 +613,28 @@ int32_t mst_sharded_directory(mst_handle *handle, uint8_t *room, size_t room_len
 int32_t mst_sharded_try_migrate(mst_handle *handle, uint32_t format, size_t *stopped);
 
 /*
+ * Makes a batch of edits, in the form of mst_try_apply: those of each shard as one version of that
+ * shard, one shard after the other. Set *shard to 0 before the first call: edits of shards before
+ * the one of this number are passed over. A shard with no edits gets no version. Meanwhile a reader
+ * may find the edits of some shards without those of the others.
+ *
+ * Returns MST_OK: all edits are made, and *shard is 0, for the next batch. Returns MST_BUSY,
+ * MST_VERSIONS_SPENT, MST_MEMORY, MST_NO_FREE_ROWS if a shard refused its edits: *shard is the
+ * number of this shard, from 0. Those before it have theirs, and neither it nor one behind it has
+ * any. Call again with the same edits and the same *shard: it goes on there, and makes none again.
+ * Or set *shard to 0 for another batch. Returns MST_CLOSED; if an edit is none, then for the first
+ * such one MST_BAD_KEY, MST_BAD_VALUE or MST_BAD_BATCH, and *place is the number of that edit, from
+ * 0; MST_WRONG_STATE for a snapshot; MST_ABSENT if there is no shard of the number *shard;
+ * MST_MEMORY if there is none for the lists of the edits and the shards: nothing has changed, and
+ * *shard is as it was. Where no edit is refused, *place is as it was.
+ *
+ * It takes the memory of these lists before it changes a shard; and for each shard the rows and the
+ * memory of mst_try_apply.
+ */
+int32_t mst_sharded_try_apply(mst_handle *handle, const uint8_t *edits, size_t length,
+                              size_t *place, size_t *shard);
+
+/*
  * Writes a split at `at` bytes into the room, which needs MST_SPLIT_LONGEST bytes from there, and
  * returns where the next one goes. After the last split that is the length of all. Of a key that is
  * longer than 32 bytes it writes only a length, so that mst_sharded_open refuses it.
@@ -627,6 +649,16 @@ int32_t mst_sharded_put(mst_handle *handle, const uint8_t *key, size_t key_lengt
 /* As mst_sharded_try_remove, but waits as mst_put does. */
 int32_t mst_sharded_remove(mst_handle *handle, const uint8_t *key, size_t key_length,
                            uint8_t *room, size_t room_length);
+
+/*
+ * As mst_sharded_try_apply, but waits for the turn of each shard as mst_put does: no shard gets its
+ * edits twice.
+ *
+ *     size_t place, shard = 0;
+ *     int32_t told = mst_sharded_apply(handle, edits, length, &place, &shard);
+ */
+int32_t mst_sharded_apply(mst_handle *handle, const uint8_t *edits, size_t length,
+                          size_t *place, size_t *shard);
 
 /* As mst_sharded_try_migrate, but waits for the turn of each shard as mst_put does. */
 int32_t mst_sharded_migrate(mst_handle *handle, uint32_t format, size_t *stopped);

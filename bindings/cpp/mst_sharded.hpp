@@ -200,6 +200,21 @@ class handle : public sharded_reader {
         return tried{false, told(code, room)};
     }
 
+    spread apply_by(decltype(mst_sharded_apply) call, const batch &edits, std::size_t from) {
+        std::size_t place = 0, shard = from;
+        int code = call(at(), edits.edits.data(), edits.edits.size(), &place, &shard);
+        switch (code) {
+        case MST_OK: return spread{};
+        case MST_BUSY: return spread{true, shard};
+        case MST_BAD_KEY:
+        case MST_BAD_VALUE: throw refused_edit(code, place);
+        case MST_MEMORY:
+        case MST_VERSIONS_SPENT:
+        case MST_NO_FREE_ROWS: throw refused_shard(code, shard);
+        default: throw refused(code);
+        }
+    }
+
 public:
     handle() noexcept = default;
     handle(handle &&other) noexcept : sharded_reader(std::move(other.hand)) {}
@@ -234,6 +249,18 @@ public:
     // As try_remove, but waits for the turn. Returns the value that the key had before.
     std::optional<std::string> remove(std::string_view key) {
         return remove_by(mst_sharded_remove, key).old;
+    }
+
+    // Makes the edits, those of each shard as one version of that shard, one shard after the other,
+    // if no other handle has its turn. Those of shards before `from` are passed over, so that a
+    // call may go on where one stopped. If a shard refuses its edits, refused_shard is thrown.
+    spread try_apply(const batch &edits, std::size_t from = 0) {
+        return apply_by(mst_sharded_try_apply, edits, from);
+    }
+
+    // As try_apply, but waits for the turn of each shard.
+    void apply(const batch &edits, std::size_t from = 0) {
+        (void)apply_by(mst_sharded_apply, edits, from);
     }
 
     // Turns each shard to a format, one after the other, if no other handle has its turn. If a

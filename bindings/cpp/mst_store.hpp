@@ -51,6 +51,7 @@ struct held {
 //     pass.apply(mst::batch().put("apple", "30").remove("pear"));
 class batch {
     friend class pass;
+    friend class handle;
     std::vector<std::uint8_t> edits; // as mst_try_apply takes them
     std::size_t count = 0;
 

@@ -40,6 +40,18 @@ public:
     std::size_t place() const noexcept { return number; }
 };
 
+// Why a batch of a sharded map stopped: a shard refused its edits, or there was no memory for the
+// lists of all edits. The shards before it have theirs, and neither it nor one behind it has any.
+class refused_shard : public refused {
+    std::size_t number;
+
+public:
+    refused_shard(int code, std::size_t shard) : refused(code), number(shard) {}
+
+    // The number of the shard, from 0: a call with the same edits from it on makes the others.
+    std::size_t shard() const noexcept { return number; }
+};
+
 // What a call that tries to write has done.
 struct [[nodiscard]] tried {
     bool is_busy = false;           // another pass has the turn, and nothing is written
@@ -51,6 +63,15 @@ struct [[nodiscard]] tried {
 // What a call that tries to make a batch has done.
 struct [[nodiscard]] applied {
     bool is_busy = false; // another pass has the turn, and nothing is written
+
+    explicit operator bool() const noexcept { return !is_busy; }
+};
+
+// What a call that tries to make a batch of a sharded map has done. If it is busy, the shards before
+// the one where it stopped have their edits, and neither it nor one behind it has any.
+struct [[nodiscard]] spread {
+    bool is_busy = false;  // another handle has the turn of a shard
+    std::size_t shard = 0; // the number of this shard
 
     explicit operator bool() const noexcept { return !is_busy; }
 };

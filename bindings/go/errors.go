@@ -39,9 +39,12 @@ var (
 	ErrMixedFormats = errors.New("mst: the shards are in different formats")
 	// ErrStrayKey says that a shard has a key of another. No handle makes one so.
 	ErrStrayKey = errors.New("mst: a shard has a key of another")
+	// ErrNoShard says that a sharded map has no shard of this number.
+	ErrNoShard = errors.New("mst: the map has no shard of this number")
 )
 
 var refusals = map[C.int32_t]error{
+	C.MST_ABSENT:         ErrNoShard,
 	C.MST_UNKNOWN_FORMAT: ErrFormat,
 	C.MST_BAD_KEY:        ErrKey,
 	C.MST_BAD_VALUE:      ErrValue,
@@ -91,5 +94,33 @@ func (e *EditError) Error() string {
 
 // Unwrap returns ErrKey or ErrValue.
 func (e *EditError) Unwrap() error {
+	return e.Err
+}
+
+// refusalOfShards is the error for a batch of a sharded map.
+func refusalOfShards(told C.int32_t, place, shard C.size_t) error {
+	switch told {
+	case C.MST_BUSY, C.MST_VERSIONS_SPENT, C.MST_MEMORY, C.MST_NO_FREE_ROWS:
+		return &ShardError{int(shard), refusal(told)}
+	}
+	return refusalOfBatch(told, place)
+}
+
+// ShardError says at which shard a batch of a sharded map stopped: the shards before it have their
+// edits, and neither it nor one behind it has any.
+type ShardError struct {
+	// Shard is the number of the shard, from 0: a call with the same edits from it on makes the
+	// others.
+	Shard int
+	Err   error
+}
+
+// Error says which shard it is, and why.
+func (e *ShardError) Error() string {
+	return fmt.Sprintf("%v (shard %d)", e.Err, e.Shard)
+}
+
+// Unwrap returns why.
+func (e *ShardError) Unwrap() error {
 	return e.Err
 }

@@ -146,6 +146,28 @@ func (h *Handle) TryRemove(key []byte) (old []byte, present bool, err error) {
 		size(h.room[:])))
 }
 
+// TryApply makes the edits of the batch, those of each shard as one version of that shard, one shard
+// after the other, if no other handle has its turn. Those of shards before from are passed over, so
+// that a call may go on where one stopped: a *ShardError has the number of that shard. The error is
+// ErrClosed, an *EditError, ErrPinned, ErrNoShard, or a *ShardError with ErrBusy, ErrVersionsSpent,
+// ErrMemory, or ErrNoFreeRows.
+func (h *Handle) TryApply(batch *Batch, from int) error {
+	h.mutex.Lock()
+	defer h.mutex.Unlock()
+	place, shard := C.size_t(0), C.size_t(from)
+	told := C.mst_sharded_try_apply(&h.hand, at(batch.packed), size(batch.packed), &place, &shard)
+	return refusalOfShards(told, place, shard)
+}
+
+// Apply is as TryApply, but waits for the turn of each shard.
+func (h *Handle) Apply(batch *Batch, from int) error {
+	h.mutex.Lock()
+	defer h.mutex.Unlock()
+	place, shard := C.size_t(0), C.size_t(from)
+	told := C.mst_sharded_apply(&h.hand, at(batch.packed), size(batch.packed), &place, &shard)
+	return refusalOfShards(told, place, shard)
+}
+
 // TryMigrate turns each shard to a format, one after the other, if no other handle has its turn. If
 // a shard refuses it, those before it are migrated, and those behind it were not tried. The error
 // is ErrClosed, ErrFormat, ErrPinned, ErrBusy, ErrVersionsSpent, ErrMemory, or ErrNoFreeRows.

@@ -111,6 +111,41 @@ void refusals() {
     EXPECT(is_refused(MST_CLOSED, [&] { (void)moved.get("a"); }));
 }
 
+void batches() {
+    auto handles = mst::open_sharded(8, 2, {"b", "c", "d"}, mst::format::two);
+    auto edits = mst::batch().put("d", "1").put("a", "1").put("b", "1").put("a", "2").remove("b");
+    EXPECT(!handles[0].try_apply(edits).is_busy);
+    EXPECT(handles[1].get("a") == "2" && !handles[1].get("b") && handles[1].get("d") == "1");
+    handles[1].apply(edits, 3);
+    handles[1].apply(mst::batch());
+    {
+        auto then = handles[0].snapshot();
+        EXPECT(then.version_at(0) == 1u && then.version_at(2) == 0u && then.version_at(3) == 2u);
+        EXPECT(is_refused(MST_WRONG_STATE, [&] { handles[0].apply(edits); }));
+    }
+    EXPECT(is_refused(MST_ABSENT, [&] { handles[0].apply(edits, 4); }));
+    for (char last = 'a'; last < 'j'; last++) edits.put(std::string("c") + last, "1");
+    edits.put("a", "3").put("d", "3");
+    std::size_t stopped = 77;
+    try {
+        handles[0].apply(edits);
+    } catch (const mst::refused_shard &refusal) {
+        EXPECT(refusal.code() == MST_NO_FREE_ROWS);
+        stopped = refusal.shard();
+    }
+    EXPECT(stopped == 2 && handles[0].get("a") == "3" && handles[0].get("d") == "1");
+    EXPECT(!handles[0].try_apply(edits, 3).is_busy && handles[0].get("d") == "3");
+    edits.clear();
+    edits.put("a", "4").put("", "1");
+    std::size_t place = 77;
+    try {
+        (void)handles[0].try_apply(edits);
+    } catch (const mst::refused_edit &refusal) {
+        place = refusal.place();
+    }
+    EXPECT(place == 1 && handles[0].get("a") == "3");
+}
+
 void threads() {
     auto handles = mst::open_sharded(1000, 4, sixteen());
     std::vector<std::thread> all;
@@ -131,6 +166,7 @@ int main() {
     against_a_map(mst::format::two);
     migrations();
     refusals();
+    batches();
     threads();
     return ended("sharded in C++");
 }

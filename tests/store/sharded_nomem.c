@@ -84,6 +84,62 @@ static long migrations(mst_handle *handle, uint32_t to) {
     return -1;
 }
 
+/* Puts of ten keys into each of three shards. */
+static size_t thirty_edits(uint8_t *edits, uint8_t value) {
+    size_t length = 0;
+    for (uint8_t at = 0; at < 30; at++) {
+        uint8_t key[2] = {(uint8_t)("alz"[at % 3]), at};
+        length = mst_edit_put(edits, length, key, 2, &value, 1);
+    }
+    return length;
+}
+
+/* Whether the shards before one have the value at all of these keys, and the others the old one. */
+static int have_edits(mst_handle *handle, size_t shards, uint8_t value, uint8_t old) {
+    int have = 1;
+    for (uint8_t at = 0; at < 30; at++) {
+        uint8_t key[2] = {(uint8_t)("alz"[at % 3]), at};
+        int32_t told = mst_sharded_get(handle, key, 2, room, sizeof room);
+        have = have && told == 1 && room[0] == (at % 3u < shards ? value : old);
+    }
+    return have;
+}
+
+/*
+ * How many batches were refused before one was not, each from the first shard on. The first growths
+ * are those of the lists: with these nothing has changed. After any other the shards before the one
+ * that is told have their edits, and the others have none.
+ */
+static long batches(mst_handle *handle) {
+    static uint8_t edits[30 * MST_EDIT_LONGEST];
+    size_t length = thirty_edits(edits, 0), stopped = 0, place = 7, shard = 0;
+    EXPECT(mst_sharded_try_apply(handle, edits, length, &place, &shard) == MST_OK);
+    for (long n = 0; n < 1000; n++) {
+        uint8_t old = (uint8_t)(2 * n % 256), value = (uint8_t)(old + 1);
+        /* all shards have the old value */
+        shard = 0;
+        length = thirty_edits(edits, old);
+        EXPECT(mst_sharded_try_apply(handle, edits, length, &place, &shard) == MST_OK);
+        length = thirty_edits(edits, value);
+        long before = live;
+        count_from(n);
+        int32_t told = mst_sharded_try_apply(handle, edits, length, &place, &shard);
+        count_on();
+        EXPECT(live == before && place == 7);
+        if (told == MST_OK) {
+            EXPECT(shard == 0 && have_edits(handle, 3, value, old) && stopped == 2);
+            return n;
+        }
+        EXPECT(told == MST_MEMORY && shard < 3 && shard >= stopped);
+        stopped = shard;
+        EXPECT(have_edits(handle, shard, value, old));
+        /* it goes on there */
+        EXPECT(mst_sharded_try_apply(handle, edits, length, &place, &shard) == MST_OK);
+        EXPECT(shard == 0 && have_edits(handle, 3, value, old));
+    }
+    return -1;
+}
+
 int main(void) {
     mst_handle handle = MST_HANDLE_CLOSED;
     long opened = openings();
@@ -106,9 +162,13 @@ int main(void) {
     EXPECT(asked_for(&handle, DIRECTORY) > 0 && asked_for(&handle, FORMAT) > 0);
     EXPECT(mst_sharded_release(&handle) == MST_OK && migrations(&handle, 2) > 0);
     EXPECT(mst_sharded_snapshot(&handle) == MST_OK && mst_sharded_format(&handle) == 2);
+    EXPECT(mst_sharded_release(&handle) == MST_OK);
+    long refused = batches(&handle);
+    EXPECT(refused > 10);
     EXPECT(mst_sharded_close(&handle) == MST_OK);
     counting = 0;
     EXPECT(live == 0);
-    printf("%ld openings, %ld root digests and %ld proofs refused\n", opened, roots, proofs);
+    printf("%ld openings, %ld root digests, %ld proofs and %ld batches refused\n", opened, roots,
+           proofs, refused);
     return ended("sharded_nomem");
 }

@@ -9,7 +9,7 @@ import threading
 import unittest
 
 import mst_store
-from mst_store import Format, Handle, Refused, open_sharded
+from mst_store import Format, Handle, Refused, RefusedEdit, RefusedShard, open_sharded
 
 HERE = os.path.dirname(os.path.abspath(__file__))
 sys.path.append(os.path.join(HERE, "..", "..", "verifiers", "python"))
@@ -81,6 +81,61 @@ class Sharded(unittest.TestCase):
             self.assertEqual(then.format(), Format.TWO)
             self.assertEqual([then.version_at(shard) for shard in range(2)], [2, 1])
         self.refused(mst_store.UNKNOWN_FORMAT, writer.migrate, 3)
+
+    def versions(self, handle):
+        with handle.snapshot() as then:
+            return [then.version_at(shard) for shard in range(then.shards())]
+
+    def test_batches_are_one_version_of_each_shard(self):
+        reader, writer = open_sharded(8, 2, [b"b", b"c", b"d"])
+        edits = [(b"d", b"1"), (b"a", b"1"), (b"b", b"1"), (b"a", b"2"), (b"b", None)]
+        writer.apply(edits)
+        self.assertEqual([reader.get(key) for key in (b"a", b"b", b"d")], [b"2", None, b"1"])
+        writer.try_apply(iter(edits), 3)
+        writer.apply([])
+        self.assertEqual(self.versions(reader), [1, 1, 0, 2])
+        # the third shard has no rows for its edits
+        edits += [(bytes((ord("c"), last)), b"") for last in range(9)] + [(b"d", b"3"), (b"a", b"3")]
+        for call in (writer.apply, writer.try_apply):
+            with self.assertRaises(RefusedShard) as caught:
+                call(edits)
+            self.assertEqual(caught.exception.code, mst_store.NO_FREE_ROWS)
+            self.assertEqual(caught.exception.shard, 2)
+            again = pickle.loads(pickle.dumps(caught.exception))
+            self.assertEqual((again.code, again.shard), (mst_store.NO_FREE_ROWS, 2))
+        self.assertEqual([reader.get(key) for key in (b"a", b"d")], [b"3", b"1"])
+        writer.apply(edits, start=3)
+        self.assertEqual(reader.get(b"d"), b"3")
+        self.assertEqual(self.versions(reader), [3, 3, 0, 3])
+
+    def test_refused_batches(self):
+        handle = open_sharded(16, 1, SPLITS)[0]
+        with self.assertRaises(RefusedEdit) as caught:
+            handle.apply([(b"a", b"1"), (b"b", bytes(65))])
+        self.assertEqual((caught.exception.code, caught.exception.place), (mst_store.BAD_VALUE, 1))
+        self.refused(mst_store.BAD_KEY, handle.try_apply, [(b"a", b"1"), (bytes(33), None)])
+        for start in (16, -1, 2**64):
+            self.refused(mst_store.ABSENT, handle.apply, [(b"a", b"1")], start)
+        self.assertRaises(TypeError, handle.apply, [], None)
+        with handle.snapshot() as then:
+            self.refused(mst_store.WRONG_STATE, then.apply, [(b"a", b"1")])
+        self.assertEqual(self.versions(handle), [0] * 16)
+        handle.close()
+        self.refused(mst_store.CLOSED, handle.apply, [(b"a", b"1")])
+
+    def test_batches_wait_for_each_shard(self):
+        handles = open_sharded(1000, 4, SPLITS)
+
+        def work(at):
+            for step in range(100):
+                handles[at].apply((bytes((shard, at)), bytes([step])) for shard in range(1, 256, 16))
+
+        threads = [threading.Thread(target=work, args=(at,)) for at in range(4)]
+        for thread in threads:
+            thread.start()
+        for thread in threads:
+            thread.join()
+        self.assertEqual(self.versions(handles[0]), [400] * 16)
 
     def test_refusals(self):
         self.refused(mst_store.UNKNOWN_FORMAT, open_sharded, 16, 1, [], 3)

@@ -25,7 +25,7 @@ from ._refusals import (
     ROWS_PINNED, SHORT_ROOM, UNKNOWN_FORMAT, VERSIONS_SPENT, WRONG_STATE, Busy, Refused,
     RefusedEdit,
 )
-from ._refusals import BAD_SPLITS, MIXED_FORMATS, STRAY_KEY
+from ._refusals import BAD_SPLITS, MIXED_FORMATS, STRAY_KEY, BusyShard, RefusedShard
 from ._sharded import Handle, open_sharded
 
 __version__ = "0.3.0"
@@ -35,5 +35,6 @@ __all__ = [
     "MEMORY", "NO_FREE_ROWS", "ROOT_LENGTH", "ROWS_PINNED", "SHORT_ROOM", "UNKNOWN_FORMAT",
     "VALUE_LONGEST", "VERSIONS_SPENT", "WRONG_STATE", "Busy", "Edit", "Format", "Octets", "Pass",
     "Refused", "RefusedEdit", "library_version", "open_store",
-    "BAD_SPLITS", "MIXED_FORMATS", "STRAY_KEY", "Handle", "open_sharded",
+    "BAD_SPLITS", "MIXED_FORMATS", "STRAY_KEY", "BusyShard", "Handle", "RefusedShard",
+    "open_sharded",
 ]

@@ -69,6 +69,7 @@ def _sharded_signatures() -> Dict[str, Tuple[Any, ...]]:
     writes = {
         "put": (hand, text, size, text, size, text, size),
         "remove": (hand, text, size, text, size),
+        "apply": (hand, text, size, pointer(size), pointer(size)),
         "migrate": (hand, ctypes.c_uint32, pointer(size)),
     }
     return {

@@ -24,6 +24,7 @@ MIXED_FORMATS = -27
 STRAY_KEY = -28
 
 _REASONS = {
+    ABSENT: "there is no such shard",
     UNKNOWN_FORMAT: "no format has this number",
     BAD_KEY: "a key has 1 to 32 bytes",
     BAD_VALUE: "a value has 0 to 64 bytes",
@@ -70,6 +71,23 @@ class Busy(Refused):
 
     def __init__(self, code: int = BUSY) -> None:
         super().__init__(code)
+
+
+class RefusedShard(Refused):
+    """A batch of a sharded map stopped at a shard, whose number, from 0, is `shard`: those before
+    it have their edits, and neither it nor one behind it has any. A call with the same edits from
+    it on makes the others."""
+
+    def __init__(self, code: int, shard: int) -> None:
+        super().__init__(code)
+        self.shard = shard
+
+    def __reduce__(self) -> Tuple[Type[Refused], Tuple[int, ...]]:
+        return type(self), (self.code, self.shard)
+
+
+class BusyShard(RefusedShard, Busy):
+    """A RefusedShard that is Busy: another handle has the turn of this shard."""
 
 
 def refuse(code: int) -> NoReturn:

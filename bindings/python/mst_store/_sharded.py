@@ -10,8 +10,12 @@ from typing import Any, Callable, Iterable, Iterator, List, NoReturn, Optional, 
 
 from ._library import KEY_LONGEST, ROOT_LENGTH, SHARDED_HAND, VALUE_LONGEST, ShardedHand
 from ._library import lib as _lib
-from ._passes import Format, Octets, _format, _octets, _pairs, _word
-from ._refusals import ABSENT, SHORT_ROOM
+from ._passes import Edit, Format, Octets, _format, _octets, _pairs, _word
+from ._passes import _packed as _packed_edits
+from ._refusals import (
+    ABSENT, BAD_KEY, BAD_VALUE, BUSY, MEMORY, NO_FREE_ROWS, SHORT_ROOM, VERSIONS_SPENT, BusyShard,
+    RefusedEdit, RefusedShard,
+)
 from ._refusals import refuse as _refuse
 
 
@@ -164,6 +168,32 @@ class Handle:
         are. Raises Refused with MIXED_FORMATS if they are in two."""
         with self._lock:
             return _format(_lib.mst_sharded_format(self._hand))
+
+    def try_apply(self, edits: Iterable[Edit], start: int = 0) -> None:
+        """Makes edits, as Pass.try_apply takes them: those of each shard as one version of that
+        shard, one shard after the other, or raises BusyShard.
+
+        Those of shards before `start` are passed over, so that a call may go on where one stopped.
+        RefusedShard tells which shard refused its edits. RefusedEdit tells which edit has a key or
+        a value of a bad length: no edit is made then.
+        """
+        self._apply(_lib.mst_sharded_try_apply, edits, start)
+
+    def apply(self, edits: Iterable[Edit], start: int = 0) -> None:
+        """As try_apply, but waits for the turn of each shard."""
+        self._apply(_lib.mst_sharded_apply, edits, start)
+
+    def _apply(self, call: Callable[..., int], edits: Iterable[Edit], start: int) -> None:
+        packed, place, shard = _packed_edits(edits), ctypes.c_size_t(), ctypes.c_size_t(_word(start))
+        with self._lock:
+            code = call(self._hand, packed, len(packed), ctypes.byref(place), ctypes.byref(shard))
+        if code in (BAD_KEY, BAD_VALUE):
+            raise RefusedEdit(code, place.value)
+        if code == BUSY:
+            raise BusyShard(code, shard.value)
+        if code in (MEMORY, NO_FREE_ROWS, VERSIONS_SPENT):
+            raise RefusedShard(code, shard.value)
+        _answer(code)
 
     def try_migrate(self, to: int) -> None:
         """Turns each shard to a format, one after the other, or raises Busy.

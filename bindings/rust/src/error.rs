@@ -36,6 +36,8 @@ pub enum Error {
     MixedFormats,
     /// A shard has a key outside of its interval. No handle makes one so.
     StrayKey,
+    /// The sharded map has no shard of this number.
+    NoShard,
     /// A number that the header does not give for the call: the library and this crate do not fit.
     Other(i32),
 }
@@ -45,6 +47,7 @@ impl Error {
     #[must_use]
     pub fn code(self) -> i32 {
         match self {
+            Error::NoShard => -1,
             Error::UnknownFormat => -3,
             Error::BadKey | Error::BadKeyAt(_) => -5,
             Error::BadValue | Error::BadValueAt(_) => -6,
@@ -63,6 +66,7 @@ impl Error {
 
     pub(crate) fn of(code: i32) -> Error {
         match code {
+            -1 => Error::NoShard,
             -3 => Error::UnknownFormat,
             -5 => Error::BadKey,
             -6 => Error::BadValue,
@@ -116,6 +120,7 @@ impl fmt::Display for Error {
             }
             Error::MixedFormats => out.write_str("the shards are in different formats"),
             Error::StrayKey => out.write_str("a shard has a key of another"),
+            Error::NoShard => out.write_str("the map has no shard of this number"),
             Error::Other(code) => write!(out, "the library answered {code}"),
         }
     }
@@ -164,5 +169,27 @@ impl std::error::Error for TryError {}
 impl From<Error> for TryError {
     fn from(error: Error) -> TryError {
         TryError::Refused(error)
+    }
+}
+
+/// Why a batch of a sharded map stopped. The shards before one have their edits, and neither it nor
+/// one behind it has any.
+#[derive(Debug, Clone, Copy, PartialEq, Eq, Hash)]
+pub struct Stopped<E> {
+    /// The number of the shard, from 0: a call with the same edits from it on makes the others.
+    pub shard: usize,
+    /// Why this shard, or the whole batch, was refused.
+    pub error: E,
+}
+
+impl<E: fmt::Display> fmt::Display for Stopped<E> {
+    fn fmt(&self, out: &mut fmt::Formatter<'_>) -> fmt::Result {
+        write!(out, "shard {}: {}", self.shard, self.error)
+    }
+}
+
+impl<E: std::error::Error + 'static> std::error::Error for Stopped<E> {
+    fn source(&self) -> Option<&(dyn std::error::Error + 'static)> {
+        Some(&self.error)
     }
 }

@@ -71,7 +71,7 @@ mod reads;
 mod sharded;
 
 pub use edits::Edit;
-pub use error::{Error, TryError};
+pub use error::{Error, Stopped, TryError};
 pub use format::Format;
 pub use reads::{Items, Pair, Reads};
 pub use sharded::{open_sharded, Handle, Snapshot};

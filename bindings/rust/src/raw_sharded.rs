@@ -47,6 +47,15 @@ pub(crate) type Put = unsafe extern "C" fn(
 pub(crate) type Migrate =
     unsafe extern "C" fn(handle: *mut ShardedHand, format: u32, stopped: *mut usize) -> i32;
 
+/// mst_sharded_apply and mst_sharded_try_apply.
+pub(crate) type Apply = unsafe extern "C" fn(
+    handle: *mut ShardedHand,
+    edits: *const u8,
+    length: usize,
+    place: *mut usize,
+    shard: *mut usize,
+) -> i32;
+
 /// mst_sharded_remove and mst_sharded_try_remove.
 pub(crate) type Remove = unsafe extern "C" fn(
     handle: *mut ShardedHand,
@@ -155,6 +164,20 @@ extern "C" {
         room_length: usize,
         count: *mut usize,
         length: *mut usize,
+    ) -> i32;
+    pub(crate) fn mst_sharded_try_apply(
+        handle: *mut ShardedHand,
+        edits: *const u8,
+        length: usize,
+        place: *mut usize,
+        shard: *mut usize,
+    ) -> i32;
+    pub(crate) fn mst_sharded_apply(
+        handle: *mut ShardedHand,
+        edits: *const u8,
+        length: usize,
+        place: *mut usize,
+        shard: *mut usize,
     ) -> i32;
     pub(crate) fn mst_sharded_try_migrate(
         handle: *mut ShardedHand,

@@ -1,7 +1,7 @@
 //! Sharded maps: one map over many stores, each for an interval of keys, with one root digest.
 use crate::raw::{ABSENT, SHORT_ROOM};
 use crate::raw_sharded::{self as raw, ShardedHand};
-use crate::{reads, Pair};
+use crate::{edits, reads, Edit, Pair, Stopped};
 use crate::{Error, Format, TryError, KEY_LONGEST, ROOT_LENGTH, VALUE_LONGEST};
 use std::fmt;
 
@@ -146,6 +146,40 @@ impl Handle {
             remove(&mut self.hand, key.as_ptr(), key.len(), room.as_mut_ptr(), room.len())
         };
         reads::value(code, &room)
+    }
+
+    /// Makes the edits, those of each shard as one version of that shard, one shard after the
+    /// other; of those of one key the last decides. Those of shards before `from` are passed over,
+    /// so that a call may go on where one stopped. `Busy` if another handle has the turn of a
+    /// shard.
+    pub fn try_apply(&mut self, edits: &[Edit<'_>], from: usize) -> Result<(), Stopped<TryError>> {
+        self.apply_by(raw::mst_sharded_try_apply, edits, from)
+            .map_err(|(code, place, shard)| Stopped { shard, error: TryError::of(code).at(place) })
+    }
+
+    /// As [`Handle::try_apply`], but waits for the turn of each shard.
+    pub fn apply(&mut self, edits: &[Edit<'_>], from: usize) -> Result<(), Stopped<Error>> {
+        self.apply_by(raw::mst_sharded_apply, edits, from)
+            .map_err(|(code, place, shard)| Stopped { shard, error: Error::of(code).at(place) })
+    }
+
+    /// A refusal is a number, with the place of the edit, if it is that of one, and the shard from
+    /// which on no edits are made.
+    fn apply_by(
+        &mut self,
+        apply: raw::Apply,
+        edits: &[Edit<'_>],
+        from: usize,
+    ) -> Result<(), (i32, usize, usize)> {
+        let packed = edits::packed(edits);
+        let (mut place, mut shard) = (0, from);
+        // Safety: the bytes are valid for their length, and so are the other pointers.
+        let code =
+            unsafe { apply(&mut self.hand, packed.as_ptr(), packed.len(), &mut place, &mut shard) };
+        match code {
+            0 => Ok(()),
+            code => Err((code, place, shard)),
+        }
     }
 
     /// Turns each shard to a format, one after the other. Returns `Busy` if another handle has the

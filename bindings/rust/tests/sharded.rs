@@ -1,5 +1,6 @@
 //! Answers of sharded maps, compared with those of a BTreeMap.
-use mst_store::{open_sharded, Error, Format, Handle};
+use mst_store::Edit::{Put, Remove};
+use mst_store::{open_sharded, Error, Format, Handle, Stopped, TryError};
 use std::collections::BTreeMap;
 use std::thread;
 
@@ -83,6 +84,38 @@ fn refusals() {
     assert_eq!(handle.put(b"a", b"1"), Err(Error::WrongState));
     drop(handle.snapshot());
     assert_eq!(handle.put(b"a", b"1"), Ok(None));
+}
+
+#[test]
+fn batches_are_one_version_of_each_shard() {
+    let mut handles = open_sharded(Format::One, 8, 2, &[b"b", b"c", b"d"]).unwrap();
+    let (mut reader, mut writer) = (handles.remove(0), handles.remove(0));
+    let mut edits = vec![Put(b"d", b"1"), Put(b"a", b"1"), Put(b"b", b"1"), Remove(b"b")];
+    assert_eq!(writer.try_apply(&edits, 0), Ok(()));
+    assert_eq!((reader.get(b"a"), reader.get(b"b")), (Ok(Some(b"1".to_vec())), Ok(None)));
+    assert_eq!((writer.apply(&edits, 3), writer.apply(&[], 0)), (Ok(()), Ok(())));
+    let mut then = reader.snapshot();
+    let versions: Vec<_> = (0..4).map(|shard| then.version_at(shard)).collect();
+    assert_eq!(versions, [Some(1), Some(1), Some(0), Some(2)]);
+    drop(then);
+    // the third shard has no rows for its edits
+    let keys: Vec<_> = (0..9).map(|last| [b'c', last]).collect();
+    edits.extend(keys.iter().map(|key| Put(key, b"")));
+    edits.extend([Put(b"a", b"2"), Put(b"d", b"2")]);
+    let stopped = Stopped { shard: 2, error: Error::NoFreeRows };
+    assert_eq!(writer.apply(&edits, 0), Err(stopped));
+    assert_eq!(stopped.to_string(), format!("shard 2: {}", Error::NoFreeRows));
+    assert_eq!(reader.get(b"a"), Ok(Some(b"2".to_vec())));
+    assert_eq!(reader.get(b"d"), Ok(Some(b"1".to_vec())));
+    assert_eq!(writer.try_apply(&edits, 3), Ok(()));
+    assert_eq!(reader.get(b"d"), Ok(Some(b"2".to_vec())));
+    let refused = |shard, error| Err(Stopped { shard, error });
+    assert_eq!(writer.apply(&edits, 4), refused(4, Error::NoShard));
+    assert_eq!(writer.apply(&[Put(b"a", b""), Remove(b"")], 1), refused(1, Error::BadKeyAt(1)));
+    assert_eq!(writer.apply(&[Put(b"a", &[0; 65])], 0), refused(0, Error::BadValueAt(0)));
+    std::mem::forget(writer.snapshot());
+    let pinned = TryError::Refused(Error::WrongState);
+    assert_eq!(writer.try_apply(&[], 0), Err(Stopped { shard: 0, error: pinned }));
 }
 
 #[test]

@@ -16,3 +16,4 @@ pub mod ShardedOpened
 pub mod ShardedProving
 pub mod ShardedReading
 pub mod ShardedMigrating
+pub mod ShardedBatches

@@ -4,7 +4,7 @@
 //!
 //! Each call returns a number. Its contract says, for all arguments, this number, each byte that
 //! the call writes, and what the hand holds after it. A number of 0 or more is an answer; -1 says
-//! that there is no such key; the others are refusals:
+//! that there is no such key, pair or shard; the others are refusals:
 //!
 //! | Number | When |
 //! |---|---|
@@ -45,6 +45,7 @@ mod packing;
 mod parts;
 mod ranging;
 mod sharded_asking;
+mod sharded_batches;
 mod sharded_calls;
 mod sharded_hand;
 mod sharded_held;

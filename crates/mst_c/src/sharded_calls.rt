@@ -3,6 +3,7 @@
 ghost use Rattle.std.specs.Prelude.{◌≡◌, ◌≢◌, ◌↔◌, ◌⊎◌, ℕ, List, pos, negsuc, length as count, None, IsSome};
 ghost use Rattle.mst_c.specs.Formats.{format_named};
 ghost use Rattle.mst_c.specs.Opened.{IsSize};
+ghost use Rattle.mst_c.specs.ShardedBatches.{ApplyTold};
 ghost use Rattle.mst_c.specs.ShardedMigrating.{MigrateTold};
 ghost use Rattle.mst_c.specs.ShardedOpened.{ShardsOpened, NoneHeld};
 ghost use Rattle.mst_c.specs.ShardedProving.{RootTold, ProveTold, DirectoryTold};
@@ -12,7 +13,8 @@ ghost use Rattle.mst_c.specs.ShardedTold.{GetTold, PutTold, RemoveTold, ShardsTo
 
 use crate::sharded_hand::{PaddedShardedHand, ShardedHand};
 use crate::{
-    sharded_migrating, sharded_opening, sharded_proving, sharded_reading, sharded_telling,
+    sharded_batches, sharded_migrating, sharded_opening, sharded_proving, sharded_reading,
+    sharded_telling,
 };
 use std::alloc::Global;
 
@@ -242,4 +244,27 @@ pub extern "C" fn mst_sharded_try_migrate(
         hand.new.held }
 {
     sharded_migrating::try_migrate(alloc, hand, format, place)
+}
+
+/// Makes the edits of a buffer, which is as that of `mst_try_apply`: those of each shard as one
+/// version of that shard, one shard after the other, from the one whose number is in `shard`, from
+/// 0. Those of the shards before it are passed over, and a shard with no edits gets no version.
+///
+/// Returns 0, and then `shard` is 0. Returns -21, -22, -9, -23 if a shard was refused its edits,
+/// whose number is then in `shard`: the shards before it have theirs, and those behind it were not
+/// tried. Returns -7; -5, -6, -25 for what is no edit, and then `place` is the number of the first
+/// such one, from 0; -8 for a snapshot; -1 if there is no such shard; -9 if a list was refused
+/// memory: nothing is changed, and `shard` stays. `place` stays where no edit is refused.
+#[unsafe(no_mangle)]
+pub extern "C" fn mst_sharded_try_apply(
+    alloc: Global,
+    hand: &mut ShardedHand,
+    edits: &[u8],
+    place: &mut usize,
+    shard: &mut usize,
+) -> i32
+    ensures told { ApplyTold hand.old.held edits.now place.old shard.old result place.new
+        shard.new hand.new.held }
+{
+    sharded_batches::try_apply(alloc, hand, edits, place, shard)
 }

@@ -5,6 +5,7 @@ ghost use Rattle.mst_key.specs.declared.history.Change.TheVariants.{Put, Remove}
 ghost use Rattle.mst_key.specs.Map.{map_next, map_range};
 ghost use Rattle.mst_sharded_proof.specs.Theorem.{HasShardedRoot};
 ghost use Rattle.mst_c.specs.declared.sharded_held.Sharing.TheVariants as sharing;
+ghost use Rattle.mst_c.specs.ShardedBatches.{Spreads};
 ghost use Rattle.mst_c.specs.ShardedHolding.{shards_in, Gets, Writes, PinsShards, Releases};
 ghost use Rattle.mst_c.specs.ShardedMigrating.{MovesAll};
 ghost use Rattle.mst_c.specs.ShardedProving.{Lists, Proof, IsDirectory};
@@ -12,9 +13,11 @@ ghost use Rattle.mst_c.specs.ShardedReading.{Finds, Numbers, HasFormat};
 ghost use Rattle.mst_c.specs.ShardedStates.{PinsNone};
 
 use crate::held::Unwritten;
+use crate::packing::Packed;
 use crate::sharded_asking::{
     Unlisted, Unread, directory_of, format_of, next_of, proof_of, range_of, root_of, version_of,
 };
+use crate::sharded_batches::{Unspread, apply};
 use crate::sharded_hand::{PaddedShardedHand, ShardedHand, ShardedTaken, give};
 use crate::sharded_migrating::{Unmigrated, migrate};
 use mst_key::{Format, Key, Value};
@@ -308,5 +311,20 @@ impl ShardedHeld {
         let (sharing, moved) = migrate(replace(&mut self.sharing, Sharing::Away), alloc, to);
         self.sharing = sharing;
         moved
+    }
+
+    /// Makes the edits of a buffer, those of the shards from one on, if this is a handle.
+    pub(crate) fn try_apply(
+        &mut self,
+        alloc: Global,
+        packed: &Packed<'_>,
+        from: usize,
+    ) -> Result<(), Unspread>
+        ensures spreads { Spreads packed.now from self.old result self.new }
+    {
+        let sharing = replace(&mut self.sharing, Sharing::Away);
+        let (sharing, applied) = apply(sharing, alloc, packed, from);
+        self.sharing = sharing;
+        applied
     }
 }

@@ -3,6 +3,7 @@ package store
 import (
 	"bytes"
 	"errors"
+	"fmt"
 	"math/rand"
 	"testing"
 
@@ -139,6 +140,100 @@ func TestAShardedMapRefuses(t *testing.T) {
 		t.Fatal(err)
 	}
 	if err := handle.Close(); !errors.Is(err, mst.ErrClosed) {
+		t.Fatal(err)
+	}
+}
+
+// appliedTwice tries a batch from a shard on by both calls, which are to end likewise.
+func appliedTwice(t *testing.T, handle *mst.Handle, batch *mst.Batch, from int) error {
+	t.Helper()
+	first, second := handle.TryApply(batch, from), handle.Apply(batch, from)
+	if (first == nil) != (second == nil) || first != nil && first.Error() != second.Error() {
+		t.Fatal(first, second)
+	}
+	return second
+}
+
+func versionsOf(t *testing.T, handle *mst.Handle) []uint64 {
+	t.Helper()
+	then, err := handle.Snapshot()
+	if err != nil {
+		t.Fatal(err)
+	}
+	defer then.Release()
+	var versions []uint64
+	for shard := 0; ; shard++ {
+		version, found, err := then.VersionAt(shard)
+		if err != nil {
+			t.Fatal(err)
+		}
+		if !found {
+			return versions
+		}
+		versions = append(versions, version)
+	}
+}
+
+func TestABatchIsOneVersionOfEachShard(t *testing.T) {
+	handles, err := mst.OpenSharded(mst.Format1, 8, 2, [][]byte{{'b'}, {'c'}, {'d'}})
+	if err != nil {
+		t.Fatal(err)
+	}
+	reader, writer := handles[0], handles[1]
+	var batch mst.Batch
+	batch.Put([]byte("d"), []byte("1")).Put([]byte("a"), []byte("1")).Remove([]byte("b"))
+	if err := appliedTwice(t, writer, &batch, 0); err != nil {
+		t.Fatal(err)
+	}
+	if err := appliedTwice(t, writer, &batch, 3); err != nil {
+		t.Fatal(err)
+	}
+	if made := versionsOf(t, reader); fmt.Sprint(made) != "[2 2 0 4]" {
+		t.Fatal(made)
+	}
+	// the third shard has no rows for its edits
+	for last := byte(0); last < 9; last++ {
+		batch.Put([]byte{'c', last}, nil)
+	}
+	batch.Put([]byte("a"), []byte("2")).Put([]byte("d"), []byte("2"))
+	var stopped *mst.ShardError
+	err = appliedTwice(t, writer, &batch, 0)
+	if !errors.As(err, &stopped) || stopped.Shard != 2 || !errors.Is(err, mst.ErrNoFreeRows) {
+		t.Fatal(err)
+	}
+	if made := versionsOf(t, reader); fmt.Sprint(made) != "[4 4 0 4]" {
+		t.Fatal(made)
+	}
+	if value, present, err := reader.Get([]byte("a")); !isTold(value, present, err, []byte("2")) {
+		t.Fatal(value, present, err)
+	}
+	if value, present, err := reader.Get([]byte("d")); !isTold(value, present, err, []byte("1")) {
+		t.Fatal(value, present, err)
+	}
+	for _, from := range []int{4, -1} {
+		if err := appliedTwice(t, writer, &batch, from); !errors.Is(err, mst.ErrNoShard) {
+			t.Fatal(err)
+		}
+	}
+	batch.Reset()
+	batch.Put([]byte("a"), nil).Remove(nil)
+	var bad *mst.EditError
+	err = appliedTwice(t, writer, &batch, 0)
+	if !errors.As(err, &bad) || bad.Place != 1 || !errors.Is(err, mst.ErrKey) {
+		t.Fatal(err)
+	}
+	then, err := writer.Snapshot()
+	if err != nil {
+		t.Fatal(err)
+	}
+	if err := appliedTwice(t, writer, &mst.Batch{}, 0); !errors.Is(err, mst.ErrPinned) {
+		t.Fatal(err)
+	}
+	then.Release()
+	if err := writer.Close(); err != nil {
+		t.Fatal(err)
+	}
+	if err := appliedTwice(t, writer, &mst.Batch{}, 0); !errors.Is(err, mst.ErrClosed) {
 		t.Fatal(err)
 	}
 }
