@@ -1,9 +1,9 @@
 -- Lists of which one element is taken out and put back.
-use Rattle.std.proofs.Common.{◌≡◌, ◌≢◌, ℕ, zero, suc, ◌+◌, ◌-◌, ◌<◌, ◌≤◌, List, [], ◌∷◌, ◌++◌, length, take, get_or, set, refl, sym, ap, ◌∙◌, subst, arith, length-append, length-set, get_or-set_same, get_or-set_other}
+use Rattle.std.proofs.Common.{◌≡◌, ◌≢◌, ℕ, zero, suc, ◌+◌, ◌-◌, ◌<◌, ◌≤◌, List, [], ◌∷◌, ◌++◌, length, take, get_or, set, refl, sym, ap, ◌∙◌, subst, arith, length-append, length-set, get_or-set_same, get_or-set_other, drop}
 use Rattle.std.specs.List.{swap_remove, SwappedAt}
 use Rattle.std.proofs.lemmas.List.{same_lists, length-take-le, get_or-take}
 use Rattle.std.proofs.Math.ListN.{get_or-append}
-use Rattle.std.proofs.Math.Seq.{get_or-append_seam}
+use Rattle.std.proofs.Math.Seq.{get_or-append_seam, take-append_seam}
 use mathlib.Core.Logic.{dite}
 use native.Mathlib.Decide.{ℕ_discrete}
 
@@ -67,3 +67,12 @@ module _ {X : Type 0} where
   written_whole n (w ∷ ws) rest is =
       ap (λ (j : ℕ). take j (w ∷ (ws ++ rest))) is
       ∙ ap (λ (l : List X). w ∷ l) (written_whole (length ws) ws rest refl)
+
+-- A list whose slice a call gave back as it was: what the slice has, and behind it what the list
+-- had there.
+pub given_back : {A : Type 0} (n : ℕ) (new old ps : List A) → n ≡ length ps → new ≡ ps
+    → take n (new ++ drop (length new) old) ≡ ps
+given_back {A} n new old ps count same =
+    ap (λ (k : ℕ). take k (new ++ drop (length new) old))
+    (count ∙ ap (λ (l : List A). length l) (sym same))
+    ∙ take-append_seam new (drop (length new) old) ∙ same

@@ -1,0 +1,59 @@
+use Rattle.std.proofs.Common.{◌≡◌, ◌≤◌, ◌∙◌, ℕ, List, length, vec_items, vec_len, rules, arith, sym, ap, subst}
+use Rattle.std.specs.Arc.{arc_value}
+use Rattle.std.specs.List.{AllByRecursion}
+use Rattle.std.specs.Prelude.{Some}
+use Rattle.mst_key.specs.History.{after}
+use Rattle.mst_key.specs.Map.{IsMap}
+use Rattle.mst_store.specs.Passes.{Known}
+use Rattle.mst_sharded.specs.Listing.{Listing, HasListed}
+use Rattle.mst_sharded.specs.Shared.{AreOf}
+use Rattle.mst_sharded.specs.Sharding.{sharding, IsSharding}
+use Rattle.mst_sharded.proofs.Moved.{given_back}
+use Rattle.mst_sharded.proofs.shared.SharedSnapshot.prove.Goals as goal
+
+pub invariant_of-result : goal.invariant_of-result
+invariant_of-result g c =
+    let was = c.self.invariant in
+    let splits : List (List ℕ) = (arc_value c.self.inside.map).splits in
+    let ps : List Known = vec_items c.self.inside.pinned in
+    let zs : List Known = vec_items c.lay_pins-pinned.result in
+    let seen : c.as_mut_slice.result.now ≡ ps = search rules in
+    let lifted : vec_items c.lift_pins-pins.result.0 ≡ ps = search rules in
+    let count : vec_len c.lift_pins-pins.result.0 ≡ length ps =
+    c.lift_pins-pins.result.0.ok.0 ∙ ap (λ (l : List Known). length l) lifted in
+    let now : zs ≡ ps = c.lay_pins-pinned.ensures.same
+    ∙ given_back (vec_len c.lift_pins-pins.result.0) c.proof_in-told.new.pinned
+    (vec_items c.lift_pins-pins.result.0) ps count (c.proof_in-told.ensures.same ∙ seen) in
+    let are : c.split_keys.result.now ≡ splits = search rules in
+    let listed = subst (λ (x : List (List ℕ)). HasListed x c.proof_in-told.new.list ps) are
+    (subst (λ (x : List Known). HasListed c.split_keys.result.now c.proof_in-told.new.list x) seen
+    c.proof_in-told.ensures.listed) in
+    let store = ap (λ (l : Listing). l.pass.store) c.of-directory.ensures.same
+    ∙ c.proof_in-told.ensures.own ∙ ap (λ (l : Listing). l.pass.store) c.lift-list.ensures.same in
+    let long : length zs ≡ length ps = ap (λ (l : List Known). length l) now in
+    let before = c.self.inside.pinned.ok.0 in
+    let after_it = c.lay_pins-pinned.result.ok.0 in
+    let room = was.7 in (
+      subst (λ (x : List Known). IsSharding (sharding splits x)) (sym now) was.0,
+      subst (AllByRecursion (λ (x : Known). IsMap (after x.seen))) (sym now) was.1,
+      subst (AllByRecursion (λ (x : Known). length (after x.seen) ≤ 65535)) (sym now) was.2,
+      subst (λ (x : List Known). HasListed splits c.of-directory.result x) (sym now)
+          (subst (λ (l : Listing). HasListed splits l ps) (sym c.of-directory.ensures.same) listed),
+      subst (λ (x : List Known). AreOf (arc_value c.self.inside.map).stores x) (sym now) was.4,
+      was.5 ∙ ap Some (sym store),
+      was.6,
+      omega (arith, long, before, after_it, room),
+    )
+
+pub returns-clause-same : goal.returns-clause-same
+returns-clause-same g c =
+    let splits : List (List ℕ) = (arc_value c.self.inside.map).splits in
+    let ps : List Known = vec_items c.self.inside.pinned in
+    let seen : c.as_mut_slice.result.now ≡ ps = search rules in
+    let lifted : vec_items c.lift_pins-pins.result.0 ≡ ps = search rules in
+    let count : vec_len c.lift_pins-pins.result.0 ≡ length ps =
+    c.lift_pins-pins.result.0.ok.0 ∙ ap (λ (l : List Known). length l) lifted in
+    let now : vec_items c.lay_pins-pinned.result ≡ ps = c.lay_pins-pinned.ensures.same
+    ∙ given_back (vec_len c.lift_pins-pins.result.0) c.proof_in-told.new.pinned
+    (vec_items c.lift_pins-pins.result.0) ps count (c.proof_in-told.ensures.same ∙ seen) in
+    ap (λ (x : List Known). sharding splits x) now ∙ c.self.view_is
