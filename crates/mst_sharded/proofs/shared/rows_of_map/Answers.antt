@@ -1,6 +1,8 @@
-use Rattle.std.proofs.Common.{◌≡◌, ◌∙◌, List, vec_items, sym, ap, subst}
+use Rattle.std.proofs.Common.{◌≡◌, ◌∙◌, List, vec_items, sym, ap, subst, length}
 use Rattle.std.proofs.lemmas.Result.{IfOk-weaker}
 use Rattle.mst_store.specs.Passes.{StoreId}
+use Rattle.mst_key.proofs.Alls.{alls-weaker}
+use Rattle.std.specs.List.{AllByRecursion}
 use Rattle.mst_sharded.specs.Opening.{Shards, Dealt, dealt_from, new_handles}
 use Rattle.mst_sharded.specs.Shared.{AreRowsOf, handles_in}
 use Rattle.mst_sharded.proofs.Dealing.{all_handles}
@@ -45,3 +47,21 @@ pub returns-clause-splits : goal.returns-clause-splits
 returns-clause-splits g c =
     on_ok_weaker_from c.all_rows.result
     (subst (λ (s : Shards). IsSplits s.splits) c.map.view_is c.map.invariant.0)
+
+pub all_rows-requires-clause-alone : goal.all_rows-requires-clause-alone
+all_rows-requires-clause-alone g c =
+    let has = c.map.invariant.1 in
+    subst (AllByRecursion (λ (s : StoreId). s.passes ≡ 1)) (sym c.as_slice.ensures.value)
+    (alls-weaker _ (λ (s : StoreId). s.passes ≡ 1) (λ s shape. shape.1)
+    (vec_items c.map.inside.directories) has.directories_shaped)
+
+pub all_rows-requires-clause-passes : goal.all_rows-requires-clause-passes
+all_rows-requires-clause-passes g c =
+    let has = c.map.invariant.1 in
+    let directories : List StoreId = vec_items c.map.inside.directories in
+    subst (λ (l : List StoreId). AllByRecursion (λ s. s.passes ≡ length l) c.as_slice-2.result.now)
+    (sym c.as_slice.ensures.value)
+    (subst (AllByRecursion (λ (s : StoreId). s.passes ≡ length directories))
+    (sym c.as_slice-2.ensures.value)
+    (alls-weaker _ (λ (s : StoreId). s.passes ≡ length directories)
+    (λ s shape. shape.1 ∙ sym has.handles) (vec_items c.map.inside.stores) has.shaped))

@@ -1,7 +1,8 @@
-use Rattle.std.proofs.Common.{◌≡◌, ◌∙◌, ℕ, List, map, vec_items, sym, ap, subst}
+use Rattle.std.proofs.Common.{◌≡◌, ◌∙◌, ℕ, List, map, vec_items, sym, ap, subst, length}
 use Rattle.std.specs.List.{AllByRecursion}
 use Rattle.std.proofs.lemmas.Result.{IfOk-weaker}
 use Rattle.mst_store.specs.Passes.{StoreId}
+use Rattle.mst_key.proofs.Alls.{alls-weaker}
 use Rattle.mst_sharded.specs.Opening.{Shards, Dealt, dealt_from, IsWhole, new_handles}
 use Rattle.mst_sharded.proofs.Dealing.{handle_of_row, all_whole, all_handles}
 use Rattle.mst_sharded.proofs.sharded.Sharded.deal.Goals as goal
@@ -43,3 +44,21 @@ returns g c =
           ∙ ap (λ (l : List Dealt). map (handle_of_row splits) l) are ∙ all_handles all
           ∙ ap (λ (s : Shards). new_handles s) c.self.view_is) c.handles_of.ensures.handles;
     }
+
+pub all_rows-requires-clause-alone : goal.all_rows-requires-clause-alone
+all_rows-requires-clause-alone g c =
+    let has = c.self.invariant.1 in
+    subst (AllByRecursion (λ (s : StoreId). s.passes ≡ 1)) (sym c.as_slice.ensures.value)
+    (alls-weaker _ (λ (s : StoreId). s.passes ≡ 1) (λ s shape. shape.1)
+    (vec_items c.self.inside.directories) has.directories_shaped)
+
+pub all_rows-requires-clause-passes : goal.all_rows-requires-clause-passes
+all_rows-requires-clause-passes g c =
+    let has = c.self.invariant.1 in
+    let directories : List StoreId = vec_items c.self.inside.directories in
+    subst (λ (l : List StoreId). AllByRecursion (λ s. s.passes ≡ length l) c.as_slice-2.result.now)
+    (sym c.as_slice.ensures.value)
+    (subst (AllByRecursion (λ (s : StoreId). s.passes ≡ length directories))
+    (sym c.as_slice-2.ensures.value)
+    (alls-weaker _ (λ (s : StoreId). s.passes ≡ length directories)
+    (λ s shape. shape.1 ∙ sym has.handles) (vec_items c.self.inside.stores) has.shaped))
