@@ -40,6 +40,21 @@ fn tell(rt: &HostRuntime, what: &str, root: &[u8; 32], key: &Key, answer: &Answe
     Ok(())
 }
 
+// What somebody makes of an answer on the way.
+fn forged(answer: Answer) -> Result<Answer> {
+    let value = Value::new(b"31")?;
+    Ok(Answer {
+        value: Some(value),
+        proof: answer.proof,
+    })
+}
+
+// The client gets an answer, and then a forged one.
+fn compare(rt: &HostRuntime, root: &[u8; 32], key: &Key, told: Answer) -> Result<()> {
+    tell(rt, "the answer", root, key, &told)?;
+    tell(rt, "a forged one", root, key, &forged(told)?)
+}
+
 // The service answers, and somebody changes the value on the way.
 fn show(rt: &HostRuntime, mut pass: Pass<'_, Global>) -> Result<()> {
     let apple = Key::new(b"apple")?;
@@ -48,12 +63,7 @@ fn show(rt: &HostRuntime, mut pass: Pass<'_, Global>) -> Result<()> {
     let root = pinned.root();
     let told = answer_for(rt.alloc(), &mut pinned, &apple)?;
     pinned.unpin();
-    tell(rt, "the answer", &root, &apple, &told)?;
-    let forged = Answer {
-        value: Some(Value::new(b"31")?),
-        proof: told.proof,
-    };
-    tell(rt, "a forged one", &root, &apple, &forged)
+    compare(rt, &root, &apple, told)
 }
 
 pub fn run(rt: &HostRuntime) -> Result<()> {

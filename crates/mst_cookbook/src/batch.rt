@@ -10,28 +10,50 @@ const SHAPE: Shape = Shape {
     format: Format::One,
 };
 
-// The edit that gives a fruit a price.
-fn put(fruit: &str, price: &str) -> Result<Edit> {
-    let value = Value::new(price.as_bytes())?;
-    Ok(Edit::Put(Key::new(fruit.as_bytes())?, value))
+/// A fruit with its new price, or with none if it is taken out.
+type Change = (&'static str, Option<&'static str>);
+
+// The edits of a block.
+fn edits_of(alloc: Global, changes: &[Change]) -> Result<Vec<Edit>> {
+    let mut edits = Vec::new(alloc);
+    for (fruit, price) in changes {
+        let key = Key::new(fruit.as_bytes())?;
+        let edit = match price {
+            Some(text) => Edit::Put(key, Value::new(text.as_bytes())?),
+            None => Edit::Remove(key),
+        };
+        edits.push(edit)?;
+    }
+    Ok(edits)
 }
 
-// Makes a block, and prints which version it is and how many keys there are.
-fn apply(rt: &HostRuntime, pass: &mut Pass<'_, Global>, block: &[Edit]) -> Result<()> {
-    pass.try_apply(rt.alloc(), block)?;
+// Prints which version a block of so many edits made, and how many keys there are.
+fn tell(rt: &HostRuntime, pass: &mut Pass<'_, Global>, edits: usize) -> Result<()> {
     let version = pass.version();
     let keys = pass.range(rt.alloc(), None, None, 100)?.len();
-    let edits = block.len();
     println!(rt; "a block of {edits}: version {version} has {keys} keys")?;
     Ok(())
 }
 
+// Makes a block.
+fn apply(rt: &HostRuntime, pass: &mut Pass<'_, Global>, changes: &[Change]) -> Result<()> {
+    let block = edits_of(rt.alloc(), changes)?;
+    pass.try_apply(rt.alloc(), &block)?;
+    tell(rt, pass, changes.len())
+}
+
+const FIRST: &[Change] = &[
+    ("apple", Some("30")),
+    ("plum", Some("12")),
+    ("pear", Some("20")),
+];
+
+const SECOND: &[Change] = &[("apple", Some("35")), ("plum", None)];
+
 // Makes two blocks.
 fn show(rt: &HostRuntime, mut pass: Pass<'_, Global>) -> Result<()> {
-    let first = [put("apple", "30")?, put("plum", "12")?, put("pear", "20")?];
-    apply(rt, &mut pass, &first)?;
-    let second = [put("apple", "35")?, Edit::Remove(Key::new(b"plum")?)];
-    apply(rt, &mut pass, &second)
+    apply(rt, &mut pass, FIRST)?;
+    apply(rt, &mut pass, SECOND)
 }
 
 pub fn run(rt: &HostRuntime) -> Result<()> {

@@ -11,10 +11,12 @@ const SHAPE: Shape = Shape {
     format: Format::One,
 };
 
-// Puts a price.
-fn put(pass: &mut Pass<'_, Global>, fruit: &str, price: &str) -> Result<()> {
-    let value = Value::new(price.as_bytes())?;
-    pass.try_put(&Key::new(fruit.as_bytes())?, &value)?;
+// Puts fruits with their prices.
+fn put(pass: &mut Pass<'_, Global>, prices: &[(&str, &str)]) -> Result<()> {
+    for (fruit, price) in prices {
+        let value = Value::new(price.as_bytes())?;
+        pass.try_put(&Key::new(fruit.as_bytes())?, &value)?;
+    }
     Ok(())
 }
 
@@ -52,15 +54,12 @@ fn compare(
 
 // Fills both, in other orders, and compares them before and after a change of one.
 fn show(rt: &HostRuntime, mut ours: Pass<'_, Global>, mut theirs: Pass<'_, Global>) -> Result<()> {
-    put(&mut ours, "apple", "30")?;
-    put(&mut ours, "plum", "12")?;
-    put(&mut theirs, "plum", "12")?;
-    put(&mut theirs, "apple", "30")?;
+    put(&mut ours, &[("apple", "30"), ("plum", "12")])?;
+    put(&mut theirs, &[("plum", "12"), ("apple", "30")])?;
     let (mut ours, mut theirs) = (ours.pin(), theirs.pin());
     compare(rt, &mut ours, &mut theirs)?;
     let (ours, mut theirs) = (ours.unpin(), theirs.unpin());
-    put(&mut theirs, "apple", "35")?;
-    put(&mut theirs, "pear", "20")?;
+    put(&mut theirs, &[("apple", "35"), ("pear", "20")])?;
     let (mut ours, mut theirs) = (ours.pin(), theirs.pin());
     compare(rt, &mut ours, &mut theirs)
 }

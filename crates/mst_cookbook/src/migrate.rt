@@ -1,7 +1,7 @@
 //! Turns a store to format 2, beside a reader that pins the version before.
 use anyhow::{Error, Result};
 use mst_key::{Format, Key, Value};
-use mst_store::{Pass, Shape, Store};
+use mst_store::{Pass, Pinned, Shape, Store};
 use std::alloc::Global;
 
 const KEYS: u32 = 1_000;
@@ -25,14 +25,25 @@ fn fill(rt: &HostRuntime, pass: &mut Pass<'_, Global>) -> Result<()> {
 }
 
 // Prints what a version's proofs are like.
-fn tell(rt: &HostRuntime, whose: &str, format: Format, proof: &[u8]) -> Result<()> {
+fn tell(rt: &HostRuntime, whose: &str, format: Format, bytes: usize) -> Result<()> {
     let number = match format {
         Format::One => 1,
         Format::Two => 2,
     };
-    let bytes = proof.len();
     println!(rt; "{whose}: format {number}, a proof of {bytes} bytes")?;
     Ok(())
+}
+
+// What a proof of the key is like in a pinned version.
+fn tell_pinned(rt: &HostRuntime, pinned: &mut Pinned<'_, Global>, key: &Key) -> Result<()> {
+    let bytes = pinned.prove(rt.alloc(), key)?.len();
+    tell(rt, "the pinned version", pinned.format(), bytes)
+}
+
+// What it is like in the version now.
+fn tell_now(rt: &HostRuntime, pass: &mut Pass<'_, Global>, key: &Key) -> Result<()> {
+    let bytes = pass.prove(rt.alloc(), key)?.len();
+    tell(rt, "the version now", pass.format(), bytes)
 }
 
 // Migrates, and compares the version before, which the reader pins, with the one after.
@@ -41,10 +52,8 @@ fn show(rt: &HostRuntime, mut writer: Pass<'_, Global>, reader: Pass<'_, Global>
     let key = Key::new(b"user 1")?;
     let mut pinned = reader.pin();
     writer.try_migrate(rt.alloc(), Format::Two)?;
-    let proof = pinned.prove(rt.alloc(), &key)?;
-    tell(rt, "the pinned version", pinned.format(), &proof)?;
-    let proof = writer.prove(rt.alloc(), &key)?;
-    tell(rt, "the version now", writer.format(), &proof)?;
+    tell_pinned(rt, &mut pinned, &key)?;
+    tell_now(rt, &mut writer, &key)?;
     pinned.unpin();
     Ok(())
 }

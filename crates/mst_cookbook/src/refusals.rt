@@ -44,6 +44,28 @@ fn put<T: Wait>(
     }
 }
 
+// Puts keys with a price.
+fn put_each<T: Wait>(waits: &T, pass: &mut Pass<'_, Global>, fruits: &[&str]) -> Result<()> {
+    let price = Value::new(b"30")?;
+    for fruit in fruits {
+        put(waits, pass, &Key::new(fruit.as_bytes())?, &price)?;
+    }
+    Ok(())
+}
+
+// Changes the price of an apple, and prints whether that went through.
+fn change<T: Wait>(
+    rt: &HostRuntime,
+    waits: &T,
+    pass: &mut Pass<'_, Global>,
+    what: &str,
+    price: &str,
+) -> Result<()> {
+    let (key, value) = (Key::new(b"apple")?, Value::new(price.as_bytes())?);
+    let is_done = put(waits, pass, &key, &value).is_ok();
+    tell(rt, what, is_done)
+}
+
 // Puts three keys, and changes one of them twice beside a pinned version.
 fn show<T: Wait>(
     rt: &HostRuntime,
@@ -51,18 +73,18 @@ fn show<T: Wait>(
     mut writer: Pass<'_, Global>,
     reader: Pass<'_, Global>,
 ) -> Result<()> {
-    let (key, value) = (Key::new(b"apple")?, Value::new(b"35")?);
-    put(waits, &mut writer, &Key::new(b"plum")?, &value)?;
-    put(waits, &mut writer, &Key::new(b"pear")?, &value)?;
-    put(waits, &mut writer, &key, &Value::new(b"30")?)?;
+    put_each(waits, &mut writer, &["plum", "pear", "apple"])?;
     let pinned = reader.pin();
-    let first = put(waits, &mut writer, &key, &Value::new(b"31")?).is_ok();
-    tell(rt, "a change beside a pinned version", first)?;
-    let second = put(waits, &mut writer, &key, &value).is_ok();
-    tell(rt, "one more", second)?;
+    change(
+        rt,
+        waits,
+        &mut writer,
+        "a change beside a pinned version",
+        "31",
+    )?;
+    change(rt, waits, &mut writer, "one more", "35")?;
     pinned.unpin();
-    let after = put(waits, &mut writer, &key, &value).is_ok();
-    tell(rt, "the same after the unpin", after)
+    change(rt, waits, &mut writer, "the same after the unpin", "35")
 }
 
 pub fn run<T: Wait>(rt: &HostRuntime, waits: &T) -> Result<()> {

@@ -11,10 +11,12 @@ const SHAPE: Shape = Shape {
     format: Format::One,
 };
 
-// Gives an account an amount.
-fn put(writer: &mut Pass<'_, Global>, name: &str, amount: &str) -> Result<()> {
-    let value = Value::new(amount.as_bytes())?;
-    writer.try_put(&Key::new(name.as_bytes())?, &value)?;
+// Gives accounts their amounts, one after the other.
+fn put(writer: &mut Pass<'_, Global>, amounts: &[(&str, &str)]) -> Result<()> {
+    for (name, amount) in amounts {
+        let value = Value::new(amount.as_bytes())?;
+        writer.try_put(&Key::new(name.as_bytes())?, &value)?;
+    }
     Ok(())
 }
 
@@ -32,11 +34,9 @@ fn report(rt: &HostRuntime, pinned: &mut Pinned<'_, Global>) -> Result<()> {
 
 // Reports on two versions.
 fn show(rt: &HostRuntime, mut writer: Pass<'_, Global>, reader: Pass<'_, Global>) -> Result<()> {
-    put(&mut writer, "ann", "60")?;
-    put(&mut writer, "bob", "40")?;
+    put(&mut writer, &[("ann", "60"), ("bob", "40")])?;
     let mut pinned = reader.pin();
-    put(&mut writer, "ann", "10")?;
-    put(&mut writer, "bob", "90")?;
+    put(&mut writer, &[("ann", "10"), ("bob", "90")])?;
     report(rt, &mut pinned)?;
     let mut pinned = pinned.unpin().pin();
     report(rt, &mut pinned)?;

@@ -14,17 +14,16 @@ const SHAPE: Shape = Shape {
     format: Format::One,
 };
 
-// Writes through a handle, and proves an answer of a snapshot.
-fn show(rt: &HostRuntime, mut handle: Handle<'_, Global, Global>) -> Result<()> {
-    let (apple, plum) = (Key::new(b"apple")?, Key::new(b"plum")?);
-    handle.try_put(&apple, &Value::new(b"30")?)?;
-    handle.try_put(&plum, &Value::new(b"12")?)?;
-    let mut snapshot = handle.snapshot();
-    let root = snapshot.root(rt.alloc())?;
-    let proof = snapshot.prove(rt.alloc(), &plum)?;
-    let shards = snapshot.shards();
-    snapshot.release();
-    match verify_sharded(Format::One, &root, &plum, &proof) {
+// Puts a price.
+fn put(handle: &mut Handle<'_, Global, Global>, fruit: &str, price: &str) -> Result<()> {
+    let value = Value::new(price.as_bytes())?;
+    handle.try_put(&Key::new(fruit.as_bytes())?, &value)?;
+    Ok(())
+}
+
+// Prints what somebody finds who has the root digest of all shards, and a proof.
+fn tell(rt: &HostRuntime, shards: usize, root: &[u8; 32], key: &Key, proof: &[u8]) -> Result<()> {
+    match verify_sharded(Format::One, root, key, proof) {
         Ok(Some(value)) => {
             let price = str::from_utf8(value.bytes())?;
             println!(rt; "{shards} shards; proved: the price of plum is {price}")?;
@@ -32,6 +31,19 @@ fn show(rt: &HostRuntime, mut handle: Handle<'_, Global, Global>) -> Result<()> 
         _ => println!(rt; "{shards} shards; nothing is proved")?,
     }
     Ok(())
+}
+
+// Writes through a handle, and proves an answer of a snapshot.
+fn show(rt: &HostRuntime, mut handle: Handle<'_, Global, Global>) -> Result<()> {
+    put(&mut handle, "apple", "30")?;
+    put(&mut handle, "plum", "12")?;
+    let plum = Key::new(b"plum")?;
+    let mut snapshot = handle.snapshot();
+    let root = snapshot.root(rt.alloc())?;
+    let proof = snapshot.prove(rt.alloc(), &plum)?;
+    let shards = snapshot.shards();
+    snapshot.release();
+    tell(rt, shards, &root, &plum, &proof)
 }
 
 pub fn run(rt: &HostRuntime) -> Result<()> {
