@@ -75,14 +75,14 @@ fn a_batch_leaves_what_single_writes_leave(rt: HostRuntime) {
 }
 
 /// So few rows that a shard has room for some keys, and not for all of its own.
-const FEW_ROWS: Shape = Shape {
+pub(crate) const FEW_ROWS: Shape = Shape {
     rows: 24,
     passes: 1,
     format: Format::One,
 };
 
-// Puts into all keys of the first half but one, and all of the second.
-fn uneven(rt: &(impl Abort + AllocGlobal)) -> Vec<Edit> {
+/// Puts at two keys of the first half, and at all of the second.
+pub(crate) fn uneven(rt: &(impl Abort + AllocGlobal)) -> Vec<Edit> {
     let mut edits = Vec::new(rt.alloc());
     for number in 0..66usize {
         let place = if number < 2 { number } else { number + 62 };
@@ -92,8 +92,8 @@ fn uneven(rt: &(impl Abort + AllocGlobal)) -> Vec<Edit> {
     edits
 }
 
-// What the first two of those edits leave.
-fn first_two() -> Plain {
+/// What the first two of those edits leave.
+pub(crate) fn first_two() -> Plain {
     let mut plain = NOTHING;
     plain[0] = 1;
     plain[1] = 1;

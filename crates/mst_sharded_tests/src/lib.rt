@@ -18,6 +18,8 @@ mod plain;
 #[cfg(test)]
 mod roots;
 #[cfg(test)]
+mod shared_batches;
+#[cfg(test)]
 mod shared_growths;
 #[cfg(test)]
 mod shares;

@@ -31,8 +31,8 @@ fn shared(
     handles
 }
 
-// The one handle of a new map.
-fn one_shared(
+/// The one handle of a new map.
+pub(crate) fn one_shared(
     rt: &(impl Abort + AllocGlobal),
     shards: usize,
     shape: Shape,
