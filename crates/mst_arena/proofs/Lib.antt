@@ -11,5 +11,7 @@ pub mod Rising
 pub mod Older
 pub mod SweepLemmas
 pub mod DeskLemmas
+pub mod NodeRows
+pub mod AgeLaws
 pub mod Stands
 pub mod Reach

@@ -1,5 +1,5 @@
 -- Lists that have each row of a kind once.
-use Rattle.std.proofs.Common.{◌≡◌, ℕ, zero, suc, ◌+◌, ◌<◌, ◌≤◌, Bool, true, false, cond, eqb, List, [], ◌∷◌, ◌++◌, length, map, Some, refl, sym, ◌∙◌, ap, arith}
+use Rattle.std.proofs.Common.{◌≡◌, ℕ, zero, suc, ◌+◌, ◌<◌, ◌≤◌, ◌⊎◌, inl, inr, Bool, true, false, cond, eqb, List, [], ◌∷◌, ◌++◌, length, map, Some, refl, sym, ◌∙◌, ap, arith}
 use Rattle.std.specs.Prelude.{slice_get, slice_set}
 use Rattle.std.specs.List.{list_any, AllByRecursion, IsDistinct}
 use Rattle.std.proofs.lemmas.Bool.Decides.{nat_tests}
@@ -182,3 +182,18 @@ swept_after live (l ∷ ls) zero x y at is =
     ap (λ z. z ∷ map (swept_life live) ls) s
 swept_after live (l ∷ ls) (suc r) x y at is =
     ap (λ zs. swept_life live l ∷ zs) (swept_after live ls r x y at is)
+
+-- a row of two lists stands in one of them, and that of a list of one row is this row
+pub in_either : (r : ℕ) (xs ys : List ℕ) → In r (xs ++ ys) → In r xs ⊎ In r ys
+in_either r xs ys is = go (times r xs) refl
+  where
+    go : (n : ℕ) → times r xs ≡ n → In r xs ⊎ In r ys
+    go zero e = inr (omega (arith, is, times-append r xs ys))
+    go (suc n) e = inl (omega (arith, e))
+
+pub one_row : (k r : ℕ) → In k (r ∷ []) → k ≡ r
+one_row k r is = go (eqb k r) refl is
+  where
+    go : (t : Bool) → eqb k r ≡ t → 0 < bit t + 0 → k ≡ r
+    go true e some = grind (arith, nat_tests)
+    go false e some = absurd (omega arith)

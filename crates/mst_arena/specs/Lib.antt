@@ -6,3 +6,4 @@ pub mod Lives
 pub mod Bits
 pub mod Lists
 pub mod Standing
+pub mod Ages

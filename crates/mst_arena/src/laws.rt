@@ -1,16 +1,21 @@
 //! Laws of the definitions that the contracts cite: which row words spell, which version reaches
-//! which row, and what rows stand for.
+//! which row, what rows stand for, and how old they are.
 //!
 //! The functions here do nothing. Each clause is a proved law, by which a reader can judge the
 //! definitions of `specs/`.
-ghost use Rattle.std.specs.Prelude.{◌≡◌, ◌≢◌, ◌≤◌, ◌<◌, ◌==◌, ℕ, List, Some, false, true, map, slice_get, slice_set};
+ghost use Rattle.std.specs.Prelude.{◌≡◌, ◌≢◌, ◌≤◌, ◌<◌, ◌==◌, ◌↔◌, ℕ, List, Some, false, true, length, map, slice_get, slice_set};
 ghost use Rattle.std.specs.List.{list_any, AllByRecursion};
 ghost use Rattle.mst_key.specs.declared.format.Format.{Format};
+ghost use Rattle.mst_key.specs.History.{History, format_after};
 ghost use Rattle.mst_key.specs.Map.{Pair};
+ghost use Rattle.mst_node.specs.Cost.{is_subtree};
+ghost use Rattle.mst_node.specs.Stays.{tree_at};
 ghost use Rattle.mst_node.specs.Tree.{Tree};
+ghost use Rattle.mst_arena.specs.Ages.{HasAge, top_rows};
 ghost use Rattle.mst_arena.specs.Content.{Content, Writes};
+ghost use Rattle.mst_arena.specs.Lists.{In};
 ghost use Rattle.mst_arena.specs.Lives.{reaches, SameReach, swept_life};
-ghost use Rattle.mst_arena.specs.Standing.{Stands, StandsAt, Placed, head, cell, end, HasRows, rows_of, head_row, link_of, numbers};
+ghost use Rattle.mst_arena.specs.Standing.{Stands, StandsAt, Placed, head, cell, end, HasRows, rows_of, head_row, link_of, numbers, tree_of};
 ghost use Rattle.mst_arena.specs.Row.{IsRow, HasBytes};
 ghost use Rattle.mst_arena.specs.Words.{words_of, row_in};
 ghost use Rattle.mst_arena.specs.declared.life.Life.{Life};
@@ -83,4 +88,13 @@ pub fn standing_laws()
         → c h ≡ Some (head_row f l (cell e p k v (end q)))
         → c e ≡ Some (Entry (link_of p) 0 k v)
         → HasRows c (rows_of f (head h l (cell e p k v (end q)))) }
+{}
+
+/// How old the rows of a node of the last version's tree are.
+pub fn age_laws()
+    // exactly the versions reach them from which on the node's tree has stood in each version
+    ensures stood { (first : Format) (lives : List Life) (h : History) (p : Placed) (r v : ℕ)
+        → HasAge first lives h p → In r (top_rows p) → v ≤ length h
+        → reaches lives v r ≡ true ↔ ((u : ℕ) → v ≤ u → u ≤ length h
+        → is_subtree (tree_of (format_after first h) p) (tree_at first h u) ≡ true) }
 {}

@@ -21,11 +21,11 @@ use Rattle.mst_arena.proofs.ListLemmas.{times-append}
 use Rattle.mst_arena.proofs.Stands.{all-front, all-back, one_placed}
 use Rattle.mst_change.specs.Batch as batch
 use Rattle.mst_change.specs.Batch.{rows_beside}
-use Rattle.mst_path.specs.Ages.{placed_nodes, chain_nodes}
+use Rattle.mst_arena.specs.Ages.{placed_nodes, chain_nodes}
 use Rattle.mst_path.specs.Moves.{IsOld}
 use Rattle.mst_path.specs.Runs.{OldPiece}
 use Rattle.mst_path.proofs.lemmas.rows.Copies.{at_self}
-use Rattle.mst_path.proofs.lemmas.rows.Moving.{in_either}
+use Rattle.mst_arena.proofs.ListLemmas.{in_either}
 use Rattle.mst_batch.specs.Beside.{link_among, node_among, node_at, plan_beside, entries_beside, links_kept, entries_links, AreMarks}
 use Rattle.mst_batch.specs.Kept.{is_marked}
 use Rattle.mst_batch.specs.Plans.{PlanTree, PlanEntries, kept, made, last, entry, tree_planned, entries_planned, rows_planned, entries_rows, rows_kept, entries_kept, EachKept, EachKeptBelow, IsPlan}

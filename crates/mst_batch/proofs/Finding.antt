@@ -13,7 +13,7 @@ use Rattle.mst_node.proofs.UniqueTree.{pairs_tree}
 use Rattle.mst_arena.specs.Content.{Content}
 use Rattle.mst_arena.specs.Standing.{Placed, none, head, tree_of, Stands}
 use Rattle.mst_arena.specs.declared.row.Root.{Root}
-use Rattle.mst_path.specs.Ages.{placed_nodes, chain_nodes}
+use Rattle.mst_arena.specs.Ages.{placed_nodes, chain_nodes}
 use Rattle.mst_path.proofs.lemmas.versions.Changes.{mst_of, rises}
 use Rattle.mst_batch.specs.Items.{items_pairs, IsItem, AreItems}
 use Rattle.mst_batch.specs.Listed.{listed}

@@ -2,7 +2,7 @@
 use Rattle.std.proofs.Common.{◌≡◌, ℕ, ◌+◌, ◌<◌, List, [], ◌∷◌, ◌++◌, length, map, take, get_or, Bool, inl, inr, refl, sym, ◌∙◌, ap, subst, arith, append_assoc}
 use Rattle.mst_arena.specs.Lists.{In}
 use Rattle.mst_arena.proofs.ListLemmas.{times-append}
-use Rattle.mst_path.proofs.lemmas.rows.Moving.{in_either}
+use Rattle.mst_arena.proofs.ListLemmas.{in_either}
 use Rattle.mst_batch.specs.declared.plan.PlanNode.{PlanNode}
 use Rattle.mst_batch.specs.declared.plan.PlanEntry.{PlanEntry, out-PlanEntry}
 use Rattle.mst_batch.specs.Beside.{links_kept, entries_links}

@@ -16,7 +16,7 @@ use Rattle.mst_arena.specs.Standing.{Placed, none, head, Chain, end, cell, link_
 use Rattle.mst_arena.specs.declared.row.Root.{Root}
 use Rattle.mst_arena.proofs.Stands.{one_placed}
 use Rattle.mst_change.specs.Batch.{HasEntry}
-use Rattle.mst_path.specs.Ages.{placed_nodes, chain_nodes}
+use Rattle.mst_arena.specs.Ages.{placed_nodes, chain_nodes}
 use Rattle.mst_read.specs.Search.{Lies, TreeLies}
 use Rattle.mst_batch.specs.Beside.{plan_beside, entries_beside, link_of_key, chain_link, kept_entries, kept_node, Matches}
 use Rattle.mst_batch.specs.Plans.{PlanTree, PlannedEntry, with_planned, kept, made, last, plan_of_node, planned_entry}

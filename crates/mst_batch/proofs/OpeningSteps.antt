@@ -21,7 +21,7 @@ use Rattle.mst_arena.specs.declared.row.EntryLinks.{EntryLinks}
 use Rattle.mst_arena.specs.Standing.{Placed, none, head, Chain, end, cell, tree_of, entries_of, link_of, first_of, tail_of, count_of, rows_of, chain_rows, HasRows}
 use Rattle.mst_arena.proofs.Stands.{all-front, all-back}
 use Rattle.mst_change.proofs.Split.Trees.{rest_rises}
-use Rattle.mst_path.specs.Ages.{placed_nodes, chain_nodes}
+use Rattle.mst_arena.specs.Ages.{placed_nodes, chain_nodes}
 use Rattle.mst_path.specs.Joining.{height_at}
 use Rattle.mst_batch.specs.Items.{items_pairs, IsItem}
 use Rattle.mst_batch.specs.Opening.{PartOf, Adds, AreBelow, AreOf}

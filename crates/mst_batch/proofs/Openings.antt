@@ -21,7 +21,7 @@ use Rattle.mst_arena.specs.declared.row.Row.{Row}
 use Rattle.mst_arena.specs.declared.row.HeadLinks.{HeadLinks}
 use Rattle.mst_arena.specs.Standing.{Placed, none, head, Chain, end, cell, tree_of, entries_of, link_of, first_of, tail_of, count_of, head_row, rows_of, HasRows}
 use Rattle.mst_change.proofs.Split.Trees.{rest_rises, child_rises}
-use Rattle.mst_path.specs.Ages.{placed_nodes, chain_nodes}
+use Rattle.mst_arena.specs.Ages.{placed_nodes, chain_nodes}
 use Rattle.mst_read.specs.Search.{Lies}
 use Rattle.mst_batch.specs.Items.{item_pairs, items_pairs, IsItem}
 use Rattle.mst_batch.specs.Listed.{listed, put_of}

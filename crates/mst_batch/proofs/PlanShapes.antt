@@ -13,7 +13,7 @@ use Rattle.mst_arena.specs.Standing.{Placed, link_of}
 use Rattle.mst_arena.proofs.ListLemmas.{times-append}
 use Rattle.mst_path.specs.Moves.{IsOld}
 use Rattle.mst_path.specs.Runs.{OldPiece}
-use Rattle.mst_path.proofs.lemmas.rows.Moving.{in_either}
+use Rattle.mst_arena.proofs.ListLemmas.{in_either}
 use Rattle.mst_path.proofs.lemmas.trees.Nodes.{layer_of_entries}
 use Rattle.mst_batch.specs.declared.plan.PlanNode.{PlanNode, out-PlanNode}
 use Rattle.mst_batch.specs.declared.plan.PlanEntry.{PlanEntry, out-PlanEntry}

@@ -14,12 +14,13 @@ use Rattle.mst_arena.specs.declared.row.Root.{Root}
 use Rattle.mst_arena.specs.Standing.{Placed, none, head, Chain, end, cell, used, chain_used}
 use Rattle.mst_arena.proofs.ListLemmas.{times-append}
 use Rattle.mst_arena.proofs.Stands.{placed_frame}
-use Rattle.mst_path.specs.Ages.{placed_nodes, chain_nodes}
+use Rattle.mst_arena.specs.Ages.{placed_nodes, chain_nodes}
 use Rattle.mst_path.specs.Felling.{ToFell}
 use Rattle.mst_path.specs.Making.{Grown}
 use Rattle.mst_path.specs.Moves.{Moves}
 use Rattle.mst_path.proofs.lemmas.rows.Copies.{all_in, kept_at, old_alive}
-use Rattle.mst_path.proofs.lemmas.rows.Moving.{in_either, moves_then, alive_out, old_stays}
+use Rattle.mst_arena.proofs.ListLemmas.{in_either}
+use Rattle.mst_path.proofs.lemmas.rows.Moving.{moves_then, alive_out, old_stays}
 use Rattle.mst_path.proofs.lemmas.trees.Made.{made_stays}
 use Rattle.mst_batch.specs.Kept.{is_marked, fallen, chain_fallen}
 use Rattle.mst_batch.specs.Plans.{PlanTree, PlanEntries, kept, made, last, entry, rows_kept, entries_kept, EachKept, EachKeptBelow}

@@ -12,7 +12,7 @@ use Rattle.mst_node.specs.Tree.{entry_count, pairs, entries_pairs, IsMst, IsMstE
 use Rattle.mst_arena.specs.Lists.{bit, times}
 use Rattle.mst_arena.specs.Standing.{Placed, none, head, Chain, end, cell, tree_of, entries_of, used, chain_used}
 use Rattle.mst_arena.proofs.ListLemmas.{times-append}
-use Rattle.mst_path.specs.Ages.{placed_nodes, chain_nodes}
+use Rattle.mst_arena.specs.Ages.{placed_nodes, chain_nodes}
 use Rattle.mst_batch.proofs.Replaced.{node_inside_chain}
 
 -- ---- how many pairs have a key

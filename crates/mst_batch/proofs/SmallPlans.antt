@@ -21,7 +21,7 @@ use Rattle.mst_arena.specs.Lives.{State}
 use Rattle.mst_arena.specs.Standing.{Placed, none, head, Chain, tree_of, link_of, used, chain_used, Stands, numbers}
 use Rattle.mst_arena.specs.declared.row.Root.{Root}
 use Rattle.mst_change.proofs.Formats.{stays}
-use Rattle.mst_path.specs.Ages.{placed_nodes, chain_nodes}
+use Rattle.mst_arena.specs.Ages.{placed_nodes, chain_nodes}
 use Rattle.mst_path.specs.Changing.{AreOld}
 use Rattle.mst_path.specs.Writing.{IsRootOf}
 use Rattle.mst_path.proofs.lemmas.rows.Copies.{at_self}

@@ -21,7 +21,8 @@ use Rattle.mst_path.specs.Writing.{PlacedEntry, chain_of, entries_used, IsRootOf
 use Rattle.mst_path.specs.declared.node_writer.NodeWriter.{NodeWriter}
 use Rattle.mst_path.proofs.lemmas.rows.Copies.{at_self, kept_at, all_in, new_not_old, old_alive}
 use Rattle.mst_path.proofs.lemmas.rows.Entries.{entries_frame}
-use Rattle.mst_path.proofs.lemmas.rows.Moving.{one_row, not_in, out_of_times, times_of_out, moves_none, moves_takes, moves_then, alive_stays, alive_out, old_stays}
+use Rattle.mst_arena.proofs.ListLemmas.{one_row}
+use Rattle.mst_path.proofs.lemmas.rows.Moving.{not_in, out_of_times, times_of_out, moves_none, moves_takes, moves_then, alive_stays, alive_out, old_stays}
 use Rattle.mst_path.proofs.lemmas.trees.Made.{made_old, new_stays, entries_stay, piece_alive}
 use Rattle.mst_path.proofs.lemmas.steps.Finishing.{used_more, going_more, cells-append, chain_entries, all_used, head_piece}
 use Rattle.mst_path.proofs.lemmas.steps.Whole.{old_piece_later}

@@ -14,7 +14,7 @@ use Rattle.mst_node.specs.Tree.{entry_count, pairs, entries_pairs, IsMst, IsMstE
 use Rattle.mst_arena.specs.Content.{Content}
 use Rattle.mst_arena.specs.Standing.{Placed, none, head, Chain, end, cell, tree_of, entries_of, link_of}
 use Rattle.mst_arena.proofs.Stands.{one_placed}
-use Rattle.mst_path.specs.Ages.{placed_nodes, chain_nodes}
+use Rattle.mst_arena.specs.Ages.{placed_nodes, chain_nodes}
 use Rattle.mst_batch.specs.Beside.{node_at}
 use Rattle.mst_batch.specs.Items.{item_pairs, items_pairs, IsItem, layer_of, height_of, IsUpTo, IsPairOf}
 use Rattle.mst_batch.specs.Tops.{IsStanding, is_tree, tree_items, chain_items, node_items, opened}

@@ -10,7 +10,7 @@ use Rattle.mst_node.specs.Tree.{Tree, Entries}
 use Rattle.mst_arena.specs.Lists.{In}
 use Rattle.mst_arena.specs.Standing.{Placed, none, head, Chain, end, cell, tree_of, link_of}
 use Rattle.mst_arena.specs.declared.row.EntryLinks.{EntryLinks}
-use Rattle.mst_path.specs.Ages.{placed_nodes}
+use Rattle.mst_arena.specs.Ages.{placed_nodes}
 use Rattle.mst_batch.specs.Kept.{is_marked}
 use Rattle.mst_batch.specs.Plans.{PlanTree, PlanEntries, PlannedEntry, kept, made, last, entry}
 

@@ -6,7 +6,7 @@ use Rattle.mst_key.specs.Layer.{layer_in}
 use Rattle.mst_key.specs.Map.{Pair, IsAscending}
 use Rattle.mst_node.specs.Tree.{pairs}
 use Rattle.mst_arena.specs.Standing.{Placed, head, Chain, tree_of}
-use Rattle.mst_path.specs.Ages.{placed_nodes}
+use Rattle.mst_arena.specs.Ages.{placed_nodes}
 use Rattle.mst_batch.specs.Beside.{node_at}
 use Rattle.mst_batch.specs.declared.items.Item.{Item}
 use Rattle.mst_batch.specs.declared.items.Item.TheVariants as item

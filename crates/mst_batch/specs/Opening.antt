@@ -9,7 +9,7 @@ use Rattle.mst_key.specs.Map.{Pair, key_cmp, IsAscending}
 use Rattle.mst_node.specs.Tree.{pairs, IsMst}
 use Rattle.mst_arena.specs.Content.{Content}
 use Rattle.mst_arena.specs.Standing.{Placed, none, tree_of, link_of, rows_of, HasRows}
-use Rattle.mst_path.specs.Ages.{placed_nodes}
+use Rattle.mst_arena.specs.Ages.{placed_nodes}
 use Rattle.mst_batch.specs.Items.{items_pairs, IsItem}
 use Rattle.mst_batch.specs.declared.items.Item.{Item}
 

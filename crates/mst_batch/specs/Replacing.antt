@@ -1,7 +1,7 @@
 -- A plan that is carried out in place of the tree that stands, of which it keeps some nodes.
 use Rattle.std.specs.Prelude.{◌≡◌, ℕ, true, Bool, List, [], ◌∷◌, ◌++◌, Contains}
 use Rattle.mst_arena.specs.Standing.{Placed, Chain, none, head}
-use Rattle.mst_path.specs.Ages.{placed_nodes}
+use Rattle.mst_arena.specs.Ages.{placed_nodes}
 use Rattle.mst_batch.specs.Kept.{is_marked}
 use Rattle.mst_batch.specs.Plans.{PlanTree, PlanEntries, kept, made, last, entry, EachKept}
 

@@ -8,8 +8,8 @@ use Rattle.mst_arena.specs.Lives.{reaches}
 use Rattle.mst_arena.specs.declared.life.Life.{Life}
 use Rattle.mst_arena.specs.Standing.{Placed, used}
 use Rattle.mst_arena.specs.Lists.{In}
-use Rattle.mst_path.specs.Ages.{placed_nodes, HasAge, HasAges}
-use Rattle.mst_path.proofs.lemmas.versions.AgeSteps.{all_contained, top_inside}
+use Rattle.mst_arena.specs.Ages.{placed_nodes, HasAge, HasAges}
+use Rattle.mst_arena.proofs.NodeRows.{all_contained, top_inside}
 
 -- two desks say of these rows that the same versions reach them, up to the last of the history
 abbrev pub SameAges : List Life → List Life → History → List ℕ → Type 0

@@ -12,7 +12,7 @@ use Rattle.mst_arena.specs.Standing.{Stands, numbers}
 use Rattle.mst_arena.specs.declared.row.Root.{Root}
 use Rattle.mst_arena.proofs.Stands.{placed_frame}
 use Rattle.mst_arena.specs.Lists.{In}
-use Rattle.mst_path.specs.Ages.{HasAges}
+use Rattle.mst_arena.specs.Ages.{HasAges}
 use Rattle.mst_words.specs.Layout.{record_words, row_words}
 use Rattle.mst_words.specs.Records.{SameWords, Agrees, IsFramed}
 use Rattle.mst_words.specs.Stored.{rows_in, root_in, Contents, StandsOn, AgedOn, Reaches, version_of, stored}

@@ -26,6 +26,7 @@ pub mod ByDeed
 pub mod Accesses
 pub mod Limits
 pub mod WordWays
+pub mod ShortRows
 pub mod Ruling
 pub mod Deeds
 pub mod CountLaws

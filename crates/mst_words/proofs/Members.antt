@@ -4,7 +4,7 @@ use Rattle.std.specs.List.{AllByRecursion}
 use Rattle.std.proofs.lemmas.Bool.{eq-eqb}
 use Rattle.mst_key.proofs.SpanLaws.{contains-cases, contains-nothing, contains-first, contains-later}
 use Rattle.mst_arena.specs.Lists.{In, bit}
-use Rattle.mst_path.proofs.lemmas.rows.Moving.{in_either, one_row}
+use Rattle.mst_arena.proofs.ListLemmas.{in_either, one_row}
 
 pub in_nothing : (x : ℕ) → In x [] → ⊥
 in_nothing x i = omega (arith, i)

@@ -12,7 +12,7 @@ use Rattle.mst_arena.specs.Lives as lives
 use Rattle.mst_arena.specs.declared.life.Life.TheVariants.{Free}
 use Rattle.mst_arena.specs.Standing as standing
 use Rattle.mst_arena.specs.declared.row.Root.{Root}
-use Rattle.mst_path.specs.Ages.{HasAges}
+use Rattle.mst_arena.specs.Ages.{HasAges}
 use Rattle.mst_words.specs.declared.view.DeskState.{DeskState}
 use Rattle.mst_words.specs.Records.{Meaning}
 

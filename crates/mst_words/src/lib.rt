@@ -37,6 +37,7 @@ mod publishing;
 mod row_words;
 mod rows;
 mod rule;
+mod searching;
 mod seat;
 mod view;
 mod words;

@@ -67,7 +67,7 @@ impl<A: Allocator + Copy> Board<A> {
     }
 
     /// Loads a word of a record or of a row: one load.
-    pub(crate) fn read(&self, seat: &mut Token<A>, word: usize) -> u64
+    pub(crate) fn load(&self, seat: &mut Token<A>, word: usize) -> u64
         requires own { seat.old.table_id ≡ self.now }
         requires there { word < self.now.words }
         requires readable { IsReadable seat.old.me.0 word }

@@ -14,7 +14,7 @@ use std::alloc::Allocator;
 
 impl<A: Allocator + Copy> Board<A> {
     /// Stores a word of a blank row or of a drained record: one store.
-    pub(crate) fn write(&self, seat: &mut Token<A>, word: usize, value: u64)
+    pub(crate) fn store(&self, seat: &mut Token<A>, word: usize, value: u64)
         requires own { seat.old.table_id ≡ self.now }
         requires there { word < self.now.words }
         requires holder { IsHolder seat.old.me }

@@ -23,7 +23,7 @@ impl<A: Allocator + Copy> Board<A> {
         ensures same { (seat.new.table_id ≡ seat.old.table_id) × (seat.new.id ≡ seat.old.id)
             × (seat.new.me ≡ seat.old.me) }
     {
-        self.read(seat, row_word(row, k))
+        self.load(seat, row_word(row, k))
     }
 
     /// The words of a row from one on: a load for each.
@@ -66,7 +66,7 @@ impl<A: Allocator + Copy> Board<A> {
         ensures room { row_word row 15 < length seat.old.me.0.known_words }
     {
         if self.word(seat, row, k) != value {
-            self.write(seat, row_word(row, k), value);
+            self.store(seat, row_word(row, k), value);
         }
     }
 

@@ -1,12 +1,9 @@
 //! The rows of the table, as a pass reads and writes them.
-ghost use Rattle.std.specs.Prelude.{◌≡◌, ◌+◌, ◌%◌, ◌<◌, ◌≤◌, map, slice_set, true, IsTrue, Some};
+ghost use Rattle.std.specs.Prelude.{◌≡◌, ◌+◌, ◌<◌, ◌≤◌, map, slice_set, true, IsTrue, IsSome, Some};
 ghost use Rattle.std.specs.List.{range_with_len};
-ghost use Rattle.std.specs.Ordering.{nat_cmp, ordering_then};
-ghost use Rattle.std.specs.declared.cmp.Ordering.TheVariants.{Equal};
-ghost use Rattle.mst_key.specs.Bytes.{IsKey, IsBytes};
-ghost use Rattle.mst_arena.specs.Content.{Writes};
-ghost use Rattle.mst_arena.specs.Ways.{words_order};
-ghost use Rattle.mst_arena.specs.Words.{row_in, word_from};
+ghost use Rattle.mst_arena.specs.Content.{Writes, part_at};
+ghost use Rattle.mst_arena.specs.Row.{entry_links, entry_value};
+ghost use Rattle.mst_arena.specs.Words.{row_in};
 ghost use Rattle.mst_arena.specs.declared.row.Row.{Row};
 ghost use Rattle.mst_words.specs.Layout.{row_words};
 ghost use Rattle.mst_words.specs.Records as records;
@@ -17,7 +14,6 @@ use crate::seat::PassSeat;
 use mst_arena::{EntryLinks, HeadLinks, Row, Rows, Sought, Way};
 use mst_key::Value;
 use std::alloc::Allocator;
-use std::cmp::Ordering;
 
 impl<'a, A: Allocator + Copy> PassSeat<'a, A> {
     // Word k of a row: one load.
@@ -41,68 +37,38 @@ impl<'a, A: Allocator + Copy> PassSeat<'a, A> {
         self.board.words(&mut self.token, row, from)
     }
 
-    // The order of what was compared before, and if that is equal, the order of a number and word k
-    // of a row: one load at most.
-    fn next_order(&mut self, before: Ordering, number: u64, row: u32, k: usize) -> Ordering
-        requires readable { may_read self.old.me.0 row ≡ true }
-        requires there { k < row_words }
-        ensures order { result ≡ ordering_then before
-            (nat_cmp number (records.row self.old.me.0.known_words row k)) }
+    // Words 1 to 7 of an entry's row. Behind a key of 16 bytes they are 0, and not loaded.
+    #[inline(always)]
+    fn entry_words(&mut self, row: u32) -> [u64; 7]
+        requires there { IsSome (part_at entry_links (content_of self.old.me.0) row) }
+        ensures words { result
+            ≡ map (records.row self.old.me.0.known_words row) (range_with_len 1 7) }
         ensures same { self.new ≡ self.old }
     {
-        match before {
-            Ordering::Less => Ordering::Less,
-            Ordering::Equal => number.cmp(&self.word(row, k)),
-            Ordering::Greater => Ordering::Greater,
-        }
-    }
-
-    // The order of what was compared before, and if that is equal, the order of a length and that
-    // of the key of a row.
-    fn length_order(&mut self, before: Ordering, len: u64, row: u32) -> Ordering
-        requires readable { may_read self.old.me.0 row ≡ true }
-        ensures order { result ≡ ordering_then before
-            (nat_cmp len (records.row self.old.me.0.known_words row 3 % 256)) }
-        ensures same { self.new ≡ self.old }
-    {
-        match before {
-            Ordering::Less => Ordering::Less,
-            Ordering::Equal => len.cmp(&(self.word(row, 3) % 256)),
-            Ordering::Greater => Ordering::Greater,
-        }
-    }
-
-    // The order of a key and that of an entry whose first words are the same: words are loaded
-    // until two differ.
-    fn order_behind(&mut self, row: u32, key: &Sought) -> Ordering
-        requires readable { may_read self.old.me.0 row ≡ true }
-        ensures order { nat_cmp (word_from key.now 0) (records.row self.old.me.0.known_words row 4)
-            ≡ Equal → result ≡ words_order key.now (records.row self.old.me.0.known_words row) }
-        ensures same { self.new ≡ self.old }
-    {
-        let [_, second, third, last] = key.words();
-        let order = second.cmp(&self.word(row, 5));
-        let order = self.next_order(order, third, row, 6);
-        let order = self.next_order(order, last, row, 7);
-        self.length_order(order, key.len(), row)
-    }
-
-    // The order of a key and that of an entry: mostly the first word decides, by one load.
-    fn order(&mut self, row: u32, key: &Sought) -> Ordering
-        requires readable { may_read self.old.me.0 row ≡ true }
-        ensures order { result ≡ words_order key.now (records.row self.old.me.0.known_words row) }
-        ensures limits { IsKey key.now }
-        ensures range { IsBytes key.now }
-        ensures same { self.new ≡ self.old }
-    {
-        let [first, ..] = key.words();
-        let stored = self.word(row, 4);
-        if first < stored {
-            Ordering::Less
-        } else if stored < first {
-            Ordering::Greater
+        let [child, next, lengths] = self.words::<3>(row, 1);
+        if lengths % 256 == 16 {
+            let [a, b] = self.words::<2>(row, 4);
+            [child, next, lengths, a, b, 0, 0]
         } else {
-            self.order_behind(row, key)
+            let [a, b, c, d] = self.words::<4>(row, 4);
+            [child, next, lengths, a, b, c, d]
+        }
+    }
+
+    // The words of an entry's value. Behind a value of 32 bytes they are 0, and not loaded.
+    #[inline(always)]
+    fn value_words(&mut self, row: u32, lengths: u64) -> [u64; 8]
+        requires there { IsSome (part_at entry_value (content_of self.old.me.0) row) }
+        requires lengths { lengths ≡ records.row self.old.me.0.known_words row 3 }
+        ensures words { result
+            ≡ map (records.row self.old.me.0.known_words row) (range_with_len 8 8) }
+        ensures same { self.new ≡ self.old }
+    {
+        if lengths / 256 == 32 {
+            let [a, b, c, d] = self.words::<4>(row, 8);
+            [a, b, c, d, 0, 0, 0, 0]
+        } else {
+            self.words::<8>(row, 8)
         }
     }
 
@@ -178,24 +144,22 @@ impl<'a, A: Allocator + Copy> Rows for PassSeat<'a, A> {
         Row::read_digest(&self.words(row, 5))
     }
 
+    #[inline(always)]
     fn entry(&mut self, row: u32) -> EntryLinks {
-        match EntryLinks::read(&self.words(row, 1)) {
+        match EntryLinks::read(&self.entry_words(row)) {
             Some(links) => links,
             None => unreachable!(),
         }
     }
 
     fn way(&mut self, row: u32, key: &Sought) -> Way {
-        match self.order(row, key) {
-            Ordering::Less => Way::Child(self.word(row, 1) as u32),
-            Ordering::Equal => Way::Here,
-            Ordering::Greater => Way::Next(self.word(row, 2) as u32),
-        }
+        self.board.way(&mut self.token, row, key)
     }
 
+    #[inline(always)]
     fn value(&mut self, row: u32) -> Value {
         let lengths = self.word(row, 3);
-        match Row::read_value(lengths, &self.words(row, 8)) {
+        match Row::read_value(lengths, &self.value_words(row, lengths)) {
             Some(value) => value,
             None => unreachable!(),
         }

@@ -175,7 +175,7 @@ impl<'a, A: Allocator + Copy> PassSeat<'a, A> {
         ensures same { self.new ≡ self.old }
         ensures value { result ≡ slice_index self.old.me.0.known_words word }
     {
-        self.board.read(&mut self.token, word)
+        self.board.load(&mut self.token, word)
     }
 }
 
@@ -192,7 +192,7 @@ impl<'a, A: Allocator + Copy> PassSeat<'a, A> {
           );
         } }
     {
-        self.board.write(&mut self.token, word, value)
+        self.board.store(&mut self.token, word, value)
     }
 
     /// Asks whether a record other than the current one is drained: one load of its word DONE.

@@ -26,7 +26,8 @@ use Rattle.mst_path.specs.Copying.{Going, Copying, Copied}
 use Rattle.mst_path.specs.declared.node_writer.NodeWriter.{NodeWriter}
 use Rattle.mst_path.proofs.lemmas.trees.Made.{made_old, made-append, new_stays, made_stays, entries_stay}
 use Rattle.mst_path.proofs.lemmas.rows.Entries.{entries_used-push}
-use Rattle.mst_path.proofs.lemmas.rows.Moving.{in_either, not_in, out_of_times, times_of_out, moves_none, moves_then, alive_stays, old_stays}
+use Rattle.mst_arena.proofs.ListLemmas.{in_either}
+use Rattle.mst_path.proofs.lemmas.rows.Moving.{not_in, out_of_times, times_of_out, moves_none, moves_then, alive_stays, old_stays}
 
 -- ---- rows and lists of rows
 

@@ -14,7 +14,7 @@ use Rattle.mst_arena.proofs.DeskLemmas.{length_mapped}
 use Rattle.mst_path.specs.Reached.{ReachesExactly, TogetherReach, Changes, IsPast, IsSettled, swept_by}
 use Rattle.mst_path.proofs.lemmas.rows.Taking.{frees, frees_is}
 use Rattle.mst_path.proofs.lemmas.versions.Changes.{distinct_times}
-use Rattle.mst_path.proofs.lemmas.rows.Moving.{one_row}
+use Rattle.mst_arena.proofs.ListLemmas.{one_row}
 use Rattle.mst_path.proofs.lemmas.versions.Reached.{some_reach, by_place}
 use Rattle.mst_path.proofs.lemmas.rows.RowCounts.{as_many}
 

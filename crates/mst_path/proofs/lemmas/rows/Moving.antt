@@ -1,24 +1,17 @@
 -- Rows that are taken and killed, one step after another.
-use Rattle.std.proofs.Common.{◌≡◌, ℕ, zero, suc, ◌+◌, ◌<◌, ◌≤◌, Bool, true, false, cond, eqb, List, [], ◌∷◌, ◌++◌, length, Some, refl, sym, ◌∙◌, ap, subst, arith, inl, inr, ◌⊎◌, length-append}
+use Rattle.std.proofs.Common.{◌≡◌, ℕ, zero, suc, ◌+◌, ◌≤◌, Bool, true, false, cond, eqb, List, [], ◌∷◌, ◌++◌, length, Some, refl, sym, ◌∙◌, ap, subst, arith, inl, inr, length-append}
 use Rattle.std.specs.Prelude.{slice_get, slice_set}
 use Rattle.std.proofs.lemmas.Bool.Decides.{nat_tests}
 use Rattle.mst_arena.specs.Lives.{State, version, next, is_free, free_count, with_life, ended_life}
 use Rattle.mst_arena.specs.Lists.{In, times, bit}
 use Rattle.mst_arena.specs.declared.life.Life.{Life}
 use Rattle.mst_arena.specs.declared.life.Life.TheVariants.{Free, Born, Dead}
-use Rattle.mst_arena.proofs.ListLemmas.{get-set, times-append}
+use Rattle.mst_arena.proofs.ListLemmas.{get-set, times-append, in_either, one_row}
 use Rattle.mst_path.specs.Takes.{Takes, IsOut}
 use Rattle.mst_path.specs.Moves.{IsAlive, IsOld, IsKilled, Moves}
 use Rattle.mst_path.proofs.lemmas.rows.Taking.{frees, frees_is, frees_drop, still_free}
 
 -- ---- numbers in lists
-
-pub in_either : (r : ℕ) (xs ys : List ℕ) → In r (xs ++ ys) → In r xs ⊎ In r ys
-in_either r xs ys is = go (times r xs) refl
-  where
-    go : (n : ℕ) → times r xs ≡ n → In r xs ⊎ In r ys
-    go zero e = inr (omega (arith, is, times-append r xs ys))
-    go (suc n) e = inl (omega (arith, e))
 
 -- out of a list, by recursion and by counting
 pub out_of_times : (r : ℕ) (xs : List ℕ) → times r xs ≡ 0 → IsOut r xs
@@ -50,13 +43,6 @@ module _ (s : State) where
     others = λ r a b. refl;
     room = omega arith;
   }
-
-pub one_row : (k r : ℕ) → In k (r ∷ []) → k ≡ r
-one_row k r is = go (eqb k r) refl is
-  where
-    go : (t : Bool) → eqb k r ≡ t → 0 < bit t + 0 → k ≡ r
-    go true e some = grind (arith, nat_tests)
-    go false e some = absurd (omega arith)
 
 one_time : (k r : ℕ) → times k (r ∷ []) ≤ 1
 one_time k r = go (eqb k r)

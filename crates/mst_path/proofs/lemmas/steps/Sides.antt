@@ -17,7 +17,8 @@ use Rattle.mst_path.specs.Making.{others, HasTail, PartsStand, in_parts, cells_o
 use Rattle.mst_path.specs.Splitting.{side_of, BothStand, in_both}
 use Rattle.mst_path.specs.declared.making.Parts.{Parts}
 use Rattle.mst_path.proofs.lemmas.rows.Copies.{at_self, old_alive}
-use Rattle.mst_path.proofs.lemmas.rows.Moving.{moves_none, one_row}
+use Rattle.mst_arena.proofs.ListLemmas.{one_row}
+use Rattle.mst_path.proofs.lemmas.rows.Moving.{moves_none}
 use Rattle.mst_path.proofs.lemmas.trees.Made.{piece_alive}
 use Rattle.mst_path.proofs.lemmas.steps.Steps.{Step, step_grown, step_kill, step_then, piece_after, old_after, apart_after, parts_after, parts_alive}
 

@@ -16,7 +16,8 @@ use Rattle.mst_path.specs.Runs.{Piece, OldPiece, Run, own, gaps_used, EachGap}
 use Rattle.mst_path.specs.Writing.{PlacedEntry}
 use Rattle.mst_path.specs.Making.{others, BackRun, PartsStand, in_parts, Grown, Split}
 use Rattle.mst_path.specs.declared.making.Parts.{Parts}
-use Rattle.mst_path.proofs.lemmas.rows.Moving.{in_either, out_of_times, times_of_out, moves_none, moves_kill, moves_then, alive_stays, old_stays, alive_out}
+use Rattle.mst_arena.proofs.ListLemmas.{in_either}
+use Rattle.mst_path.proofs.lemmas.rows.Moving.{out_of_times, times_of_out, moves_none, moves_kill, moves_then, alive_stays, old_stays, alive_out}
 use Rattle.mst_path.proofs.lemmas.trees.Made.{made_stays, piece_alive}
 use Rattle.mst_path.proofs.lemmas.rows.Copies.{all_in, kept_at, old_alive, own_frame, gaps_frame}
 

@@ -20,7 +20,8 @@ use Rattle.mst_path.specs.Copying.{Going, Copying, Copied}
 use Rattle.mst_path.specs.Making.{cells_of, entries_to, others, BackRun, PartsStand, in_parts, Grown, Rest, Finished}
 use Rattle.mst_path.specs.declared.making.Parts.{Parts}
 use Rattle.mst_path.specs.declared.node_writer.NodeWriter.{NodeWriter}
-use Rattle.mst_path.proofs.lemmas.rows.Moving.{in_either, not_in, out_of_times, times_of_out, moves_takes, moves_then, alive_out, old_stays}
+use Rattle.mst_arena.proofs.ListLemmas.{in_either}
+use Rattle.mst_path.proofs.lemmas.rows.Moving.{not_in, out_of_times, times_of_out, moves_takes, moves_then, alive_out, old_stays}
 use Rattle.mst_path.proofs.lemmas.rows.Copies.{at_self, kept_at, all_in, new_not_old, old_alive, own_frame, gaps_frame}
 use Rattle.mst_path.proofs.lemmas.trees.Made.{new_stays, made_stays, piece_alive}
 use Rattle.mst_path.proofs.lemmas.steps.Finishing.{used_entries, used_more, going_more, copies_gaps, copies_cells, cells-append, entries-front}

@@ -12,7 +12,8 @@ use Rattle.mst_path.specs.Made.{IsMade, IsMadeChain, AreMade}
 use Rattle.mst_path.specs.Moves.{IsAlive, IsOld, IsNew, Moves}
 use Rattle.mst_path.specs.Runs.{Piece}
 use Rattle.mst_path.specs.Writing.{PlacedEntry, chain_of, entries_used}
-use Rattle.mst_path.proofs.lemmas.rows.Moving.{in_either, alive_out, old_stays}
+use Rattle.mst_arena.proofs.ListLemmas.{in_either}
+use Rattle.mst_path.proofs.lemmas.rows.Moving.{alive_out, old_stays}
 
 at_self : (x : ℕ) → bit (eqb x x) ≡ 1
 at_self x = let e : eqb x x ≡ true = grind (arith, nat_tests) in ap bit e

@@ -15,7 +15,8 @@ use Rattle.mst_arena.specs.Lists.{In, times, bit}
 use Rattle.mst_arena.specs.Standing.{Placed, none, head, Chain, end, cell, tree_of, entries_of, used, chain_used, IsDistinct}
 use Rattle.mst_arena.specs.declared.life.Life.{Life}
 use Rattle.mst_arena.proofs.ListLemmas.{times-append}
-use Rattle.mst_path.specs.Ages.{placed_nodes, chain_nodes, chain_own, top_rows, HasPlace, HasAge}
+use Rattle.mst_arena.specs.Ages.{placed_nodes, chain_nodes, chain_own, top_rows, HasAge}
+use Rattle.mst_path.specs.Ages.{HasPlace}
 use Rattle.mst_path.specs.Reached.{TogetherReach, IsSettled, swept_by}
 use Rattle.mst_path.proofs.lemmas.versions.Changes.{distinct_times, times_distinct}
 use Rattle.mst_path.proofs.lemmas.rows.FreeCounts.{count_swept, any_in}

@@ -9,7 +9,8 @@ use Rattle.mst_arena.specs.Content.{Content}
 use Rattle.mst_arena.specs.Lives.{State, free_count}
 use Rattle.mst_arena.specs.Standing.{tree_of, used, Stands, numbers}
 use Rattle.mst_arena.specs.declared.row.Root.{Root}
-use Rattle.mst_path.specs.Ages.{placed_nodes, IsAged}
+use Rattle.mst_arena.specs.Ages.{placed_nodes}
+use Rattle.mst_path.specs.Ages.{IsAged}
 use Rattle.mst_path.specs.Changing.{AreOld, OnlyFreeWritten}
 use Rattle.mst_path.specs.Made.{IsMade}
 use Rattle.mst_path.specs.Reached.{Changes}

@@ -13,13 +13,14 @@ use Rattle.mst_arena.specs.Lives.{State, version}
 use Rattle.mst_arena.specs.Lists.{In}
 use Rattle.mst_arena.specs.declared.life.Life.TheVariants.{Born}
 use Rattle.mst_arena.specs.Standing.{Placed, none, head, Chain, end, cell, tree_of, entries_of, used}
-use Rattle.mst_path.specs.Ages.{placed_nodes, chain_nodes, IsAged}
+use Rattle.mst_arena.specs.Ages.{placed_nodes, chain_nodes}
+use Rattle.mst_path.specs.Ages.{IsAged}
 use Rattle.mst_path.specs.Changing.{IsTaken}
 use Rattle.mst_path.specs.Moves.{IsKilled, IsNew, Moves}
 use Rattle.mst_path.specs.Reached.{Changes}
 use Rattle.mst_path.specs.Takes.{Takes}
 use Rattle.mst_path.proofs.lemmas.rows.Moving.{moves_takes, moves_then, not_in}
-use Rattle.mst_path.proofs.lemmas.versions.AgeSteps.{all_contained, top_inside}
+use Rattle.mst_arena.proofs.NodeRows.{all_contained, top_inside}
 use Rattle.mst_path.proofs.lemmas.versions.Reached.{by_in}
 
 -- ---- what was taken stands after it, and what was killed before it

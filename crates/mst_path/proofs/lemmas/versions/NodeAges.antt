@@ -18,14 +18,15 @@ use Rattle.mst_arena.specs.declared.row.Row.TheVariants.{Head}
 use Rattle.mst_arena.specs.Standing.{Placed, none, head, Chain, end, cell, tree_of, entries_of, link_of, rows_of, chain_rows, used, chain_used, HasRows}
 use Rattle.mst_arena.proofs.ListLemmas.{times-append}
 use Rattle.mst_arena.proofs.Stands.{all-append, all-front, all-back, one_placed, placed_frame}
-use Rattle.mst_path.specs.Ages.{placed_nodes, chain_nodes, chain_own, top_rows, IsAged}
+use Rattle.mst_arena.specs.Ages.{placed_nodes, chain_nodes, chain_own, top_rows}
+use Rattle.mst_path.specs.Ages.{IsAged}
 use Rattle.mst_path.specs.Changing.{AreOld, OnlyFreeWritten}
 use Rattle.mst_path.specs.Made.{IsMade, IsMadeChain}
 use Rattle.mst_path.specs.Moves.{IsOld, IsNew}
 use Rattle.mst_path.specs.Reached.{Changes}
 use Rattle.mst_path.proofs.lemmas.rows.Copies.{at_self, all_in}
 use Rattle.mst_path.proofs.lemmas.rows.FreeCounts.{count_change}
-use Rattle.mst_path.proofs.lemmas.rows.Moving.{in_either}
+use Rattle.mst_arena.proofs.ListLemmas.{in_either}
 use Rattle.mst_path.proofs.lemmas.versions.Reached.{by_place}
 
 module _ (format : Format) where

@@ -22,7 +22,8 @@ use Rattle.mst_path.specs.Moves.{Moves}
 use Rattle.mst_path.specs.Reached.{IsReached, Changes, advanced, swept_by, IsPast, IsSettled}
 use Rattle.mst_path.specs.Versions.{HasMap, Kept, numbers_kept, AreNumbers, HaveMaps, rows_kept, Keeps}
 use Rattle.mst_path.proofs.lemmas.rows.Copies.{all_in}
-use Rattle.mst_path.proofs.lemmas.rows.Moving.{in_either, not_in}
+use Rattle.mst_arena.proofs.ListLemmas.{in_either}
+use Rattle.mst_path.proofs.lemmas.rows.Moving.{not_in}
 use Rattle.mst_path.proofs.lemmas.versions.Reached.{older, newest, version_after, settled_after, same_swept, settled_swept, free_swept, planted, planted_written}
 use Rattle.mst_path.proofs.lemmas.versions.Migrated.{changes, moved}
 use Rattle.mst_path.proofs.lemmas.rows.FreeCounts.{count_swept, alone}

@@ -11,8 +11,8 @@ use Rattle.mst_words.proofs.board.Board.store_word.Goals as goal
 pub word-requires-clause-readable : goal.word-requires-clause-readable
 word-requires-clause-readable g c = blank_may c.args.seat.now.me.0 c.args.row c.requires.blank
 
-pub write-requires-clause-writable : goal.write-requires-clause-writable
-write-requires-clause-writable g c =
+pub store-requires-clause-writable : goal.store-requires-clause-writable
+store-requires-clause-writable g c =
     subst (λ (i : ℕ). IsWritable (stored c.word.new.seat.me.0.format) c.word.new.seat.me.0 i)
     (sym c.row_word.ensures.place)
     (subst (λ (z : Me (Option lives.State) View). IsWritable (stored z.0.format) z.0

@@ -18,6 +18,3 @@ returns-clause-value g c = search rules
 
 pub returns-clause-same : goal.returns-clause-same
 returns-clause-same g c = search rules
-
-pub words-requires : goal.words-requires
-words-requires g c = search rules

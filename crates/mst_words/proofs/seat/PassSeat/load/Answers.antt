@@ -6,14 +6,14 @@ use Rattle.mst_words.specs.Access.{Seated}
 use Rattle.mst_words.specs.Steps.{IsReadable}
 use Rattle.mst_words.proofs.seat.PassSeat.load.Goals as goal
 
-pub read-requires-clause-own : goal.read-requires-clause-own
-read-requires-clause-own g c = search rules
+pub load-requires-clause-own : goal.load-requires-clause-own
+load-requires-clause-own g c = search rules
 
-pub read-requires-clause-there : goal.read-requires-clause-there
-read-requires-clause-there g c = search rules
+pub load-requires-clause-there : goal.load-requires-clause-there
+load-requires-clause-there g c = search rules
 
-pub read-requires-clause-readable : goal.read-requires-clause-readable
-read-requires-clause-readable g c =
+pub load-requires-clause-readable : goal.load-requires-clause-readable
+load-requires-clause-readable g c =
     subst (λ (m : Me (Option lives.State) View). IsReadable m.0 c.args.word)
     (sym (ap (λ (z : Seated). z.me) c.self.view_is)) c.requires.readable
 

@@ -1,5 +1,5 @@
 use Rattle.std.proofs.Common.{refl, rules}
-use Rattle.mst_words.proofs.board.Board.read.Goals as goal
+use Rattle.mst_words.proofs.board.Board.load.Goals as goal
 
 pub load_by-requires-clause-own : goal.load_by-requires-clause-own
 load_by-requires-clause-own g c = search rules

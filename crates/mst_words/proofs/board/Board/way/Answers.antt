@@ -1,21 +1,24 @@
-use Rattle.std.proofs.Common.{◌≡◌, ◌∙◌, ap, arith}
-use Rattle.mst_words.specs.Access.{Seated}
+use Rattle.std.proofs.Common.{◌≡◌, ◌∙◌, Option, ap, arith}
+use Rattle.atomic_table.specs.Table.{Me}
+use Rattle.mst_arena.specs.Lives as lives
+use Rattle.mst_words.specs.declared.view.View.{View}
 use Rattle.mst_words.specs.Records.{row}
 use Rattle.mst_words.proofs.WordWays.{WayAt, way_of_row, way_to_child, way_here, way_to_next}
-use Rattle.mst_words.proofs.rows.PassSeatRows.way.Given.{Over}
-use Rattle.mst_words.proofs.rows.PassSeatRows.way.Goals.{After-word, After-word-in-Greater}
-use Rattle.mst_words.proofs.rows.PassSeatRows.way.Goals as goal
+use Rattle.mst_words.proofs.board.Board.way.Given.{Over}
+use Rattle.mst_words.proofs.board.Board.way.Goals.{After-word, After-word-in-Greater}
+use Rattle.mst_words.proofs.board.Board.way.Goals as goal
 
 -- ---- the key is below that of the entry
 
 module _ (g : Over) (c : goal.After-word g) where
-  before : WayAt c.args.key.now c.args.self.now.me.0 c.args.row
-  before = way_of_row c.args.key.now c.args.self.now.me.0 c.args.row c.order.ensures.limits
+  before : WayAt c.args.key.now c.args.seat.now.me.0 c.args.row
+  before = way_of_row c.args.key.now c.args.seat.now.me.0 c.args.row c.order.ensures.limits
       c.order.ensures.range c.requires.there
 
-  child_is : c.word.result ≡ row c.args.self.now.me.0.known_words c.args.row 1
-  child_is = c.word.ensures.word ∙ ap (λ (z : Seated). row z.me.0.known_words c.args.row 1)
-      c.order.ensures.same
+  child_is : c.word.result ≡ row c.args.seat.now.me.0.known_words c.args.row 1
+  child_is = c.word.ensures.word
+      ∙ ap (λ (m : Me (Option lives.State) View). row m.0.known_words c.args.row 1)
+      c.order.ensures.same.2
 
 pub overflow_cast-result : goal.overflow_cast-result
 overflow_cast-result g c = omega (arith, child_is g c, (before g c).child)
@@ -28,19 +31,20 @@ returns-in-Less-clause-way g c = way_to_child (before g c) c.order.ensures.order
 
 pub returns-in-Equal-clause-way : goal.returns-in-Equal-clause-way
 returns-in-Equal-clause-way g c =
-    way_here (way_of_row c.args.key.now c.args.self.now.me.0 c.args.row c.order.ensures.limits
+    way_here (way_of_row c.args.key.now c.args.seat.now.me.0 c.args.row c.order.ensures.limits
     c.order.ensures.range c.requires.there) c.order.ensures.order c.in-Equal.is
 
 -- ---- it is above that key
 
 module _ (g : Over) (c : goal.After-word-in-Greater g) where
-  behind : WayAt c.args.key.now c.args.self.now.me.0 c.args.row
-  behind = way_of_row c.args.key.now c.args.self.now.me.0 c.args.row c.order.ensures.limits
+  behind : WayAt c.args.key.now c.args.seat.now.me.0 c.args.row
+  behind = way_of_row c.args.key.now c.args.seat.now.me.0 c.args.row c.order.ensures.limits
       c.order.ensures.range c.requires.there
 
-  next_is : c.word-in-Greater.result ≡ row c.args.self.now.me.0.known_words c.args.row 2
+  next_is : c.word-in-Greater.result ≡ row c.args.seat.now.me.0.known_words c.args.row 2
   next_is = c.word-in-Greater.ensures.word
-      ∙ ap (λ (z : Seated). row z.me.0.known_words c.args.row 2) c.order.ensures.same
+      ∙ ap (λ (m : Me (Option lives.State) View). row m.0.known_words c.args.row 2)
+      c.order.ensures.same.2
 
 pub overflow_cast-result-in-Greater : goal.overflow_cast-result-in-Greater
 overflow_cast-result-in-Greater g c = omega (arith, next_is g c, (behind g c).next)

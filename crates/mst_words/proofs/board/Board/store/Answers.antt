@@ -1,5 +1,5 @@
 use Rattle.std.proofs.Common.{refl, rules}
-use Rattle.mst_words.proofs.board.Board.write.Goals as goal
+use Rattle.mst_words.proofs.board.Board.store.Goals as goal
 
 pub store_by-requires-clause-own : goal.store_by-requires-clause-own
 store_by-requires-clause-own g c = search rules

@@ -1,5 +1,5 @@
 use Rattle.std.proofs.Common.{rules}
-use Rattle.mst_words.proofs.seat.PassSeat.order_behind.Goals as goal
+use Rattle.mst_words.proofs.board.Board.order_behind.Goals as goal
 
 pub bounds-words-1 : goal.bounds-words-1
 bounds-words-1 g c = search rules
@@ -28,11 +28,35 @@ next_order-order-requires-2-clause-readable g c = search rules
 pub next_order-order-requires-2-clause-there : goal.next_order-order-requires-2-clause-there
 next_order-order-requires-2-clause-there g c = search rules
 
-pub length_order-requires : goal.length_order-requires
-length_order-requires g c = search rules
+pub length_order-requires-clause-own : goal.length_order-requires-clause-own
+length_order-requires-clause-own g c = search rules
+
+pub length_order-requires-clause-wide : goal.length_order-requires-clause-wide
+length_order-requires-clause-wide g c = search rules
+
+pub length_order-requires-clause-readable : goal.length_order-requires-clause-readable
+length_order-requires-clause-readable g c = search rules
 
 pub returns-clause-order : goal.returns-clause-order
 returns-clause-order g c = search rules
 
 pub returns-clause-same : goal.returns-clause-same
 returns-clause-same g c = search rules
+
+pub word-requires-clause-own : goal.word-requires-clause-own
+word-requires-clause-own g c = search rules
+
+pub word-requires-clause-wide : goal.word-requires-clause-wide
+word-requires-clause-wide g c = search rules
+
+pub next_order-order-requires-clause-own : goal.next_order-order-requires-clause-own
+next_order-order-requires-clause-own g c = search rules
+
+pub next_order-order-requires-clause-wide : goal.next_order-order-requires-clause-wide
+next_order-order-requires-clause-wide g c = search rules
+
+pub next_order-order-requires-2-clause-own : goal.next_order-order-requires-2-clause-own
+next_order-order-requires-2-clause-own g c = search rules
+
+pub next_order-order-requires-2-clause-wide : goal.next_order-order-requires-2-clause-wide
+next_order-order-requires-2-clause-wide g c = search rules

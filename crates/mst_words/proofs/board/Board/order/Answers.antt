@@ -1,5 +1,5 @@
 use Rattle.std.proofs.Common.{rules}
-use Rattle.mst_words.proofs.seat.PassSeat.order.Goals as goal
+use Rattle.mst_words.proofs.board.Board.order.Goals as goal
 
 pub bounds-words-0 : goal.bounds-words-0
 bounds-words-0 g c = search rules
@@ -10,8 +10,14 @@ word-stored-requires-clause-readable g c = search rules
 pub word-stored-requires-clause-there : goal.word-stored-requires-clause-there
 word-stored-requires-clause-there g c = search rules
 
-pub order_behind-requires : goal.order_behind-requires
-order_behind-requires g c = search rules
+pub order_behind-requires-clause-own : goal.order_behind-requires-clause-own
+order_behind-requires-clause-own g c = search rules
+
+pub order_behind-requires-clause-wide : goal.order_behind-requires-clause-wide
+order_behind-requires-clause-wide g c = search rules
+
+pub order_behind-requires-clause-readable : goal.order_behind-requires-clause-readable
+order_behind-requires-clause-readable g c = search rules
 
 pub returns-then-first-stored-clause-order : goal.returns-then-first-stored-clause-order
 returns-then-first-stored-clause-order g c = search rules
@@ -48,3 +54,9 @@ returns-else-stored-first-clause-range g c = search rules
 
 pub returns-else-stored-first-clause-same : goal.returns-else-stored-first-clause-same
 returns-else-stored-first-clause-same g c = search rules
+
+pub word-stored-requires-clause-own : goal.word-stored-requires-clause-own
+word-stored-requires-clause-own g c = search rules
+
+pub word-stored-requires-clause-wide : goal.word-stored-requires-clause-wide
+word-stored-requires-clause-wide g c = search rules

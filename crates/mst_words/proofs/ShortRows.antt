@@ -1,0 +1,107 @@
+-- The words of an entry behind a key of 16 bytes, and behind a value of 32, are 0.
+use Rattle.std.proofs.Common.{◌≡◌, ℕ, ◌+◌, ◌*◌, ◌/◌, ◌%◌, List, [], ◌∷◌, length, Bool, true, false, Some, None, refl, sym, ◌∙◌, ap, arith, if◌then◌else◌}
+use Rattle.std.specs.Prelude.{slice_index, slice_index_or, option_and_then, IsSome}
+use Rattle.mst_arena.specs.Content.{part_at}
+use Rattle.mst_arena.specs.Row.{HasBytes, entry_links, entry_value}
+use Rattle.mst_arena.specs.Words.{words_of, word_from}
+use Rattle.mst_arena.specs.declared.row.Row.TheVariants.{Entry}
+use Rattle.mst_arena.proofs.Packing.{past_word}
+use Rattle.mst_arena.proofs.Readers.{EntryIn, entry_with}
+use Rattle.mst_words.specs.declared.view.View.{View}
+use Rattle.mst_words.specs.Records.{row}
+use Rattle.mst_words.specs.Stored.{rows_in}
+use Rattle.mst_words.specs.Access.{may_read, content_of}
+
+key_ends : (words : List ℕ) → EntryIn words → slice_index words 3 % 256 ≡ 16
+    → (0 ≡ slice_index words 6) × (0 ≡ slice_index words 7)
+key_ends words e short =
+    let bytes : HasBytes (Entry e.child e.next e.key e.value) = e.bytes in
+    let at : (i : ℕ) → slice_index words i
+    ≡ slice_index (words_of (Entry e.child e.next e.key e.value)) i =
+    λ i. ap (λ (l : List ℕ). slice_index l i) (sym e.same) in
+    let three : slice_index words 3 ≡ length e.key + 256 * length e.value = at 3 in
+    let six : slice_index words 6 ≡ word_from e.key 16 = at 6 in
+    let seven : slice_index words 7 ≡ word_from e.key 24 = at 7 in
+    let size : length e.key ≡ 16 = omega (arith, three, bytes.0, short) in (
+      past_word e.key 16 (omega (arith, size)) ∙ sym six,
+      past_word e.key 24 (omega (arith, size)) ∙ sym seven,
+    )
+
+value_ends : (words : List ℕ) → EntryIn words → slice_index words 3 / 256 ≡ 32
+    → (0 ≡ slice_index words 12) × (0 ≡ slice_index words 13) × (0 ≡ slice_index words 14)
+    × (0 ≡ slice_index words 15)
+value_ends words e short =
+    let bytes : HasBytes (Entry e.child e.next e.key e.value) = e.bytes in
+    let at : (i : ℕ) → slice_index words i
+    ≡ slice_index (words_of (Entry e.child e.next e.key e.value)) i =
+    λ i. ap (λ (l : List ℕ). slice_index l i) (sym e.same) in
+    let three : slice_index words 3 ≡ length e.key + 256 * length e.value = at 3 in
+    let a : slice_index words 12 ≡ word_from e.value 32 = at 12 in
+    let b : slice_index words 13 ≡ word_from e.value 40 = at 13 in
+    let c : slice_index words 14 ≡ word_from e.value 48 = at 14 in
+    let d : slice_index words 15 ≡ word_from e.value 56 = at 15 in
+    let size : length e.value ≡ 32 = omega (arith, three, bytes.0, short) in (
+      past_word e.value 32 (omega (arith, size)) ∙ sym a,
+      past_word e.value 40 (omega (arith, size)) ∙ sym b,
+      past_word e.value 48 (omega (arith, size)) ∙ sym c,
+      past_word e.value 56 (omega (arith, size)) ∙ sym d,
+    )
+
+-- the words that were loaded, and the others
+pub key_words : (f : ℕ → ℕ) (a b : List ℕ) → a ≡ f 1 ∷ f 2 ∷ f 3 ∷ [] → b ≡ f 4 ∷ f 5 ∷ []
+    → (0 ≡ f 6) × (0 ≡ f 7)
+    → slice_index_or a 0 0 ∷ slice_index_or a 1 0 ∷ slice_index_or a 2 0 ∷ slice_index_or b 0 0
+    ∷ slice_index_or b 1 0 ∷ 0 ∷ 0 ∷ [] ≡ f 1 ∷ f 2 ∷ f 3 ∷ f 4 ∷ f 5 ∷ f 6 ∷ f 7 ∷ []
+key_words f a b is_a is_b ends =
+    ap (λ (x : List ℕ). slice_index_or x 0 0 ∷ slice_index_or x 1 0 ∷ slice_index_or x 2 0
+    ∷ slice_index_or b 0 0 ∷ slice_index_or b 1 0 ∷ 0 ∷ 0 ∷ []) is_a
+    ∙ ap (λ (y : List ℕ). f 1 ∷ f 2 ∷ f 3 ∷ slice_index_or y 0 0 ∷ slice_index_or y 1 0
+    ∷ 0 ∷ 0 ∷ []) is_b
+    ∙ (λ i. f 1 ∷ f 2 ∷ f 3 ∷ f 4 ∷ f 5 ∷ ends.0 i ∷ ends.1 i ∷ [])
+
+pub value_words : (f : ℕ → ℕ) (a : List ℕ) → a ≡ f 8 ∷ f 9 ∷ f 10 ∷ f 11 ∷ []
+    → (0 ≡ f 12) × (0 ≡ f 13) × (0 ≡ f 14) × (0 ≡ f 15)
+    → slice_index_or a 0 0 ∷ slice_index_or a 1 0 ∷ slice_index_or a 2 0 ∷ slice_index_or a 3 0
+    ∷ 0 ∷ 0 ∷ 0 ∷ 0 ∷ [] ≡ f 8 ∷ f 9 ∷ f 10 ∷ f 11 ∷ f 12 ∷ f 13 ∷ f 14 ∷ f 15 ∷ []
+value_words f a is_a ends =
+    ap (λ (x : List ℕ). slice_index_or x 0 0 ∷ slice_index_or x 1 0 ∷ slice_index_or x 2 0
+    ∷ slice_index_or x 3 0 ∷ 0 ∷ 0 ∷ 0 ∷ 0 ∷ []) is_a
+    ∙ (λ i. f 8 ∷ f 9 ∷ f 10 ∷ f 11 ∷ ends.0 i ∷ ends.1 i ∷ ends.2 i ∷ ends.3 i ∷ [])
+
+-- an entry that a pass may read
+pub record KeyOf (v : View) (x : ℕ) : Type 0 where
+  pub readable : may_read v x ≡ true
+  pub ends : row v.known_words x 3 % 256 ≡ 16
+      → (0 ≡ row v.known_words x 6) × (0 ≡ row v.known_words x 7)
+
+pub record ValueOf (v : View) (x : ℕ) : Type 0 where
+  pub readable : may_read v x ≡ true
+  pub ends : row v.known_words x 3 / 256 ≡ 32
+      → (0 ≡ row v.known_words x 12) × (0 ≡ row v.known_words x 13)
+      × (0 ≡ row v.known_words x 14) × (0 ≡ row v.known_words x 15)
+
+pub key_of : (v : View) (x : ℕ) → IsSome (part_at entry_links (content_of v) x) → KeyOf v x
+key_of v x some = go (may_read v x) refl some
+  where
+    go : (b : Bool) → may_read v x ≡ b
+        → IsSome (option_and_then entry_links (if b then rows_in (row v.known_words) x else None))
+        → KeyOf v x
+    go true e some = record {
+      readable = e;
+      ends = key_ends _
+          (entry_with entry_links _ (λ layer count first tail digest. refl) some);
+    }
+    go false e some = cc
+
+pub value_of : (v : View) (x : ℕ) → IsSome (part_at entry_value (content_of v) x) → ValueOf v x
+value_of v x some = go (may_read v x) refl some
+  where
+    go : (b : Bool) → may_read v x ≡ b
+        → IsSome (option_and_then entry_value (if b then rows_in (row v.known_words) x else None))
+        → ValueOf v x
+    go true e some = record {
+      readable = e;
+      ends = value_ends _
+          (entry_with entry_value _ (λ layer count first tail digest. refl) some);
+    }
+    go false e some = cc

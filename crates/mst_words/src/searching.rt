@@ -1,0 +1,122 @@
+//! The way of a search for a key from an entry of a node, by the entry's words.
+//!
+//! The loads are the board's and not the seat's, as in `row_words`: so the compiled code has the
+//! board's place in a register for all loads of one entry.
+ghost use Rattle.std.specs.Prelude.{◌≡◌, ◌%◌, ◌<◌, true, IsSome, Some};
+ghost use Rattle.std.specs.Ordering.{nat_cmp, ordering_then};
+ghost use Rattle.std.specs.declared.cmp.Ordering.TheVariants.{Equal};
+ghost use Rattle.mst_key.specs.Bytes.{IsKey, IsBytes};
+ghost use Rattle.mst_arena.specs.Content.{part_at};
+ghost use Rattle.mst_arena.specs.Row.{entry_links};
+ghost use Rattle.mst_arena.specs.Ways.{entry_way, words_order};
+ghost use Rattle.mst_arena.specs.Words.{word_from};
+ghost use Rattle.mst_words.specs.Layout.{row_words, table_words};
+ghost use Rattle.mst_words.specs.Records as records;
+ghost use Rattle.mst_words.specs.Access.{may_read, content_of};
+
+use crate::board::{Board, Token};
+use mst_arena::{Sought, Way};
+use std::alloc::Allocator;
+use std::cmp::Ordering;
+
+impl<A: Allocator + Copy> Board<A> {
+    // The order of what was compared before, and if that is equal, the order of a number and word k
+    // of a row: one load at most.
+    fn next_order(
+        &self,
+        seat: &mut Token<A>,
+        before: Ordering,
+        number: u64,
+        row: u32,
+        k: usize,
+    ) -> Ordering
+        requires own { seat.old.table_id ≡ self.now }
+        requires wide { self.now.words ≡ table_words seat.old.me.0.rows }
+        requires readable { may_read seat.old.me.0 row ≡ true }
+        requires there { k < row_words }
+        ensures order { result ≡ ordering_then before
+            (nat_cmp number (records.row seat.old.me.0.known_words row k)) }
+        ensures same { (seat.new.table_id ≡ seat.old.table_id) × (seat.new.id ≡ seat.old.id)
+            × (seat.new.me ≡ seat.old.me) }
+    {
+        match before {
+            Ordering::Less => Ordering::Less,
+            Ordering::Equal => number.cmp(&self.word(seat, row, k)),
+            Ordering::Greater => Ordering::Greater,
+        }
+    }
+
+    // The order of what was compared before, and if that is equal, the order of a length and that
+    // of the key of a row.
+    fn length_order(&self, seat: &mut Token<A>, before: Ordering, len: u64, row: u32) -> Ordering
+        requires own { seat.old.table_id ≡ self.now }
+        requires wide { self.now.words ≡ table_words seat.old.me.0.rows }
+        requires readable { may_read seat.old.me.0 row ≡ true }
+        ensures order { result ≡ ordering_then before
+            (nat_cmp len (records.row seat.old.me.0.known_words row 3 % 256)) }
+        ensures same { (seat.new.table_id ≡ seat.old.table_id) × (seat.new.id ≡ seat.old.id)
+            × (seat.new.me ≡ seat.old.me) }
+    {
+        match before {
+            Ordering::Less => Ordering::Less,
+            Ordering::Equal => len.cmp(&(self.word(seat, row, 3) % 256)),
+            Ordering::Greater => Ordering::Greater,
+        }
+    }
+
+    // The order of a key and that of an entry whose first words are the same: words are loaded
+    // until two differ.
+    fn order_behind(&self, seat: &mut Token<A>, row: u32, key: &Sought) -> Ordering
+        requires own { seat.old.table_id ≡ self.now }
+        requires wide { self.now.words ≡ table_words seat.old.me.0.rows }
+        requires readable { may_read seat.old.me.0 row ≡ true }
+        ensures order { nat_cmp (word_from key.now 0) (records.row seat.old.me.0.known_words row 4)
+            ≡ Equal → result ≡ words_order key.now (records.row seat.old.me.0.known_words row) }
+        ensures same { (seat.new.table_id ≡ seat.old.table_id) × (seat.new.id ≡ seat.old.id)
+            × (seat.new.me ≡ seat.old.me) }
+    {
+        let [_, second, third, last] = key.words();
+        let order = second.cmp(&self.word(seat, row, 5));
+        let order = self.next_order(seat, order, third, row, 6);
+        let order = self.next_order(seat, order, last, row, 7);
+        self.length_order(seat, order, key.len(), row)
+    }
+
+    // The order of a key and that of an entry: mostly the first word decides, by one load.
+    fn order(&self, seat: &mut Token<A>, row: u32, key: &Sought) -> Ordering
+        requires own { seat.old.table_id ≡ self.now }
+        requires wide { self.now.words ≡ table_words seat.old.me.0.rows }
+        requires readable { may_read seat.old.me.0 row ≡ true }
+        ensures order { result ≡ words_order key.now (records.row seat.old.me.0.known_words row) }
+        ensures limits { IsKey key.now }
+        ensures range { IsBytes key.now }
+        ensures same { (seat.new.table_id ≡ seat.old.table_id) × (seat.new.id ≡ seat.old.id)
+            × (seat.new.me ≡ seat.old.me) }
+    {
+        let [first, ..] = key.words();
+        let stored = self.word(seat, row, 4);
+        if first < stored {
+            Ordering::Less
+        } else if stored < first {
+            Ordering::Greater
+        } else {
+            self.order_behind(seat, row, key)
+        }
+    }
+
+    /// Where a search for the key goes on from the entry at this number.
+    pub(crate) fn way(&self, seat: &mut Token<A>, row: u32, key: &Sought) -> Way
+        requires own { seat.old.table_id ≡ self.now }
+        requires wide { self.now.words ≡ table_words seat.old.me.0.rows }
+        requires there { IsSome (part_at entry_links (content_of seat.old.me.0) row) }
+        ensures way { part_at (entry_way key.now) (content_of seat.old.me.0) row ≡ Some result }
+        ensures same { (seat.new.table_id ≡ seat.old.table_id) × (seat.new.id ≡ seat.old.id)
+            × (seat.new.me ≡ seat.old.me) }
+    {
+        match self.order(seat, row, key) {
+            Ordering::Less => Way::Child(self.word(seat, row, 1) as u32),
+            Ordering::Equal => Way::Here,
+            Ordering::Greater => Way::Next(self.word(seat, row, 2) as u32),
+        }
+    }
+}
