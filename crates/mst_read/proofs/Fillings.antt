@@ -184,6 +184,11 @@ pub own-wanted : (to : Option (List ℕ)) (limit : ℕ) (found : List Pair) (key
 own-wanted to limit found key v is =
     sym (filled-one None to limit found (key, v) is.0 (inside-at None to limit key v refl is.1))
 
+-- a pair that was pushed once there was room for it
+pub pushed : {before after next : List Pair} (p : Pair) → after ≡ before → next ≡ after ++ p ∷ []
+    → next ≡ before ++ p ∷ []
+pushed p same is = is ∙ ap (λ (l : List Pair). l ++ p ∷ []) same
+
 -- a pair that was pushed, with the value that stands there
 pub own-pushed : (to : Option (List ℕ)) (limit : ℕ) (found next : List Pair) (key v x : List ℕ)
     (o : Option (List ℕ)) → next ≡ found ++ (key, x) ∷ [] → o ≡ Some x → o ≡ Some v

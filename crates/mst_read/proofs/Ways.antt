@@ -1,8 +1,8 @@
 -- Where a search goes on from an entry of a node, and that for the first key above a bound.
-use Rattle.std.proofs.Common.{◌≡◌, ◌+◌, ◌-◌, ◌<◌, ℕ, true, false, List, Option, Some, None, IsSome, refl, ◌∙◌, sym, ap, subst, arith, is_gt}
+use Rattle.std.proofs.Common.{◌≡◌, ◌+◌, ◌-◌, ◌<◌, ℕ, true, false, List, Option, Some, None, IsSome, refl, ◌∙◌, sym, ap, subst, arith, is_gt, is_lt}
 use Rattle.std.specs.declared.cmp.Ordering.TheVariants.{Less, Equal, Greater}
 use Rattle.mst_key.specs.declared.format.Format.{Format}
-use Rattle.mst_key.specs.Map.{key_cmp, above}
+use Rattle.mst_key.specs.Map.{key_cmp, above, below}
 use Rattle.mst_arena.specs.Content.{Content, part_at}
 use Rattle.mst_arena.specs.Row.{entry_links}
 use Rattle.mst_arena.specs.Ways.{entry_way, way_at}
@@ -110,6 +110,26 @@ module _ {format : Format} {content : Content} {tail next done all : ℕ} (k : L
       let low : above (Some k) e.key ≡ false =
       ap is_gt (equal_from_same e.key k (sym (same_from_equal k e.key equal))) in
       past there low
+
+-- whether the key of an entry is below a bound, by the way to the bound from the entry
+module _ (content : Content) (row : ℕ) (k : List ℕ) {e : EntryLinks} {w : Way}
+    (read : part_at entry_links content row ≡ Some e)
+    (answer : part_at (entry_way k) content row ≡ Some w) where
+  to_bound : way_at k e.child e.next e.key ≡ w
+  to_bound = way_is content row k e w read answer
+
+  pub below_in_gap : {link : ℕ} → w ≡ Child link → false ≡ below (Some k) e.key
+  below_in_gap {link} is =
+      sym (ap is_lt (greater_from_less k e.key (to_child k e link (to_bound ∙ is)).0))
+
+  pub below_at_key : w ≡ Here → false ≡ below (Some k) e.key
+  below_at_key is =
+      sym (ap is_lt (equal_from_same e.key k
+      (sym (same_from_equal k e.key (is_here k e (to_bound ∙ is))))))
+
+  pub below_past : {link : ℕ} → w ≡ Next link → true ≡ below (Some k) e.key
+  below_past {link} is =
+      sym (ap is_lt (less_from_greater k e.key (to_next k e link (to_bound ∙ is)).0))
 
 -- the first entry of a node, if no bound is given
 module _ {format : Format} {content : Content} {links : HeadLinks} {c : Chain}

@@ -12,7 +12,7 @@ use mst_arena::{HeadLinks, Root, Rows, Sought, Way};
 use mst_key::{Key, Value};
 
 /// The bound to be sought.
-fn sought(bound: Option<&Key>) -> Option<Sought>
+pub(crate) fn sought(bound: Option<&Key>) -> Option<Sought>
     ensures { result ≡ option_copied bound.entry }
 {
     match bound {

@@ -1,26 +1,39 @@
 //! The pairs between two bounds.
-ghost use Rattle.std.specs.Prelude.{◌≡◌, ◌≤◌, ◌<◌, ◌⊎◌, true, false, List, ℕ, None, Some, [], ◌∷◌, length, OnOk, IfOk, IsSome};
+ghost use Rattle.std.specs.Prelude.{◌≡◌, ◌≤◌, ◌<◌, ◌⊎◌, true, false, List, ℕ, None, Some, [], ◌∷◌, length, vec_capacity, OnOk, IfOk, IsSome};
 ghost use Rattle.std.specs.Option.{option_copied};
 ghost use Rattle.mst_key.specs.declared.format.Format.{Format};
 ghost use Rattle.mst_key.specs.Map.{Pair, below, map_range};
 ghost use Rattle.mst_node.specs.Tree.{pairs, entries_pairs};
 ghost use Rattle.mst_arena.specs.Content.{part_at};
-ghost use Rattle.mst_arena.specs.Row.{entry_value};
+ghost use Rattle.mst_arena.specs.Row.{entry_links, entry_value};
+ghost use Rattle.mst_arena.specs.declared.row.EntryLinks.{EntryLinks};
 ghost use Rattle.mst_arena.specs.Standing.{Placed, Chain, Stands, tree_of, entries_of, link_of};
 ghost use Rattle.mst_read.specs.Search.{ChainLies, LiesBehind, LinkStands, MapStands, StandsBelow, chain_links, gap_placed};
 ghost use Rattle.mst_read.specs.Span.{HeadStands, PartStands, filled, past_gap, rest_from};
 
 use crate::descent::head_at;
+use crate::following::sought;
 use mst_arena::{HeadLinks, Root, Rows, Sought, Way};
 use mst_key::{Key, Memory, Value};
 use std::alloc::Allocator;
 
-/// Whether the key is below the bound. `None` as a bound does not bind.
-fn is_below(key: &Key, bound: Option<&Key>) -> bool
-    ensures { result ≡ below (option_copied bound.entry) key.now }
+/// The greatest limit for which a range asks for room all at once.
+const MOST_AT_ONCE: usize = 128;
+
+/// Whether the key of the entry at a row is below the bound. `None` as a bound does not bind. The
+/// key is not made into bytes.
+fn is_below<R: Rows>(rows: &mut R, row: u32, bound: &Option<Sought>) -> bool
+    requires there { IsSome (part_at entry_links (R.content rows.old) row) }
+    ensures below { (e : EntryLinks) → part_at entry_links (R.content rows.old) row ≡ Some e
+        → result ≡ below bound.now e.key }
+    ensures same { rows.new ≡ rows.old }
 {
     match bound {
-        Some(bound) => key.cmp(bound).is_lt(),
+        Some(bound) => match rows.way(row, bound) {
+            Way::Child(_) => false,
+            Way::Here => false,
+            Way::Next(_) => true,
+        },
         None => true,
     }
 }
@@ -61,20 +74,51 @@ fn part_of(head: &HeadLinks, first: u32, count: u32) -> HeadLinks
     }
 }
 
-/// Whether the pair of a key is to be added after those that were found: they are fewer than the
-/// limit, and the key is below the upper bound.
-fn is_wanted<A: Allocator>(
-    key: &Key,
-    to: Option<&Key>,
+/// Whether the pair of the entry at a row is to be added after those that were found: they are
+/// fewer than the limit, and its key is below the upper bound.
+fn is_wanted<R: Rows, A: Allocator>(
+    rows: &mut R,
+    row: u32,
+    to: &Option<Sought>,
     limit: usize,
     found: &Vec<(Key, Value), A>,
 ) -> bool
-    ensures wanted { result ≡ true → (length found.now.items < limit)
-        × (below (option_copied to.entry) key.now ≡ true) }
-    ensures ends { result ≡ false → (limit ≤ length found.now.items)
-        ⊎ (below (option_copied to.entry) key.now ≡ false) }
+    requires there { IsSome (part_at entry_links (R.content rows.old) row) }
+    ensures wanted { (e : EntryLinks) → part_at entry_links (R.content rows.old) row ≡ Some e
+        → result ≡ true
+        → (length found.now.items < limit) × (below to.now e.key ≡ true) }
+    ensures ends { (e : EntryLinks) → part_at entry_links (R.content rows.old) row ≡ Some e
+        → result ≡ false
+        → (limit ≤ length found.now.items) ⊎ (below to.now e.key ≡ false) }
+    ensures same { rows.new ≡ rows.old }
 {
-    found.len() < limit && is_below(key, to)
+    if found.len() < limit {
+        is_below(rows, row, to)
+    } else {
+        false
+    }
+}
+
+/// How many pairs a range asks room for where it has none left. A limit of at most 128 is taken for
+/// the number that will be found, so that room is made once. A greater one says less: then room
+/// grows with the pairs, to twice as many each time.
+fn room_for(limit: usize) -> usize
+    requires some { 0 < limit }
+    ensures some { 0 < result }
+{
+    if limit <= MOST_AT_ONCE { limit } else { 1 }
+}
+
+/// Makes room for another pair.
+fn make_room<A: Allocator>(found: &mut Vec<(Key, Value), A>, limit: usize) -> Result<(), Memory>
+    requires some { 0 < limit }
+    ensures ok { OnOk result (length found.new.items < vec_capacity found.new) }
+    ensures same { found.new.items ≡ found.old.items }
+{
+    if found.len() == found.capacity() {
+        found.reserve(room_for(limit))?;
+    }
+    Ok(())
 }
 
 /// Adds the pairs of a part of a node, with the tree in the gap before each entry, that are below
@@ -82,15 +126,15 @@ fn is_wanted<A: Allocator>(
 fn gather_part<R: Rows, A: Allocator>(
     rows: &mut R,
     part: &HeadLinks,
-    to: Option<&Key>,
+    to: &Option<Sought>,
     limit: usize,
     found: &mut Vec<(Key, Value), A>,
 ) -> Result<(), Memory>
     requires stands { (f : Format) × (c : Chain) × PartStands f (R.content rows.old) part.now c }
     ensures found { (f : Format) (c : Chain) → PartStands f (R.content rows.old) part.now c
         → OnOk result
-        (found.new.items ≡ filled None
-        (option_copied to.entry) limit found.old.items (entries_pairs (entries_of f c))) }
+        (found.new.items ≡ filled None to.now limit found.old.items
+        (entries_pairs (entries_of f c))) }
     ensures same { rows.new ≡ rows.old }
 {
     let mut link = part.first;
@@ -101,10 +145,11 @@ fn gather_part<R: Rows, A: Allocator>(
             gather_part(rows, &gap, to, limit, found)?;
         }
         link = entry.next;
-        if !is_wanted(&entry.key, to, limit, found) {
+        if !is_wanted(rows, row, to, limit, found) {
             return Ok(());
         }
-        found.push((entry.key, rows.value(row)))?;
+        make_room(found, limit)?;
+        found.push_reserved((entry.key, rows.value(row)));
         if found.len() >= limit {
             return Ok(());
         }
@@ -120,15 +165,14 @@ fn gather_part<R: Rows, A: Allocator>(
 fn gather_behind<R: Rows, A: Allocator>(
     rows: &mut R,
     part: &HeadLinks,
-    to: Option<&Key>,
+    to: &Option<Sought>,
     limit: usize,
     found: &mut Vec<(Key, Value), A>,
 ) -> Result<(), Memory>
     requires stands { (f : Format) × (c : Chain) × PartStands f (R.content rows.old) part.now c }
     ensures found { (f : Format) (c : Chain) → PartStands f (R.content rows.old) part.now c
         → OnOk result
-        (found.new.items ≡ filled None
-        (option_copied to.entry) limit found.old.items (past_gap f c)) }
+        (found.new.items ≡ filled None to.now limit found.old.items (past_gap f c)) }
     ensures same { rows.new ≡ rows.old }
 {
     if part.count == 0 {
@@ -140,10 +184,11 @@ fn gather_behind<R: Rows, A: Allocator>(
     let row = part.first - 1;
     let entry = rows.entry(row);
     let rest = part_of(part, entry.next, part.count - 1);
-    if !is_wanted(&entry.key, to, limit, found) {
+    if !is_wanted(rows, row, to, limit, found) {
         return Ok(());
     }
-    found.push((entry.key, rows.value(row)))?;
+    make_room(found, limit)?;
+    found.push_reserved((entry.key, rows.value(row)));
     if found.len() >= limit {
         return Ok(());
     }
@@ -157,15 +202,15 @@ fn gather_from<R: Rows, A: Allocator>(
     rows: &mut R,
     top: Option<HeadLinks>,
     from: &Sought,
-    to: Option<&Key>,
+    to: &Option<Sought>,
     limit: usize,
     found: &mut Vec<(Key, Value), A>,
 ) -> Result<(), Memory>
     requires stands { (f : Format) × (p : Placed) × HeadStands f (R.content rows.old) top p }
     ensures found { (f : Format) (p : Placed) → HeadStands f (R.content rows.old) top p
         → OnOk result
-        (found.new.items ≡ filled (Some from.now)
-        (option_copied to.entry) limit found.old.items (pairs (tree_of f p))) }
+        (found.new.items ≡ filled (Some from.now) to.now limit found.old.items
+        (pairs (tree_of f p))) }
     ensures same { rows.new ≡ rows.old }
 {
     let Some(head) = top else { return Ok(()) };
@@ -180,20 +225,19 @@ fn gather_from<R: Rows, A: Allocator>(
 fn gather<R: Rows, A: Allocator>(
     rows: &mut R,
     top: Option<HeadLinks>,
-    from: Option<&Key>,
-    to: Option<&Key>,
+    from: &Option<Sought>,
+    to: &Option<Sought>,
     limit: usize,
     found: &mut Vec<(Key, Value), A>,
 ) -> Result<(), Memory>
     requires stands { (f : Format) × (p : Placed) × HeadStands f (R.content rows.old) top p }
     ensures found { (f : Format) (p : Placed) → HeadStands f (R.content rows.old) top p
         → OnOk result
-        (found.new.items ≡ filled (option_copied from.entry)
-        (option_copied to.entry) limit found.old.items (pairs (tree_of f p))) }
+        (found.new.items ≡ filled from.now to.now limit found.old.items (pairs (tree_of f p))) }
     ensures same { rows.new ≡ rows.old }
 {
     match from {
-        Some(from) => gather_from(rows, top, &Sought::new(from), to, limit, found),
+        Some(from) => gather_from(rows, top, from, to, limit, found),
         None => match top {
             Some(head) => gather_part(rows, &head, to, limit, found),
             None => Ok(()),
@@ -229,8 +273,9 @@ pub fn range_below<R: Rows, A: Allocator>(
     if limit == 0 {
         return Ok(found);
     }
+    let (from, to) = (sought(from), sought(to));
     let top = head_at(rows, link);
-    gather(rows, top, from, to, limit, &mut found)?;
+    gather(rows, top, &from, &to, limit, &mut found)?;
     Ok(found)
 }
 

@@ -1,12 +1,11 @@
 use Rattle.std.proofs.Common.{Some, ◌∙◌, ap, arith, rules}
-use Rattle.std.specs.Option.{option_copied}
 use Rattle.mst_read.proofs.Gathering.{at_none, ok_same}
 use Rattle.mst_read.proofs.Parts.{gap, rest, gap_there, gap_stands, gap_falls, rest_stands, sums}
 use Rattle.mst_read.proofs.ranges.+gather_from.Goals as goal
 
 pub returns-in_default-clause-found : goal.returns-in_default-clause-found
 returns-in_default-clause-found g t c f p s =
-    at_none (Some c.args.from.now) (option_copied c.args.to) c.args.limit c.args.found.now.items p
+    at_none (Some c.args.from.now) c.args.to.now c.args.limit c.args.found.now.items p
     c.in_default.is s
 
 pub head_at-gap-requires : goal.head_at-gap-requires
@@ -64,5 +63,5 @@ returns-clause-found g t c f p s =
     c.head_at-gap.ensures.head (ap g.R.Rows.content c.head_at-gap.ensures.same) in
     ok_same c.gather_behind.result _ _ _
     (c.gather_behind.ensures.found f (rest k c.in-Some.is s read) behind)
-    (sums k c.in-Some.is s read (option_copied c.args.to) c.args.limit c.args.found.now.items _
+    (sums k c.in-Some.is s read c.args.to.now c.args.limit c.args.found.now.items _
     (c.in_ok-gather_from.ensures.found f (gap k c.in-Some.is s read) before))

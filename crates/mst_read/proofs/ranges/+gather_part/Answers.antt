@@ -1,15 +1,14 @@
 use Rattle.std.proofs.Common.{◌≡◌, ◌-◌, ℕ, List, inl, Option, Some, None, IsSome, Vec, refl, sym, ◌∙◌, ap, subst, arith, rules}
-use Rattle.std.specs.Option.{option_copied}
 use Rattle.mst_key.specs.declared.key.Key.{Key}
 use Rattle.mst_key.specs.declared.value.Value.{Value}
 use Rattle.mst_node.specs.Tree.{pairs, entries_pairs}
 use Rattle.mst_arena.specs.Content.{part_at}
-use Rattle.mst_arena.specs.Row.{entry_value}
+use Rattle.mst_arena.specs.Row.{entry_links, entry_value}
 use Rattle.mst_arena.specs.Standing.{tree_of, entries_of}
 use Rattle.mst_read.specs.Span.{HeadStands, filled}
 use Rattle.mst_read.proofs.Still.{read_still}
 use Rattle.mst_read.proofs.Descend.{depth_is}
-use Rattle.mst_read.proofs.Fillings.{own-ends, own-pushed}
+use Rattle.mst_read.proofs.Fillings.{own-ends, own-pushed, pushed}
 use Rattle.mst_read.proofs.Parts.{opened}
 use Rattle.mst_read.proofs.Walk.{AtCell, at_cell, at_end, child_lies, tail_lies}
 use Rattle.mst_read.proofs.Gathering.{Rest, SomePart, start, at_none, child_stands, child_falls, goes_on, stops, cell_value, ok_same, tail_stands, tail_falls}
@@ -63,11 +62,16 @@ module _ (g : Over) (n : ℕ) (c : goal.After-is_wanted g n) where
         ∙ c.loop.invariant.same
   ]
 
+  links : part_at entry_links (g.R.Rows.content c.match-head_at.rows) (c.loop.link - 1) ≡ Some
+      c.entry-entry.result
+  links = read_still (ap g.R.Rows.content (rows_still ∙ sym c.loop.invariant.same)) entry_links
+      (c.loop.link - 1) c.entry-entry.ensures.value
+
   module _ (s : SomePart (g.R.Rows.content c.args.rows.now) c.args.part.now) where
     entry : AtCell s.0 (g.R.Rows.content c.args.rows.now) c.args.part.now.tail (c.loop.link - 1)
         c.loop.counter c.args.part.now.count c.entry-entry.result
-        (Rest (option_copied c.args.to) c.args.limit s.0 c.args.part.now.layer c.loop.found.items
-        (filled None (option_copied c.args.to) c.args.limit c.args.found.now.items
+        (Rest c.args.to.now c.args.limit s.0 c.args.part.now.layer c.loop.found.items
+        (filled None c.args.to.now c.args.limit c.args.found.now.items
         (entries_pairs (entries_of s.0 s.1))))
     entry = at_cell (c.loop.invariant.onward s) c.loop-test.true
         (ap g.R.Rows.content c.loop.invariant.same) c.entry-entry.ensures.value
@@ -78,24 +82,30 @@ module _ (g : Over) (n : ℕ) (c : goal.After-is_wanted g n) where
         (ap g.R.Rows.content (c.entry-entry.ensures.same ∙ c.loop.invariant.same))
         c.head_at.ensures.head (ap g.R.Rows.content c.head_at.ensures.same)
 
-    in_gap : c.match-head_at.found.items ≡ filled None (option_copied c.args.to) c.args.limit
+    in_gap : c.match-head_at.found.items ≡ filled None c.args.to.now c.args.limit
         c.loop.found.items (pairs (tree_of s.0 entry.child))
     in_gap = elim c.match-head_at.branch [
       | in-Some+in_ok-gather_part w ↦
           let o = opened w.in-Some.is gap in
           ap (λ (v : Vec (Key × Value) g.row.A.Denot). v.items) w.found-is
           ∙ (w.in_ok-gather_part.ensures.found s.0 o.chain o.stands
-          ∙ ap (filled None (option_copied c.args.to) c.args.limit c.loop.found.items) o.same)
+          ∙ ap (filled None c.args.to.now c.args.limit c.loop.found.items) o.same)
       | in_default w ↦
           ap (λ (v : Vec (Key × Value) g.row.A.Denot). v.items) w.found-is
-          ∙ (at_none None (option_copied c.args.to) c.args.limit c.loop.found.items entry.child
+          ∙ (at_none None c.args.to.now c.args.limit c.loop.found.items entry.child
           w.in_default.is gap)
     ]
 
-    there : part_at entry_value (g.R.Rows.content c.match-head_at.rows) (c.loop.link - 1) ≡ Some
-        entry.value
-    there = read_still (ap g.R.Rows.content rows_still) entry_value (c.loop.link - 1)
-        (cell_value entry)
+    there : part_at entry_value (g.R.Rows.content c.is_wanted.new.rows) (c.loop.link - 1)
+        ≡ Some entry.value
+    there = read_still (ap g.R.Rows.content (c.is_wanted.ensures.same ∙ rows_still))
+        entry_value (c.loop.link - 1) (cell_value entry)
+
+pub make_room-requires : goal.make_room-requires
+make_room-requires g t c =
+    let at = (goal.at.make_room-requires g t c).After-is_wanted in
+    let wanted = c.if-not-is_wanted.ensures.wanted _ (links g t at) refl in
+    record { some = omega (arith, wanted.0) }
 
 pub value-requires : goal.value-requires
 value-requires g t c =
@@ -106,18 +116,20 @@ value-requires g t c =
 pub returns-then-not-is_wanted-clause-found : goal.returns-then-not-is_wanted-clause-found
 returns-then-not-is_wanted-clause-found g t c f p s =
     let at = (goal.at.returns-then-not-is_wanted-clause-found g t c).After-is_wanted in
-    let ends = c.if-not-is_wanted.ensures.ends refl in
+    let ends = c.if-not-is_wanted.ensures.ends _ (links g t at) refl in
     stops (entry g t at (f, p, s)) (in_gap g t at (f, p, s))
-    (own-ends (option_copied c.args.to) c.args.limit c.match-head_at.found.items
+    (own-ends c.args.to.now c.args.limit c.match-head_at.found.items
     c.entry-entry.result.key (entry g t at (f, p, s)).value ends) ends
 
 pub returns-then-len-limit-clause-found : goal.returns-then-len-limit-clause-found
 returns-then-len-limit-clause-found g t c f p s =
     let at = (goal.at.returns-then-len-limit-clause-found g t c).After-is_wanted in
-    let own = own-pushed (option_copied c.args.to) c.args.limit c.match-head_at.found.items
-    c.push.new.self.items c.entry-entry.result.key (entry g t at (f, p, s)).value c.value.result
-    _ c.in_ok-push.ensures.items c.value.ensures.value (there g t at (f, p, s))
-    (c.if-not-is_wanted.ensures.wanted refl) in
+    let own = own-pushed c.args.to.now c.args.limit c.match-head_at.found.items
+    c.push_reserved.new.self.items c.entry-entry.result.key (entry g t at (f, p, s)).value
+    c.value.result
+    _ (pushed _ c.in_ok-make_room.ensures.same c.push_reserved.ensures.items) c.value.ensures.value
+    (there g t at (f, p, s))
+    (c.if-not-is_wanted.ensures.wanted _ (links g t at) refl) in
     stops (entry g t at (f, p, s)) (in_gap g t at (f, p, s)) own
     (inl (omega (arith, c.if-len-limit.true, c.len.ensures)))
 
@@ -125,12 +137,14 @@ pub loop-preserved : goal.loop-preserved
 loop-preserved g t c =
     let at = (goal.at.loop-preserved g t c).After-is_wanted in
     record {
-      same = c.value.ensures.same ∙ rows_still g t at;
+      same = c.value.ensures.same ∙ c.if-not-is_wanted.ensures.same ∙ rows_still g t at;
       onward = λ s.
-          let own = own-pushed (option_copied c.args.to) c.args.limit c.match-head_at.found.items
-          c.push.new.self.items c.entry-entry.result.key (entry g t at s).value c.value.result _
-          c.in_ok-push.ensures.items c.value.ensures.value (there g t at s)
-          (c.if-not-is_wanted.ensures.wanted refl) in
+          let own = own-pushed c.args.to.now c.args.limit c.match-head_at.found.items
+          c.push_reserved.new.self.items c.entry-entry.result.key (entry g t at s).value
+          c.value.result _
+          (pushed _ c.in_ok-make_room.ensures.same c.push_reserved.ensures.items)
+          c.value.ensures.value (there g t at s)
+          (c.if-not-is_wanted.ensures.wanted _ (links g t at) refl) in
           goes_on (entry g t at s) (in_gap g t at s) own;
     }
 
@@ -167,12 +181,12 @@ returns-in-Some-head_at-clause-found g t c f p s =
     (ap g.R.Rows.content c.head_at-2.ensures.same)) in
     ok_same c.gather_part-in-Some-head_at.result _ _ _
     (c.gather_part-in-Some-head_at.ensures.found f o.chain o.stands)
-    (ap (filled None (option_copied c.args.to) c.args.limit c.loop.found.items) o.same
+    (ap (filled None c.args.to.now c.args.limit c.loop.found.items) o.same
     ∙ last.holds.holds)
 
 pub returns-in-None-clause-found : goal.returns-in-None-clause-found
 returns-in-None-clause-found g t c f p s =
     let last = at_end (c.loop.invariant.onward (f, p, s)) (omega (arith, c.loop-test.false)) in
-    at_none None (option_copied c.args.to) c.args.limit c.loop.found.items last.child c.in-None.is
+    at_none None c.args.to.now c.args.limit c.loop.found.items last.child c.in-None.is
     (tail_stands last (ap g.R.Rows.content c.loop.invariant.same) c.head_at-2.ensures.head
     (ap g.R.Rows.content c.head_at-2.ensures.same)) ∙ last.holds.holds

@@ -1,5 +1,4 @@
 use Rattle.std.proofs.Common.{◌≡◌, None}
-use Rattle.std.specs.Option.{option_copied}
 use Rattle.mst_node.specs.Tree.{entries_pairs}
 use Rattle.mst_arena.specs.Standing.{entries_of}
 use Rattle.mst_read.specs.Span.{filled}
@@ -17,7 +16,7 @@ invariant-loop g l = record {
   same : l.rows ≡ l.fn.rows;
   onward : (s : SomePart (g.R.Rows.content l.fn.rows) l.fn.part)
       → Onward s.0 (g.R.Rows.content l.fn.rows) l.part.tail l.link l.counter l.end
-      (Rest (option_copied l.to) l.limit s.0 l.part.layer l.found.items
-      (filled None (option_copied l.to) l.limit l.fn.found.items
+      (Rest l.to l.limit s.0 l.part.layer l.found.items
+      (filled None l.to l.limit l.fn.found.items
       (entries_pairs (entries_of s.0 s.1))));
 }

@@ -1,5 +1,4 @@
 use Rattle.std.proofs.Common.{None, ap}
-use Rattle.std.specs.Option.{option_copied}
 use Rattle.mst_read.specs.Span.{filled}
 use Rattle.mst_read.proofs.Gathering.{at_none, ok_same}
 use Rattle.mst_read.proofs.Parts.{opened}
@@ -7,7 +6,7 @@ use Rattle.mst_read.proofs.ranges.gather.Goals as goal
 
 pub returns-in-Some-clause-found : goal.returns-in-Some-clause-found
 returns-in-Some-clause-found g c f p s =
-    rw c.in-Some.is (rw c.new.ensures.key at (c.gather_from.ensures.found f p s))
+    rw c.in-Some.is (c.gather_from.ensures.found f p s)
 
 pub gather_part-requires : goal.gather_part-requires
 gather_part-requires g c =
@@ -20,9 +19,9 @@ returns-in-Some-top-clause-found g c f p s =
     let o = opened c.in-Some-top.is s in
     rw c.in-None.is
     (ok_same c.gather_part.result _ _ _ (c.gather_part.ensures.found f o.chain o.stands)
-    (ap (filled None (option_copied c.args.to) c.args.limit c.args.found.now.items) o.same))
+    (ap (filled None c.args.to.now c.args.limit c.args.found.now.items) o.same))
 
 pub returns-in-None-top-clause-found : goal.returns-in-None-top-clause-found
 returns-in-None-top-clause-found g c f p s =
-    rw c.in-None.is (at_none None (option_copied c.args.to) c.args.limit c.args.found.now.items p
+    rw c.in-None.is (at_none None c.args.to.now c.args.limit c.args.found.now.items p
     c.in-None-top.is s)

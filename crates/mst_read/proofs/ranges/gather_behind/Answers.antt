@@ -1,22 +1,28 @@
 use Rattle.std.proofs.Common.{◌<◌, ◌-◌, ℕ, List, [], Option, None, inl, IsSome, refl, ◌∙◌, sym, ap, subst, arith}
-use Rattle.std.specs.Option.{option_copied}
-use Rattle.mst_arena.specs.Row.{entry_value}
+use Rattle.mst_arena.specs.Row.{entry_links, entry_value}
 use Rattle.mst_read.specs.Span.{filled, past_gap}
 use Rattle.mst_read.proofs.Still.{read_still}
-use Rattle.mst_read.proofs.Fillings.{filled-full, filled-nothing, own-ends, own-pushed}
+use Rattle.mst_read.proofs.Fillings.{filled-full, filled-nothing, own-ends, own-pushed, pushed}
 use Rattle.mst_read.proofs.Gathering.{cell_value, ok_same, no_entries, own, others_stand, both, ends_there}
 use Rattle.mst_read.proofs.ranges.gather_behind.Goals as goal
 
 pub returns-then-part-eq0-clause-found : goal.returns-then-part-eq0-clause-found
 returns-then-part-eq0-clause-found g c f p s =
-    sym (ap (filled None (option_copied c.args.to) c.args.limit c.args.found.now.items)
+    sym (ap (filled None c.args.to.now c.args.limit c.args.found.now.items)
     (no_entries s c.if-part-eq0.true)
-    ∙ filled-nothing None (option_copied c.args.to) c.args.limit c.args.found.now.items [] tt)
+    ∙ filled-nothing None c.args.to.now c.args.limit c.args.found.now.items [] tt)
 
 pub returns-then-len-limit-clause-found : goal.returns-then-len-limit-clause-found
 returns-then-len-limit-clause-found g c f p s =
-    sym (filled-full None (option_copied c.args.to) c.args.limit c.args.found.now.items
+    sym (filled-full None c.args.to.now c.args.limit c.args.found.now.items
     (past_gap f p) (omega (arith, c.if-len-limit.true, c.len.ensures)))
+
+pub make_room-requires : goal.make_room-requires
+make_room-requires g c =
+    let wanted = c.if-not-is_wanted.ensures.wanted _
+    (read_still (ap g.R.Rows.content c.entry-entry.ensures.same) entry_links
+    (c.args.part.now.first - 1) c.entry-entry.ensures.value) refl in
+    record { some = omega (arith, wanted.0) }
 
 pub value-requires : goal.value-requires
 value-requires g c =
@@ -25,7 +31,8 @@ value-requires g c =
     let Is : Option (List ℕ) → Type 0 = IsSome in
     record {
       there =
-          subst Is (sym (read_still (ap g.R.Rows.content c.entry-entry.ensures.same) entry_value
+          subst Is (sym (read_still (ap g.R.Rows.content
+          (c.if-not-is_wanted.ensures.same ∙ c.entry-entry.ensures.same)) entry_value
           (c.args.part.now.first - 1) (cell_value (own s.2 some c.entry-entry.ensures.value))))
           refl;
     }
@@ -33,23 +40,30 @@ value-requires g c =
 pub returns-then-not-is_wanted-clause-found : goal.returns-then-not-is_wanted-clause-found
 returns-then-not-is_wanted-clause-found g c f p s =
     let some : 0 < c.args.part.now.count = omega (arith, c.if-part-eq0.false) in
-    let ends = c.if-not-is_wanted.ensures.ends refl in
-    ends_there s some c.entry-entry.ensures.value (option_copied c.args.to) c.args.limit
+    let ends =
+    c.if-not-is_wanted.ensures.ends _
+    (read_still (ap g.R.Rows.content c.entry-entry.ensures.same)
+    entry_links (c.args.part.now.first - 1) c.entry-entry.ensures.value) refl in
+    ends_there s some c.entry-entry.ensures.value c.args.to.now c.args.limit
     c.args.found.now.items
-    (own-ends (option_copied c.args.to) c.args.limit c.args.found.now.items
+    (own-ends c.args.to.now c.args.limit c.args.found.now.items
     c.entry-entry.result.key (own s some c.entry-entry.ensures.value).value ends) ends
 
 pub returns-then-len-limit-2-clause-found : goal.returns-then-len-limit-2-clause-found
 returns-then-len-limit-2-clause-found g c f p s =
     let some : 0 < c.args.part.now.count = omega (arith, c.if-part-eq0.false) in
     let here = own s some c.entry-entry.ensures.value in
-    let value = read_still (ap g.R.Rows.content c.entry-entry.ensures.same) entry_value
+    let value = read_still (ap g.R.Rows.content
+    (c.if-not-is_wanted.ensures.same ∙ c.entry-entry.ensures.same)) entry_value
     (c.args.part.now.first - 1) (cell_value here) in
-    let added = own-pushed (option_copied c.args.to) c.args.limit c.args.found.now.items
-    c.push.new.self.items c.entry-entry.result.key here.value c.value.result _
-    c.in_ok-push.ensures.items c.value.ensures.value value
-    (c.if-not-is_wanted.ensures.wanted refl) in
-    ends_there s some c.entry-entry.ensures.value (option_copied c.args.to) c.args.limit
+    let added = own-pushed c.args.to.now c.args.limit c.args.found.now.items
+    c.push_reserved.new.self.items c.entry-entry.result.key here.value c.value.result _
+    (pushed _ c.in_ok-make_room.ensures.same c.push_reserved.ensures.items) c.value.ensures.value
+    value
+    (c.if-not-is_wanted.ensures.wanted _
+    (read_still (ap g.R.Rows.content c.entry-entry.ensures.same)
+    entry_links (c.args.part.now.first - 1) c.entry-entry.ensures.value) refl) in
+    ends_there s some c.entry-entry.ensures.value c.args.to.now c.args.limit
     c.args.found.now.items added (inl (omega (arith, c.if-len-limit-2.true, c.len-2.ensures)))
 
 pub gather_part-requires : goal.gather_part-requires
@@ -62,7 +76,8 @@ gather_part-requires g c =
         (own s.2 some c.entry-entry.ensures.value).rest,
         others_stand s.2 some
             c.entry-entry.ensures.value
-            (ap g.R.Rows.content (c.value.ensures.same ∙ c.entry-entry.ensures.same))
+            (ap g.R.Rows.content (c.value.ensures.same ∙ c.if-not-is_wanted.ensures.same
+            ∙ c.entry-entry.ensures.same))
             c.part_of-rest.ensures,
       );
     }
@@ -72,14 +87,19 @@ returns-clause-found g c f p s =
     let some : 0 < c.args.part.now.count = omega (arith, c.if-part-eq0.false) in
     let here = own s some c.entry-entry.ensures.value in
     let rest = others_stand s some c.entry-entry.ensures.value
-    (ap g.R.Rows.content (c.value.ensures.same ∙ c.entry-entry.ensures.same))
+    (ap g.R.Rows.content (c.value.ensures.same ∙ c.if-not-is_wanted.ensures.same
+    ∙ c.entry-entry.ensures.same))
     c.part_of-rest.ensures in
-    let value = read_still (ap g.R.Rows.content c.entry-entry.ensures.same) entry_value
+    let value = read_still (ap g.R.Rows.content
+    (c.if-not-is_wanted.ensures.same ∙ c.entry-entry.ensures.same)) entry_value
     (c.args.part.now.first - 1) (cell_value here) in
-    let added = own-pushed (option_copied c.args.to) c.args.limit c.args.found.now.items
-    c.push.new.self.items c.entry-entry.result.key here.value c.value.result _
-    c.in_ok-push.ensures.items c.value.ensures.value value
-    (c.if-not-is_wanted.ensures.wanted refl) in
+    let added = own-pushed c.args.to.now c.args.limit c.args.found.now.items
+    c.push_reserved.new.self.items c.entry-entry.result.key here.value c.value.result _
+    (pushed _ c.in_ok-make_room.ensures.same c.push_reserved.ensures.items) c.value.ensures.value
+    value
+    (c.if-not-is_wanted.ensures.wanted _
+    (read_still (ap g.R.Rows.content c.entry-entry.ensures.same)
+    entry_links (c.args.part.now.first - 1) c.entry-entry.ensures.value) refl) in
     ok_same c.gather_part.result _ _ _ (c.gather_part.ensures.found f here.rest rest)
-    (both s some c.entry-entry.ensures.value (option_copied c.args.to) c.args.limit
+    (both s some c.entry-entry.ensures.value c.args.to.now c.args.limit
     c.args.found.now.items added)

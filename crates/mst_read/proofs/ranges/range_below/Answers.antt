@@ -1,4 +1,4 @@
-use Rattle.std.proofs.Common.{List, [], ◌∙◌, ap}
+use Rattle.std.proofs.Common.{ℕ, List, [], Option, ◌∙◌, ap}
 use Rattle.std.specs.Option.{option_copied}
 use Rattle.mst_key.specs.Map.{Pair}
 use Rattle.mst_node.specs.Tree.{pairs}
@@ -31,6 +31,10 @@ returns-clause-found g c f m s =
     c.in_ok-gather.ensures.found f s.tree.placed
     (stands_still (ap g.R.Rows.content c.head_at-top.ensures.same)
     (head_stands s c.head_at-top.ensures.head))
+    ∙ ap (λ (b : Option (List ℕ)). filled b c.sought-to.result c.args.limit
+    c.new-found.result.items (pairs (tree_of f s.tree.placed))) c.sought-from.ensures
+    ∙ ap (λ (b : Option (List ℕ)). filled from b c.args.limit c.new-found.result.items
+    (pairs (tree_of f s.tree.placed))) c.sought-to.ensures
     ∙ ap (λ (l : List Pair). filled from to c.args.limit l (pairs (tree_of f s.tree.placed)))
     c.new-found.ensures.items
     ∙ ap (filled from to c.args.limit []) (pairs_at s)

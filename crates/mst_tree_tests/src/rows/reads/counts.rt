@@ -6,7 +6,9 @@
 //! node that is met, its entries up to the one that ends the search in it, and the value of each
 //! pair of the answer. An entry whose way was asked for is read once more if its key or its links
 //! are needed: the entry of a next pair and that of the bound, and of a range that has a lower
-//! bound the first entry that is not below it in each node on the way whose pairs are added.
+//! bound the first entry that is not below it in each node on the way whose pairs are added. A range
+//! that has an upper bound asks each of its pairs, and the one that ends it, for their way to it.
+use crate::confirming::confirm_at;
 use crate::pairs::{key_of, numbered, numbered_key};
 use crate::rows::counted::Reads;
 use crate::rows::standing::StandingMap;
@@ -91,7 +93,7 @@ fn holds(
 fn ask_each(rt: &(impl Abort + AllocGlobal), cases: &[Case]) {
     let mut map = map_of_300(rt, rt.alloc());
     for (place, case) in cases.iter().enumerate() {
-        assert!(rt; holds(rt, rt.alloc(), &mut map, *case), "case {place}");
+        confirm_at(rt, holds(rt, rt.alloc(), &mut map, *case), place);
     }
 }
 
@@ -105,10 +107,10 @@ const RANGES: &[Case] = &[
     (Ask::Range(Some(100), None, 1), 3, 27, 1),
     (Ask::Range(Some(100), None, 2), 3, 28, 2),
     (Ask::Range(Some(100), None, 10), 4, 37, 10),
-    (Ask::Range(Some(17), Some(19), 1), 3, 21, 1),
-    (Ask::Range(Some(17), Some(19), 10), 3, 25, 2),
-    (Ask::Range(Some(150), Some(160), 2), 3, 14, 2),
-    (Ask::Range(Some(150), Some(160), 300), 3, 25, 10),
+    (Ask::Range(Some(17), Some(19), 1), 3, 22, 1),
+    (Ask::Range(Some(17), Some(19), 10), 3, 28, 2),
+    (Ask::Range(Some(150), Some(160), 2), 3, 16, 2),
+    (Ask::Range(Some(150), Some(160), 300), 3, 36, 10),
 ];
 
 #[test]
