@@ -45,7 +45,7 @@
  *
  * Link with libmst_store, which `make -C bindings` makes: `pkg-config --cflags --libs mst_store`
  * says how, after `make -C bindings install`. docs/STORE_C.md has examples. If you link the proved
- * archive libmst_c.a itself, compile the C files of bindings/ along with your program.
+ * archive libmst_exports.a itself, compile the C files of bindings/ along with your program.
  */
 #ifndef MST_STORE_H
 #define MST_STORE_H

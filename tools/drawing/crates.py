@@ -9,7 +9,7 @@ from .maps import TOP
 LAYERS = [
     (("executable",), {"mst": 880}),
     (("command line",), {"mst_program": 880}),
-    (("its tasks",), {"mst_command": 880}),
+    (("exports for C;", "its tasks"), {"mst_exports": 350, "mst_command": 880}),
     (("for C; scripts over", "sharded maps"), {"mst_c": 350, "mst_sharded_script": 670}),
     (("scripts, loads;", "sharded maps"), {
         "mst_load": 770, "mst_script": 1030, "mst_sharded": 350,
@@ -36,7 +36,7 @@ TESTS = {
     "mst_program_tests",
 }
 NOT_DRAWN = {"mst_audit", "mst_bench", "mst_cookbook", "mst_walk", *TESTS}
-FOR_C = {"mst_verifier", "mst_c"}
+FOR_C = {"mst_verifier", "mst_c", "mst_exports"}
 BENT = {("mst_command", "mst_report")}
 BOX, HIGH, FIRST, APART = 140, 36, 30, 82
 

@@ -35,7 +35,8 @@ fn apply_code(applied: Result<(), Unapplied>) -> i32
     }
 }
 
-pub(crate) fn try_apply(alloc: Global, hand: &mut Hand, edits: &[u8], place: &mut usize) -> i32
+/// As `mst_try_apply` of `mst_exports` says.
+pub fn try_apply(alloc: Global, hand: &mut Hand, edits: &[u8], place: &mut usize) -> i32
     ensures told { ApplyTold hand.old.held edits.now place.old result place.new hand.new.held }
 {
     let Some(mut taken) = take(alloc, hand) else {

@@ -44,7 +44,8 @@ fn move_code(moved: Result<Format, Unmoved>) -> i32
     }
 }
 
-pub(crate) fn format(alloc: Global, hand: &mut Hand) -> i32
+/// As `mst_format` of `mst_exports` says.
+pub fn format(alloc: Global, hand: &mut Hand) -> i32
     ensures told { FormatTold hand.old.held result hand.new.held }
 {
     let Some(mut taken) = take(alloc, hand) else {
@@ -55,7 +56,8 @@ pub(crate) fn format(alloc: Global, hand: &mut Hand) -> i32
     number_of(format)
 }
 
-pub(crate) fn try_migrate(alloc: Global, hand: &mut Hand, number: u32) -> i32
+/// As `mst_try_migrate` of `mst_exports` says.
+pub fn try_migrate(alloc: Global, hand: &mut Hand, number: u32) -> i32
     ensures told { MigrateTold hand.old.held number result hand.new.held }
 {
     let Some(mut taken) = take(alloc, hand) else {

@@ -1,7 +1,6 @@
 //! What a hand holds: a pass, free or pinned, that is laid down beside a share of its store.
 ghost use Rattle.std.specs.Prelude.{◌≡◌, ◌≤◌, true, length, Some, None, IfOk, OnErr};
 ghost use Rattle.std.specs.Arc.{arc_value};
-ghost use Rattle.mst_key.specs.declared.history.Change.TheVariants.{Put, Remove};
 ghost use Rattle.mst_key.specs.Map.{map_next, map_range};
 ghost use Rattle.std.specs.Option.{option_copied};
 ghost use Rattle.mst_node.specs.Text.{root as root_digest};
@@ -9,15 +8,13 @@ ghost use Rattle.mst_node.specs.Trail.{proof_text};
 ghost use Rattle.mst_c.specs.declared.held.State.TheVariants as state;
 ghost use Rattle.mst_c.specs.States.{PinsNone};
 ghost use Rattle.mst_c.specs.Told.{ValueTold};
-ghost use Rattle.mst_c.specs.Formats.{Moves};
-ghost use Rattle.mst_c.specs.Batches.{Applies};
-ghost use Rattle.mst_c.specs.Holding.{Reads, Forgets, Writes, PinsNow, Unpins, Versions, Counts};
+ghost use Rattle.mst_c.specs.Holding.{Reads, Forgets, PinsNow, Unpins, Versions, Counts};
 
 mod knowing;
+mod writing;
 
 use crate::answering::{tell_now, tell_pinned};
 use crate::hand::{Hand, PaddedHand, Taken, give};
-use crate::packing::Packed;
 use mst_key::{Format, Key, Memory, Value};
 use mst_store::{ApplyFault, Busy, Laid, LaidPinned, MigrateFault, Pass, Store, WriteFault};
 use std::alloc::Global;
@@ -135,20 +132,6 @@ pub(crate) fn hand_out_padded(
     ensures held { result ≡ true → hand.new.hand.held ≡ Some (state.Free pass.entry) }
 {
     hand_out(alloc, store, pass, &mut hand.hand)
-}
-
-/// Makes the edits of a buffer as one change.
-fn apply(pass: &mut Pass<'_, Global>, alloc: Global, packed: &Packed<'_>) -> Result<(), Unapplied>
-    ensures applies { Applies packed.now (state.Free pass.old) result (state.Free pass.new) }
-{
-    let edits = match packed.edits(alloc) {
-        Ok(edits) => edits,
-        Err(refused) => return Err(Unapplied::Memory(refused)),
-    };
-    match pass.try_apply(alloc, edits.as_slice()) {
-        Ok(()) => Ok(()),
-        Err(fault) => Err(Unapplied::Store(fault)),
-    }
 }
 
 impl Held {
@@ -270,28 +253,6 @@ impl Held {
         }
     }
 
-    /// Gives the key the value, if the pass is free.
-    pub(crate) fn try_put(&mut self, key: &Key, value: &Value) -> Result<Option<Value>, Unwritten>
-        ensures writes { Writes (Put key.now value.now) self.old result self.new }
-    {
-        match replace(&mut self.state, State::Away) {
-            State::Away => unreachable!(),
-            State::Free(laid) => {
-                let mut pass = self.store.lift(laid);
-                let put = pass.try_put(key, value);
-                self.state = State::Free(pass.lay());
-                match put {
-                    Ok(old) => Ok(old),
-                    Err(fault) => Err(Unwritten::Store(fault)),
-                }
-            }
-            State::Pinned(laid) => {
-                self.state = State::Pinned(laid);
-                Err(Unwritten::Pins)
-            }
-        }
-    }
-
     /// Pins the current version, if the pass is free.
     pub(crate) fn pin(&mut self) -> bool
         ensures pins { PinsNow self.old result self.new }
@@ -325,28 +286,6 @@ impl Held {
                 let pinned = self.store.lift_pinned(laid);
                 self.state = State::Free(pinned.unpin().lay());
                 true
-            }
-        }
-    }
-
-    /// Takes the key out of the map, if the pass is free.
-    pub(crate) fn try_remove(&mut self, key: &Key) -> Result<Option<Value>, Unwritten>
-        ensures writes { Writes (Remove key.now) self.old result self.new }
-    {
-        match replace(&mut self.state, State::Away) {
-            State::Away => unreachable!(),
-            State::Free(laid) => {
-                let mut pass = self.store.lift(laid);
-                let removed = pass.try_remove(key);
-                self.state = State::Free(pass.lay());
-                match removed {
-                    Ok(old) => Ok(old),
-                    Err(fault) => Err(Unwritten::Store(fault)),
-                }
-            }
-            State::Pinned(laid) => {
-                self.state = State::Pinned(laid);
-                Err(Unwritten::Pins)
             }
         }
     }
@@ -411,47 +350,6 @@ impl Held {
                 let format = pinned.format();
                 self.state = State::Pinned(pinned.lay());
                 format
-            }
-        }
-    }
-
-    /// Turns the tree to a format, if the pass is free.
-    pub(crate) fn try_migrate(&mut self, alloc: Global, to: Format) -> Result<Format, Unmoved>
-        ensures moves { Moves to self.old result self.new }
-    {
-        match replace(&mut self.state, State::Away) {
-            State::Away => unreachable!(),
-            State::Free(laid) => {
-                let mut pass = self.store.lift(laid);
-                let moved = pass.try_migrate(alloc, to);
-                self.state = State::Free(pass.lay());
-                match moved {
-                    Ok(was) => Ok(was),
-                    Err(fault) => Err(Unmoved::Store(fault)),
-                }
-            }
-            State::Pinned(laid) => {
-                self.state = State::Pinned(laid);
-                Err(Unmoved::Pins)
-            }
-        }
-    }
-
-    /// Makes the edits of a buffer as one change, if the pass is free.
-    pub(crate) fn try_apply(&mut self, alloc: Global, packed: &Packed<'_>) -> Result<(), Unapplied>
-        ensures applies { Applies packed.now self.old result self.new }
-    {
-        match replace(&mut self.state, State::Away) {
-            State::Away => unreachable!(),
-            State::Free(laid) => {
-                let mut pass = self.store.lift(laid);
-                let applied = apply(&mut pass, alloc, packed);
-                self.state = State::Free(pass.lay());
-                applied
-            }
-            State::Pinned(laid) => {
-                self.state = State::Pinned(laid);
-                Err(Unapplied::Pins)
             }
         }
     }

@@ -22,7 +22,8 @@ fn tell_free(free: Result<u32, Uncounted>, count: &mut u32) -> i32
     }
 }
 
-pub(crate) fn free_rows(alloc: Global, hand: &mut Hand, count: &mut u32) -> i32
+/// As `mst_free_rows` of `mst_exports` says.
+pub fn free_rows(alloc: Global, hand: &mut Hand, count: &mut u32) -> i32
     ensures told { FreeRowsTold hand.old.held count.old result count.new hand.new.held }
 {
     let Some(mut taken) = take(alloc, hand) else {
@@ -48,7 +49,8 @@ fn tell_made(made: Option<u64>, number: &mut u64) -> i32
     }
 }
 
-pub(crate) fn made(alloc: Global, hand: &mut Hand, number: &mut u64) -> i32
+/// As `mst_made` of `mst_exports` says.
+pub fn made(alloc: Global, hand: &mut Hand, number: &mut u64) -> i32
     ensures told { MadeTold hand.old.held number.old result number.new hand.new.held }
 {
     let Some(mut taken) = take(alloc, hand) else {

@@ -1,6 +1,7 @@
-//! The store for C, and for every language that calls C.
+//! The calls of the store for C, and for every language that calls C.
 //!
-//! A static library over `mst_store`. `include/mst_store.h` declares its calls.
+//! `mst_exports` exports each of them, with the same contract, and `include/mst_store.h` declares
+//! it.
 //!
 //! Each call returns a number. Its contract says, for all arguments, this number, each byte that
 //! the call writes, and what the hand holds after it. A number of 0 or more is an answer; -1 says
@@ -25,254 +26,27 @@
 //! The tests are made in this order: the hand, the key, the value, the pass, and the rooms last.
 #![tactic(auto)]
 
-ghost use Rattle.std.specs.Prelude.{◌≡◌, ◌≢◌, ◌↔◌, ◌⊎◌, pos, negsuc, length as count, None, IsSome};
-ghost use Rattle.mst_c.specs.Batches.{ApplyTold};
-ghost use Rattle.mst_c.specs.Formats.{format_named, FormatTold, MigrateTold};
-ghost use Rattle.mst_c.specs.Knowing.{FreeRowsTold, MadeTold};
-ghost use Rattle.mst_c.specs.Opened.{Opened, IsSize, AllEmpty};
-ghost use Rattle.mst_c.specs.Ranges.{RangeTold};
-ghost use Rattle.mst_c.specs.Told.{GetTold, PutTold, RootTold, ProveTold, PinTold, UnpinTold, CloseTold, RemoveTold, VersionTold, RowsTold, NextTold};
-
 mod answering;
-mod batches;
-mod formats;
-mod hand;
+pub mod batches;
+pub mod formats;
+pub mod hand;
 mod held;
-mod knowing;
+pub mod knowing;
 mod laws;
-mod opening;
+pub mod opening;
 mod packing;
 mod parts;
-mod ranging;
+pub mod ranging;
 mod sharded_asking;
-mod sharded_batches;
-mod sharded_calls;
-mod sharded_hand;
+pub mod sharded_batches;
+pub mod sharded_hand;
 mod sharded_held;
-mod sharded_migrating;
-mod sharded_opening;
-mod sharded_proving;
-mod sharded_reading;
+pub mod sharded_migrating;
+pub mod sharded_opening;
+pub mod sharded_proving;
+pub mod sharded_reading;
 mod sharded_splits;
-mod sharded_telling;
-mod telling;
+pub mod sharded_telling;
+pub mod telling;
 
-use hand::{Hand, PaddedHand};
 pub use laws::{batch_laws, worked_batches};
-use std::alloc::Global;
-
-/// Opens a store of the empty map in format 1 or 2, with `rows` rows, and puts a pass into each of
-/// the hands. What a hand held before is closed. Returns 0; -3 for another format; -10 if a store
-/// cannot have so many rows or passes; -9 if a growth was refused; and no other number. If it does
-/// not return 0, all hands are empty.
-#[unsafe(no_mangle)]
-pub extern "C" fn mst_open(alloc: Global, format: u32, rows: u32, hands: &mut [PaddedHand]) -> i32
-    ensures opened { result ≡ pos 0 → Opened format rows hands.new }
-    ensures empty { result ≢ pos 0 → AllEmpty hands.new }
-    ensures size { result ≡ negsuc 9
-        ↔ IsSome (format_named format) × (¬ (IsSize rows (count hands.old))) }
-    ensures format { result ≡ negsuc 2 ↔ (format_named format ≡ None) }
-    ensures range { (result ≡ pos 0) ⊎ (result ≡ negsuc 2) ⊎ (result ≡ negsuc 9)
-        ⊎ (result ≡ negsuc 8) }
-{
-    opening::open(alloc, format, rows, hands)
-}
-
-/// Returns the length of the key's value, 0 to 64, and its bytes stand first in the room. Returns
-/// -1 if the key is absent; -7, -5, -2. With each of these the room stays as it was.
-#[unsafe(no_mangle)]
-pub extern "C" fn mst_get(alloc: Global, hand: &mut Hand, key: &[u8], room: &mut [u8]) -> i32
-    ensures told { GetTold hand.old.held key.now room.old result room.new hand.new.held }
-{
-    telling::get(alloc, hand, key, room)
-}
-
-/// Gives the key the value. Returns what `mst_get` would have returned before the write; with -2
-/// the old value did not fit into the room, and the key has its new value all the same. Returns -7,
-/// -5, -6, -8, -21, -22, -23: then nothing is written.
-#[unsafe(no_mangle)]
-pub extern "C" fn mst_try_put(
-    alloc: Global,
-    hand: &mut Hand,
-    key: &[u8],
-    value: &[u8],
-    room: &mut [u8],
-) -> i32
-    ensures told { PutTold hand.old.held key.now value.now room.old result room.new hand.new.held }
-{
-    telling::try_put(alloc, hand, key, value, room)
-}
-
-/// Returns 32, the length of the root digest, and its bytes stand first in the room. Returns -7; -2
-/// for a room of less than 32 bytes.
-#[unsafe(no_mangle)]
-pub extern "C" fn mst_root(alloc: Global, hand: &mut Hand, root: &mut [u8]) -> i32
-    ensures told { RootTold hand.old.held root.old result root.new hand.new.held }
-{
-    telling::root(alloc, hand, root)
-}
-
-/// Makes the proof of the key's answer against the root digest of the same version. Returns 0: its
-/// bytes stand first in the room, and their number in `length`. Returns -2: `length` is their
-/// number, and the room stays. Returns -7, -5, -9: both stay.
-#[unsafe(no_mangle)]
-pub extern "C" fn mst_prove(
-    alloc: Global,
-    hand: &mut Hand,
-    key: &[u8],
-    room: &mut [u8],
-    length: &mut usize,
-) -> i32
-    ensures told { ProveTold hand.old.held key.now room.old length.old result room.new
-        length.new hand.new.held }
-{
-    telling::prove(alloc, hand, key, room, length)
-}
-
-/// Pins the current version: each read is of it until `mst_unpin`. Returns 0; -7; -8 if the pass is
-/// pinned already.
-#[unsafe(no_mangle)]
-pub extern "C" fn mst_pin(alloc: Global, hand: &mut Hand) -> i32
-    ensures told { PinTold hand.old.held result hand.new.held }
-{
-    telling::pin(alloc, hand)
-}
-
-/// Ends the pin. Returns 0; -7; -8 if the pass is not pinned.
-#[unsafe(no_mangle)]
-pub extern "C" fn mst_unpin(alloc: Global, hand: &mut Hand) -> i32
-    ensures told { UnpinTold hand.old.held result hand.new.held }
-{
-    telling::unpin(alloc, hand)
-}
-
-/// Closes the pass, after ending its pin if it has one. Returns 0 or -7. The store is freed with
-/// its last pass.
-#[unsafe(no_mangle)]
-pub extern "C" fn mst_close(alloc: Global, hand: &mut Hand) -> i32
-    ensures told { CloseTold hand.old.held result hand.new.held }
-{
-    telling::close(alloc, hand)
-}
-
-/// Takes the key out of the map. Returns what `mst_try_put` returns, without -6.
-#[unsafe(no_mangle)]
-pub extern "C" fn mst_try_remove(alloc: Global, hand: &mut Hand, key: &[u8], room: &mut [u8]) -> i32
-    ensures told { RemoveTold hand.old.held key.now room.old result room.new hand.new.held }
-{
-    telling::try_remove(alloc, hand, key, room)
-}
-
-/// Sets `number` to the number of the version, which is the number of writes and migrations before
-/// it. Returns 0; or -7, and then the number stays.
-#[unsafe(no_mangle)]
-pub extern "C" fn mst_version(alloc: Global, hand: &mut Hand, number: &mut u64) -> i32
-    ensures told { VersionTold hand.old.held number.old result number.new hand.new.held }
-{
-    telling::version(alloc, hand, number)
-}
-
-/// Returns the number of the version's format, 1 or 2; or -7.
-#[unsafe(no_mangle)]
-pub extern "C" fn mst_format(alloc: Global, hand: &mut Hand) -> i32
-    ensures told { FormatTold hand.old.held result hand.new.held }
-{
-    formats::format(alloc, hand)
-}
-
-/// Turns the tree of the map to format 1 or 2; the map stays as it is. Returns the number of the
-/// format that it had, 1 or 2. Returns -7, -3 for another number, -8, -9, -21, -22, -23: then
-/// nothing is changed. A migration to the current format takes no memory and no row.
-#[unsafe(no_mangle)]
-pub extern "C" fn mst_try_migrate(alloc: Global, hand: &mut Hand, format: u32) -> i32
-    ensures told { MigrateTold hand.old.held format result hand.new.held }
-{
-    formats::try_migrate(alloc, hand, format)
-}
-
-/// Makes the edits of a buffer, one after another, as one version. An edit is a byte 1 for a put or
-/// 2 for a remove, the length of its key in two bytes, the high one first, that of its value in
-/// two, the key, the value; a remove has no value. Returns 0. Returns -5, -6 for the length of a
-/// key or a value, -25 for what is no edit otherwise: `place` is then the number of the first such
-/// edit, from 0. Returns -7, -8, -9, -21, -22, -23, and `place` stays, as with 0. If it does not
-/// return 0, nothing is changed.
-#[unsafe(no_mangle)]
-pub extern "C" fn mst_try_apply(
-    alloc: Global,
-    hand: &mut Hand,
-    edits: &[u8],
-    place: &mut usize,
-) -> i32
-    ensures told { ApplyTold hand.old.held edits.now place.old result place.new hand.new.held }
-{
-    batches::try_apply(alloc, hand, edits, place)
-}
-
-/// Sets `count` to the number of rows that the map of the current version takes. Returns 0; or -7,
-/// -8 for a pinned pass, -21, -24, and then the count stays.
-#[unsafe(no_mangle)]
-pub extern "C" fn mst_rows(alloc: Global, hand: &mut Hand, count: &mut u32) -> i32
-    ensures told { RowsTold hand.old.held count.old result count.new hand.new.held }
-{
-    telling::rows(alloc, hand, count)
-}
-
-/// Sets `count` to the number of rows that are free to the next write, beside pinned versions too.
-/// Returns 0; or -7, -8 for a pinned pass, -21, and then the count stays.
-#[unsafe(no_mangle)]
-pub extern "C" fn mst_free_rows(alloc: Global, hand: &mut Hand, count: &mut u32) -> i32
-    ensures told { FreeRowsTold hand.old.held count.old result count.new hand.new.held }
-{
-    knowing::free_rows(alloc, hand, count)
-}
-
-/// Sets `number` to the version that the pass's last write made, whatever other passes wrote since.
-/// Returns 0; or -7, -1 if the pass has made none, and then the number stays.
-#[unsafe(no_mangle)]
-pub extern "C" fn mst_made(alloc: Global, hand: &mut Hand, number: &mut u64) -> i32
-    ensures told { MadeTold hand.old.held number.old result number.new hand.new.held }
-{
-    knowing::made(alloc, hand, number)
-}
-
-/// Finds the pair of the least key above the bound, or of the least key if the bound has no bytes.
-/// Returns the length of the value: its bytes stand first in the room, those of the key first in
-/// `key_room`, and `length` is the key's. Returns -7; -5 for a bound of more than 32 bytes; -1 if
-/// there is no such pair; -2 if one of the two rooms is too short. With each of these both rooms
-/// and `length` stay.
-#[unsafe(no_mangle)]
-pub extern "C" fn mst_next(
-    alloc: Global,
-    hand: &mut Hand,
-    key: &[u8],
-    key_room: &mut [u8],
-    length: &mut usize,
-    room: &mut [u8],
-) -> i32
-    ensures told { NextTold hand.old.held key.now key_room.old length.old room.old result
-        key_room.new length.new room.new hand.new.held }
-{
-    telling::next(alloc, hand, key, key_room, length, room)
-}
-
-/// Finds the first pairs, at most `limit`, whose keys are at least `from` and below `to`; a bound
-/// of no bytes does not bind. Returns 0: `count` is the number of the pairs and `length` that of
-/// their bytes, which stand first in the room: for each pair the length of its key in two bytes,
-/// the high one first, that of its value in two, the key, the value. Returns -2: both numbers are
-/// set so, and the room stays. Returns -7, -5 for a bound of more than 32 bytes, -9: all stay.
-#[unsafe(no_mangle)]
-pub extern "C" fn mst_range(
-    alloc: Global,
-    hand: &mut Hand,
-    from: &[u8],
-    to: &[u8],
-    limit: u32,
-    room: &mut [u8],
-    count: &mut usize,
-    length: &mut usize,
-) -> i32
-    ensures told { RangeTold hand.old.held from.now to.now limit room.old count.old length.old
-        result room.new count.new length.new hand.new.held }
-{
-    ranging::range(alloc, hand, from, to, limit, room, count, length)
-}

@@ -48,7 +48,8 @@ fn close_all(alloc: Global, hands: &mut [PaddedHand])
     }
 }
 
-pub(crate) fn open(alloc: Global, format: u32, rows: u32, hands: &mut [PaddedHand]) -> i32
+/// As `mst_open` of `mst_exports` says.
+pub fn open(alloc: Global, format: u32, rows: u32, hands: &mut [PaddedHand]) -> i32
     ensures opened { result ≡ pos 0 → Opened format rows hands.new }
     ensures empty { result ≢ pos 0 → AllEmpty hands.new }
     ensures size { result ≡ negsuc 9

@@ -93,7 +93,8 @@ pub(crate) fn tell_pairs(
     0
 }
 
-pub(crate) fn range(
+/// As `mst_range` of `mst_exports` says.
+pub fn range(
     alloc: Global,
     hand: &mut Hand,
     from: &[u8],

@@ -100,7 +100,8 @@ fn tell_applied(applied: Result<(), Unspread>, shard: &mut usize) -> i32
     }
 }
 
-pub(crate) fn try_apply(
+/// As `mst_sharded_try_apply` of `mst_exports` says.
+pub fn try_apply(
     alloc: Global,
     hand: &mut ShardedHand,
     edits: &[u8],

@@ -67,12 +67,8 @@ fn tell_moved(moved: Result<(), Unmigrated>, place: &mut usize) -> i32
     }
 }
 
-pub(crate) fn try_migrate(
-    alloc: Global,
-    hand: &mut ShardedHand,
-    number: u32,
-    place: &mut usize,
-) -> i32
+/// As `mst_sharded_try_migrate` of `mst_exports` says.
+pub fn try_migrate(alloc: Global, hand: &mut ShardedHand, number: u32, place: &mut usize) -> i32
     ensures told { MigrateTold hand.old.held number place.old result place.new hand.new.held }
 {
     let Some(mut taken) = take(alloc, hand) else {

@@ -184,7 +184,8 @@ fn open_in(
     open_of(alloc, splits, shape, hands)
 }
 
-pub(crate) fn open(
+/// As `mst_sharded_open` of `mst_exports` says.
+pub fn open(
     alloc: Global,
     format: u32,
     rows: u32,

@@ -43,7 +43,8 @@ fn tell_root(told: Result<[u8; 32], Unlisted>, room: &mut [u8]) -> i32
     }
 }
 
-pub(crate) fn root(alloc: Global, hand: &mut ShardedHand, room: &mut [u8]) -> i32
+/// As `mst_sharded_root` of `mst_exports` says.
+pub fn root(alloc: Global, hand: &mut ShardedHand, room: &mut [u8]) -> i32
     ensures told { RootTold hand.old.held room.old result room.new hand.new.held }
 {
     let Some(mut taken) = take(alloc, hand) else {
@@ -54,7 +55,8 @@ pub(crate) fn root(alloc: Global, hand: &mut ShardedHand, room: &mut [u8]) -> i3
     tell_root(root, room)
 }
 
-pub(crate) fn prove(
+/// As `mst_sharded_prove` of `mst_exports` says.
+pub fn prove(
     alloc: Global,
     hand: &mut ShardedHand,
     key: &[u8],

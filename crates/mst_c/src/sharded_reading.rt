@@ -22,7 +22,8 @@ fn unread_code(fault: Unread) -> i32
     }
 }
 
-pub(crate) fn next(
+/// As `mst_sharded_next` of `mst_exports` says.
+pub fn next(
     alloc: Global,
     hand: &mut ShardedHand,
     key: &[u8],
@@ -48,7 +49,8 @@ pub(crate) fn next(
     }
 }
 
-pub(crate) fn range(
+/// As `mst_sharded_range` of `mst_exports` says.
+pub fn range(
     alloc: Global,
     hand: &mut ShardedHand,
     from: &[u8],
@@ -97,12 +99,8 @@ fn tell_number(found: Option<Option<u64>>, number: &mut u64) -> i32
     }
 }
 
-pub(crate) fn version_at(
-    alloc: Global,
-    hand: &mut ShardedHand,
-    shard: usize,
-    number: &mut u64,
-) -> i32
+/// As `mst_sharded_version_at` of `mst_exports` says.
+pub fn version_at(alloc: Global, hand: &mut ShardedHand, shard: usize, number: &mut u64) -> i32
     ensures told { VersionTold hand.old.held shard number.old result number.new hand.new.held }
 {
     let Some(mut taken) = take(alloc, hand) else {
@@ -124,7 +122,8 @@ fn tell_format(found: Result<Option<Format>, Unread>) -> i32
     }
 }
 
-pub(crate) fn format(alloc: Global, hand: &mut ShardedHand) -> i32
+/// As `mst_sharded_format` of `mst_exports` says.
+pub fn format(alloc: Global, hand: &mut ShardedHand) -> i32
     ensures told { FormatTold hand.old.held result hand.new.held }
 {
     let Some(mut taken) = take(alloc, hand) else {
@@ -135,7 +134,8 @@ pub(crate) fn format(alloc: Global, hand: &mut ShardedHand) -> i32
     tell_format(found)
 }
 
-pub(crate) fn directory(
+/// As `mst_sharded_directory` of `mst_exports` says.
+pub fn directory(
     alloc: Global,
     hand: &mut ShardedHand,
     room: &mut [u8],

@@ -9,7 +9,8 @@ use std::alloc::Global;
 
 pub(crate) const BAD_SPLITS: i32 = -26;
 
-pub(crate) fn shards(alloc: Global, hand: &mut ShardedHand) -> i32
+/// As `mst_sharded_shards` of `mst_exports` says.
+pub fn shards(alloc: Global, hand: &mut ShardedHand) -> i32
     ensures told { ShardsTold hand.old.held result hand.new.held }
 {
     let Some(taken) = take(alloc, hand) else {
@@ -20,7 +21,8 @@ pub(crate) fn shards(alloc: Global, hand: &mut ShardedHand) -> i32
     count as i32
 }
 
-pub(crate) fn get(alloc: Global, hand: &mut ShardedHand, key: &[u8], room: &mut [u8]) -> i32
+/// As `mst_sharded_get` of `mst_exports` says.
+pub fn get(alloc: Global, hand: &mut ShardedHand, key: &[u8], room: &mut [u8]) -> i32
     ensures told { GetTold hand.old.held key.now room.old result room.new hand.new.held }
 {
     let Some(mut taken) = take(alloc, hand) else {
@@ -35,7 +37,8 @@ pub(crate) fn get(alloc: Global, hand: &mut ShardedHand, key: &[u8], room: &mut 
     tell(&found, room)
 }
 
-pub(crate) fn try_put(
+/// As `mst_sharded_try_put` of `mst_exports` says.
+pub fn try_put(
     alloc: Global,
     hand: &mut ShardedHand,
     key: &[u8],
@@ -63,7 +66,8 @@ pub(crate) fn try_put(
     }
 }
 
-pub(crate) fn try_remove(alloc: Global, hand: &mut ShardedHand, key: &[u8], room: &mut [u8]) -> i32
+/// As `mst_sharded_try_remove` of `mst_exports` says.
+pub fn try_remove(alloc: Global, hand: &mut ShardedHand, key: &[u8], room: &mut [u8]) -> i32
     ensures told { RemoveTold hand.old.held key.now room.old result room.new hand.new.held }
 {
     let Some(mut taken) = take(alloc, hand) else {
@@ -81,7 +85,8 @@ pub(crate) fn try_remove(alloc: Global, hand: &mut ShardedHand, key: &[u8], room
     }
 }
 
-pub(crate) fn snapshot(alloc: Global, hand: &mut ShardedHand) -> i32
+/// As `mst_sharded_snapshot` of `mst_exports` says.
+pub fn snapshot(alloc: Global, hand: &mut ShardedHand) -> i32
     ensures told { SnapshotTold hand.old.held result hand.new.held }
 {
     let Some(mut taken) = take(alloc, hand) else {
@@ -92,7 +97,8 @@ pub(crate) fn snapshot(alloc: Global, hand: &mut ShardedHand) -> i32
     done(pinned)
 }
 
-pub(crate) fn release(alloc: Global, hand: &mut ShardedHand) -> i32
+/// As `mst_sharded_release` of `mst_exports` says.
+pub fn release(alloc: Global, hand: &mut ShardedHand) -> i32
     ensures told { ReleaseTold hand.old.held result hand.new.held }
 {
     let Some(mut taken) = take(alloc, hand) else {
@@ -103,7 +109,8 @@ pub(crate) fn release(alloc: Global, hand: &mut ShardedHand) -> i32
     done(released)
 }
 
-pub(crate) fn close(alloc: Global, hand: &mut ShardedHand) -> i32
+/// As `mst_sharded_close` of `mst_exports` says.
+pub fn close(alloc: Global, hand: &mut ShardedHand) -> i32
     ensures told { CloseTold hand.old.held result hand.new.held }
     ensures empty { hand.new.held ≡ None }
 {

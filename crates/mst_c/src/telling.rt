@@ -101,7 +101,8 @@ pub(crate) fn done(done: bool) -> i32
     if done { 0 } else { WRONG_STATE }
 }
 
-pub(crate) fn get(alloc: Global, hand: &mut Hand, key: &[u8], room: &mut [u8]) -> i32
+/// As `mst_get` of `mst_exports` says.
+pub fn get(alloc: Global, hand: &mut Hand, key: &[u8], room: &mut [u8]) -> i32
     ensures told { GetTold hand.old.held key.now room.old result room.new hand.new.held }
 {
     let Some(mut taken) = take(alloc, hand) else {
@@ -115,13 +116,8 @@ pub(crate) fn get(alloc: Global, hand: &mut Hand, key: &[u8], room: &mut [u8]) -
     code
 }
 
-pub(crate) fn try_put(
-    alloc: Global,
-    hand: &mut Hand,
-    key: &[u8],
-    value: &[u8],
-    room: &mut [u8],
-) -> i32
+/// As `mst_try_put` of `mst_exports` says.
+pub fn try_put(alloc: Global, hand: &mut Hand, key: &[u8], value: &[u8], room: &mut [u8]) -> i32
     ensures told { PutTold hand.old.held key.now value.now room.old result room.new hand.new.held }
 {
     let Some(mut taken) = take(alloc, hand) else {
@@ -143,7 +139,8 @@ pub(crate) fn try_put(
     }
 }
 
-pub(crate) fn root(alloc: Global, hand: &mut Hand, room: &mut [u8]) -> i32
+/// As `mst_root` of `mst_exports` says.
+pub fn root(alloc: Global, hand: &mut Hand, room: &mut [u8]) -> i32
     ensures told { RootTold hand.old.held room.old result room.new hand.new.held }
 {
     let Some(mut taken) = take(alloc, hand) else {
@@ -159,13 +156,8 @@ pub(crate) fn root(alloc: Global, hand: &mut Hand, room: &mut [u8]) -> i32
     32
 }
 
-pub(crate) fn prove(
-    alloc: Global,
-    hand: &mut Hand,
-    key: &[u8],
-    room: &mut [u8],
-    size: &mut usize,
-) -> i32
+/// As `mst_prove` of `mst_exports` says.
+pub fn prove(alloc: Global, hand: &mut Hand, key: &[u8], room: &mut [u8], size: &mut usize) -> i32
     ensures told { ProveTold hand.old.held key.now room.old size.old result room.new
         size.new hand.new.held }
 {
@@ -184,7 +176,8 @@ pub(crate) fn prove(
     }
 }
 
-pub(crate) fn pin(alloc: Global, hand: &mut Hand) -> i32
+/// As `mst_pin` of `mst_exports` says.
+pub fn pin(alloc: Global, hand: &mut Hand) -> i32
     ensures told { PinTold hand.old.held result hand.new.held }
 {
     let Some(mut taken) = take(alloc, hand) else {
@@ -195,7 +188,8 @@ pub(crate) fn pin(alloc: Global, hand: &mut Hand) -> i32
     done(pinned)
 }
 
-pub(crate) fn unpin(alloc: Global, hand: &mut Hand) -> i32
+/// As `mst_unpin` of `mst_exports` says.
+pub fn unpin(alloc: Global, hand: &mut Hand) -> i32
     ensures told { UnpinTold hand.old.held result hand.new.held }
 {
     let Some(mut taken) = take(alloc, hand) else {
@@ -206,7 +200,8 @@ pub(crate) fn unpin(alloc: Global, hand: &mut Hand) -> i32
     done(unpinned)
 }
 
-pub(crate) fn close(alloc: Global, hand: &mut Hand) -> i32
+/// As `mst_close` of `mst_exports` says.
+pub fn close(alloc: Global, hand: &mut Hand) -> i32
     ensures told { CloseTold hand.old.held result hand.new.held }
     ensures empty { hand.new.held ≡ None }
 {
@@ -218,7 +213,8 @@ pub(crate) fn close(alloc: Global, hand: &mut Hand) -> i32
     0
 }
 
-pub(crate) fn try_remove(alloc: Global, hand: &mut Hand, key: &[u8], room: &mut [u8]) -> i32
+/// As `mst_try_remove` of `mst_exports` says.
+pub fn try_remove(alloc: Global, hand: &mut Hand, key: &[u8], room: &mut [u8]) -> i32
     ensures told { RemoveTold hand.old.held key.now room.old result room.new hand.new.held }
 {
     let Some(mut taken) = take(alloc, hand) else {
@@ -236,7 +232,8 @@ pub(crate) fn try_remove(alloc: Global, hand: &mut Hand, key: &[u8], room: &mut 
     }
 }
 
-pub(crate) fn version(alloc: Global, hand: &mut Hand, number: &mut u64) -> i32
+/// As `mst_version` of `mst_exports` says.
+pub fn version(alloc: Global, hand: &mut Hand, number: &mut u64) -> i32
     ensures told { VersionTold hand.old.held number.old result number.new hand.new.held }
 {
     let Some(mut taken) = take(alloc, hand) else {
@@ -247,7 +244,8 @@ pub(crate) fn version(alloc: Global, hand: &mut Hand, number: &mut u64) -> i32
     0
 }
 
-pub(crate) fn rows(alloc: Global, hand: &mut Hand, count: &mut u32) -> i32
+/// As `mst_rows` of `mst_exports` says.
+pub fn rows(alloc: Global, hand: &mut Hand, count: &mut u32) -> i32
     ensures told { RowsTold hand.old.held count.old result count.new hand.new.held }
 {
     let Some(mut taken) = take(alloc, hand) else {
@@ -298,7 +296,8 @@ pub(crate) fn tell_pair(
     value.len() as i32
 }
 
-pub(crate) fn next(
+/// As `mst_next` of `mst_exports` says.
+pub fn next(
     alloc: Global,
     hand: &mut Hand,
     key: &[u8],

@@ -28,3 +28,7 @@ returns-in-Ok-found c =
             (λ yes. (Some proof, t, after, proves, code, room, size)),
           );
     }
+
+-- memory was refused
+pub returns-in-Err : goal.returns-in-Err
+returns-in-Err c = search rules

@@ -11,8 +11,8 @@ ghost use Rattle.mst_c.specs.ShardedReading.{NextTold, RangeTold, VersionTold, F
 ghost use Rattle.mst_c.specs.ShardedSplits.{PacksSplits};
 ghost use Rattle.mst_c.specs.ShardedTold.{GetTold, PutTold, RemoveTold, ShardsTold, SnapshotTold, ReleaseTold, CloseTold};
 
-use crate::sharded_hand::{PaddedShardedHand, ShardedHand};
-use crate::{
+use mst_c::sharded_hand::{PaddedShardedHand, ShardedHand};
+use mst_c::{
     sharded_batches, sharded_migrating, sharded_opening, sharded_proving, sharded_reading,
     sharded_telling,
 };
