@@ -22,5 +22,6 @@ pub mod Spans
 pub mod Spreading
 pub mod Steps
 pub mod Strays
+pub mod Turned
 pub mod Unions
 pub mod Whole

@@ -1,6 +1,6 @@
 -- Handles and snapshots beside a share of their map: their passes stay those of its stores.
-use Rattle.std.proofs.Common.{◌≡◌, ℕ, zero, suc, ◌+◌, ◌<◌, ◌≤◌, List, [], ◌∷◌, ◌++◌, inl, inr, Option, Some, None, slice_get, Result, Ok, Err, IfOk, IfErr, OnOk, length, map, reverse, set, get_or, refl, sym, ap, ◌∙◌, subst, arith, length-append, length-set, append_assoc}
-use Rattle.std.specs.List.{swap_remove, SwappedAt, slice_set}
+use Rattle.std.proofs.Common.{◌≡◌, ℕ, zero, suc, ◌+◌, ◌<◌, ◌≤◌, List, [], ◌∷◌, ◌++◌, inl, inr, Option, Some, None, slice_get, Result, Ok, Err, IfOk, IfErr, OnOk, length, map, reverse, set, get_or, refl, sym, ap, ◌∙◌, subst, arith, length-append, append_assoc}
+use Rattle.std.specs.List.{swap_remove, SwappedAt}
 use Rattle.std.specs.Prelude.{slice_index_or}
 use Rattle.std.proofs.lemmas.List.{length-map, get_or-map, map-set, set-get_or}
 use Rattle.std.proofs.lemmas.Bool.{cases_order}
@@ -16,16 +16,16 @@ use Rattle.mst_sharded.specs.declared.faults.StoppedMigration.{StoppedMigration}
 use Rattle.mst_sharded.specs.declared.faults.SpreadFault.{SpreadFault}
 use Rattle.mst_sharded.specs.declared.faults.SpreadFault.TheVariants as spread
 use Rattle.mst_sharded.specs.Applying.{edits_at, AppliesPart, Migrates, StepsFrom, StopsAt, AppliesAll, RefusesEdits}
-use Rattle.mst_key.specs.History.{had}
+use Rattle.mst_key.specs.History.{had, after}
 use Rattle.mst_store.specs.Passes.{StoreId, Known, HasShape, Wrote, Refuses, made_by, new_pass}
 use Rattle.mst_store.specs.declared.faults.WriteFault.{WriteFault}
 use Rattle.mst_store.specs.declared.faults.WriteFault.TheVariants.{Busy, VersionsSpent, NoRoom}
 use Rattle.mst_sharded.specs.Listing.{Listing, HasListed}
 use Rattle.std.specs.List.{AllByRecursion}
 use Rattle.mst_key.specs.declared.format.Format.{Format}
-use Rattle.mst_sharded.specs.Opening.{Shards, Dealt, dealt, dealt_from, directory_shape}
-use Rattle.mst_sharded.specs.Shared.{AreOf, IsRowOf, AreRowsOf, handles_in}
-use Rattle.mst_key.specs.Map.{Pair}
+use Rattle.mst_sharded.specs.Opening.{Shards, Dealt, dealt_from, directory_shape}
+use Rattle.mst_sharded.specs.Shared.{AreOf, IsRowOf, AreRowsOf}
+use Rattle.mst_key.specs.Map.{Pair, IsMap}
 use Rattle.mst_sharded_proof.specs.Shards.{least, shards_from, directory}
 use Rattle.mst_sharded.proofs.Dealing.{all_whole, length-shards}
 use Rattle.mst_sharded.specs.Sharding.{IsSplits, Sharding, place, sharding, IsSharding, Routes, AllStep, PinsNow, SeesMore}
@@ -310,6 +310,33 @@ renamed P splits others ps lifted qs zs old are same again was has =
     (subst (λ (x : List Known). P (sharding splits ps) (sharding splits x)) (sym again)
     (subst (λ (x : List Known). P (sharding splits x) (sharding splits qs)) same
     (subst (λ (s : List (List ℕ)). P (sharding s lifted) (sharding s qs)) are has)))
+
+-- what was found of the same map by other names
+pub found_as : (P : Sharding → Type 0) (splits others : List (List ℕ)) (ps lifted : List Known)
+    (h : Sharding) → others ≡ splits → lifted ≡ ps → sharding splits ps ≡ h
+    → P (sharding others lifted) → P h
+found_as P splits others ps lifted h are same was has =
+    subst P was
+    (subst (λ (x : List Known). P (sharding splits x)) same
+    (subst (λ (s : List (List ℕ)). P (sharding s lifted)) are has))
+
+-- what a call on pins that are lent asks of them, by other names
+pub record Lent (splits : List (List ℕ)) (l : Listing) (ps : List Known) : Type 0 where
+  pub count : length ps ≡ length splits + 1
+  pub maps : AllByRecursion (λ (p : Known). IsMap (after p.seen)) ps
+  pub few : AllByRecursion (λ (p : Known). length (after p.seen) ≤ 65535) ps
+  pub listed : HasListed splits l ps
+
+pub lent : (splits others : List (List ℕ)) (l lifted : Listing) (ps qs : List Known)
+    → others ≡ splits → lifted ≡ l → qs ≡ ps → length ps ≡ length splits + 1
+    → AllByRecursion (λ (p : Known). IsMap (after p.seen)) ps
+    → AllByRecursion (λ (p : Known). length (after p.seen) ≤ 65535) ps → HasListed splits l ps
+    → Lent others lifted qs
+lent splits others l lifted ps qs are same seen count maps few listed =
+    subst (λ (s : List (List ℕ)). Lent s lifted qs) (sym are)
+    (subst (λ (x : Listing). Lent splits x qs) (sym same)
+    (subst (λ (x : List Known). Lent splits l x) (sym seen)
+    (record { count = count; maps = maps; few = few; listed = listed })))
 
 -- what holds anyway
 pub on_ok_weaker_from : {T E P : Type 0} (r : Result T E) → P → OnOk r P

@@ -1,5 +1,5 @@
 //! The dealing of the handles of a sharded map.
-ghost use Rattle.std.specs.Prelude.{◌≡◌, ◌<◌, ◌≤◌, ◌+◌, ◌++◌, ◌∷◌, ℕ, [], List, map, length, get_or, slice_index_or, vec_len, vec_capacity, IfOk, OnOk};
+ghost use Rattle.std.specs.Prelude.{◌≡◌, ◌<◌, ◌≤◌, ◌+◌, ◌++◌, ◌∷◌, ℕ, [], List, None, map, length, get_or, slice_index_or, vec_len, vec_capacity, IfOk, OnOk};
 ghost use Rattle.std.specs.List.{AllByRecursion};
 ghost use Rattle.mst_store.specs.Passes.{Known, new_passes};
 ghost use Rattle.mst_sharded.specs.Sharding.{sharding, IsSplits};
@@ -12,6 +12,14 @@ use mst_key::{Key, Memory};
 use mst_store::{Pass, Pinned, Seats, Store};
 use std::alloc::Allocator;
 use std::marker::Model;
+
+// Adds one more shard, of which no version is listed.
+fn list_none<B: Allocator>(listed: &mut Vec<Option<u64>, B>) -> Result<(), Memory>
+    ensures added { OnOk result (listed.new.items ≡ listed.old.items ++ None ∷ []) }
+{
+    listed.push(None)?;
+    Ok(())
+}
 
 // What is dealt to one handle.
 #[derive(Drop)]
@@ -52,8 +60,7 @@ impl<'a, A: Allocator + Copy, B: Allocator> Row<'a, A, B> {
         ensures pushed { OnOk result (self.new ≡ dealt_more self.old pass.entry) }
     {
         self.passes.push(pass)?;
-        self.directory.listed.push(None)?;
-        Ok(())
+        list_none(&mut self.directory.listed)
     }
 }
 

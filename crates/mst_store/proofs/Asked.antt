@@ -7,7 +7,7 @@ use Rattle.std.proofs.lemmas.Bool.Decides.{nat_tests}
 use Rattle.mst_arena.specs.Lives.{State, version}
 use Rattle.mst_arena.proofs.ListLemmas.{times-append}
 use Rattle.mst_arena.specs.Lists.{In}
-use Rattle.mst_path.proofs.lemmas.rows.Moving.{in_either, one_row}
+use Rattle.mst_arena.proofs.ListLemmas.{in_either, one_row}
 use Rattle.mst_words.specs.Steps.{Drained, Blocked}
 use Rattle.mst_words.specs.Stored.{stored}
 use Rattle.mst_store.specs.Turns.{Seat, StoodAtAsk}

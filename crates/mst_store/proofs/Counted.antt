@@ -7,7 +7,7 @@ use Rattle.mst_key.specs.declared.format.Format.{Format}
 use Rattle.mst_key.specs.History.{after, format_after, events_of, IsPrefix}
 use Rattle.mst_arena.specs.Lives.{free_count}
 use Rattle.mst_arena.specs.Lists.{In}
-use Rattle.mst_path.proofs.lemmas.rows.Moving.{in_either, one_row}
+use Rattle.mst_arena.proofs.ListLemmas.{in_either, one_row}
 use Rattle.mst_pin.specs.WordParts.{masks}
 use Rattle.mst_words.specs.declared.view.View.{View}
 use Rattle.mst_words.specs.Notes.{IsOfPasses}

@@ -13,7 +13,8 @@ use Rattle.mst_arena.specs.Lives.{State, version, reaches, free_count, last_vers
 use Rattle.mst_arena.specs.Standing.{Stands, numbers, tree_of}
 use Rattle.mst_arena.specs.declared.row.Root.{Root}
 use Rattle.mst_arena.specs.Lists.{In}
-use Rattle.mst_path.specs.Ages.{placed_nodes, IsAged, HasAges}
+use Rattle.mst_arena.specs.Ages.{placed_nodes, HasAges}
+use Rattle.mst_path.specs.Ages.{IsAged}
 use Rattle.std.specs.List.{AllByRecursion}
 use Rattle.mst_path.specs.Changing.{MapStands, OnlyFreeWritten}
 use Rattle.mst_path.specs.Made.{IsMade}

@@ -10,7 +10,8 @@ use Rattle.mst_arena.specs.Lives.{reaches, reached_at}
 use Rattle.mst_arena.specs.Standing.{tree_of}
 use Rattle.mst_arena.specs.declared.life.Life.{Life}
 use Rattle.mst_arena.specs.Lists.{In}
-use Rattle.mst_path.specs.Ages.{HasAges, HasPlace}
+use Rattle.mst_arena.specs.Ages.{HasAges}
+use Rattle.mst_path.specs.Ages.{HasPlace}
 use Rattle.mst_words.specs.declared.view.DeskState.{DeskState}
 use Rattle.mst_words.specs.Records.{Standing}
 use Rattle.mst_words.specs.Stored.{stored, version_of}

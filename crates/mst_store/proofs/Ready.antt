@@ -10,7 +10,7 @@ use Rattle.mst_key.specs.History.{History, after, format_after}
 use Rattle.mst_key.proofs.HistoryLaws.{IsPrefix-itself}
 use Rattle.mst_arena.specs.Lives.{State, version, next, reaches, reached_at}
 use Rattle.mst_arena.specs.Standing.{Stands, numbers}
-use Rattle.mst_path.specs.Ages.{HasAges}
+use Rattle.mst_arena.specs.Ages.{HasAges}
 use Rattle.mst_arena.specs.declared.life.Life.{Life}
 use Rattle.mst_arena.specs.declared.row.Root.{Root}
 use Rattle.mst_arena.specs.Lists.{In}

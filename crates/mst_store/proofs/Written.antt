@@ -14,7 +14,7 @@ use Rattle.mst_arena.specs.declared.life.Life.TheVariants.{Free, Born, Dead}
 use Rattle.mst_arena.specs.declared.row.Root.{Root}
 use Rattle.mst_arena.specs.Lists.{In}
 use Rattle.mst_path.specs.Versions.{HasMap}
-use Rattle.mst_path.proofs.lemmas.rows.Moving.{one_row}
+use Rattle.mst_arena.proofs.ListLemmas.{one_row}
 use Rattle.mst_path.proofs.lemmas.rows.Taking.{frees, frees_is}
 use Rattle.mst_path.proofs.lemmas.versions.Versions.{room_alone, rows_of_map}
 use Rattle.mst_words.specs.declared.view.View.{View}

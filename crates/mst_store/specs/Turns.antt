@@ -12,7 +12,7 @@ use Rattle.mst_arena.specs.declared.life.Life.{Life}
 use Rattle.mst_arena.specs.declared.life.Life.TheVariants.{Free}
 use Rattle.mst_arena.specs.declared.row.Root.{Root}
 use Rattle.mst_arena.specs.Lists.{In}
-use Rattle.mst_path.specs.Ages.{HasAges}
+use Rattle.mst_arena.specs.Ages.{HasAges}
 use Rattle.mst_path.specs.Takes.{FreeIsBlank}
 use Rattle.mst_path.specs.Reached.{ReachesExactly, TogetherReach, advanced}
 use Rattle.mst_words.specs.declared.view.View.{View}

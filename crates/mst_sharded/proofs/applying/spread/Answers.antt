@@ -1,4 +1,8 @@
-use Rattle.std.proofs.Common.{◌∙◌, vec_items}
+use Rattle.std.proofs.Common.{◌∙◌, ℕ, List, length, vec_items, ap}
+use Rattle.std.proofs.lemmas.List.{length-map}
+use Rattle.mst_key.specs.History.{key_of}
+use Rattle.mst_key.specs.declared.history.Edit.{Edit}
+use Rattle.mst_sharded.specs.Sharding.{place}
 use Rattle.mst_sharded.proofs.Listed.{all_see_again}
 use Rattle.mst_sharded.proofs.Applied.{applies_all, stops_applying}
 use Rattle.mst_sharded.proofs.applying.spread.Goals as goal
@@ -19,3 +23,8 @@ returns-clause-err g c =
     c.in-Err-apply_parts.shard c.in-Err-apply_parts.fault
     (c.as_slice.ensures.value ∙ c.in-Ok.ensures.places) c.in-Err-apply_parts.ensures.there
     c.in-Err-apply_parts.ensures.some c.in-Err-apply_parts.ensures.err
+
+pub apply_parts-requires-clause-count : goal.apply_parts-requires-clause-count
+apply_parts-requires-clause-count g c =
+    ap (λ (l : List ℕ). length l) (c.as_slice.ensures.value ∙ c.in-Ok.ensures.places)
+    ∙ length-map c.args.edits.now (λ (e : Edit). place c.args.splits.now (key_of e))

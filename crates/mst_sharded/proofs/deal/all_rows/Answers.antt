@@ -1,4 +1,4 @@
-use Rattle.std.proofs.Common.{◌≡◌, ◌∷◌, ◌++◌, [], List, length, vec_items, rules, arith, sym, ap, ◌∙◌, length-append}
+use Rattle.std.proofs.Common.{◌≡◌, ◌∷◌, ◌++◌, [], List, length, vec_items, rules, arith, refl, sym, ap, ◌∙◌, length-append}
 use Rattle.std.specs.Vec.Iter.{into_iter_items, into_iter_len}
 use Rattle.mst_store.specs.Passes.{StoreId}
 use Rattle.mst_sharded.specs.Opening.{Dealt, dealt_from}
@@ -10,10 +10,20 @@ pub deal_at-requires-clause-own : goal.deal_at-requires-clause-own
 deal_at-requires-clause-own g c =
     let was = c.loop-its_seats.invariant in
     let rest : into_iter_items c.loop-its_seats.its_seats-iterator
-    ≡ c.in-Some.its_seats ∷ into_iter_items c.next.new.self = search rules in
+    ≡ c.in-Some.its_seats ∷ into_iter_items c.next.new.self =
+    c.in-Some.ensures.steps.0 in
     own_next (vec_items c.args.seats) c.args.stores.now was.1.0
     (into_iter_items c.loop-its_seats.its_seats-iterator) (into_iter_items c.next.new.self)
     c.in-Some.its_seats c.loop-its_seats.place c.requires.own was.1.1 rest was.1.2
+
+pub loop-its_seats-init : goal.loop-its_seats-init
+loop-its_seats-init g c =
+    let gives = c.into_iter-its_seats-iterator.ensures.into_iter_gives in
+    let count = gives.1 ∙ c.args.seats.ok.0
+    ∙ ap (λ (l : List StoreId). length l) c.requires.own in (
+      omega (arith, count),
+      ([], sym gives.0, refl, c.in_ok-rows.ensures.rows),
+    )
 
 pub loop-its_seats-preserved : goal.loop-its_seats-preserved
 loop-its_seats-preserved g c =
@@ -21,15 +31,18 @@ loop-its_seats-preserved g c =
     let front : List StoreId = was.1.0 in
     let x : StoreId = c.in-Some.its_seats in
     let rest : into_iter_items c.loop-its_seats.its_seats-iterator
-    ≡ c.in-Some.its_seats ∷ into_iter_items c.next.new.self = search rules in
+    ≡ c.in-Some.its_seats ∷ into_iter_items c.next.new.self =
+    c.in-Some.ensures.steps.0 in
     let long = length-append front (x ∷ []) in
     let is_long : length front ≡ c.loop-its_seats.place = was.1.2 in
     let count : x.passes ≡ length c.args.directories.now =
     holds_own (λ (s : StoreId). s.passes ≡ length c.args.directories.now)
     (vec_items c.args.seats) c.args.stores.now
     front (into_iter_items c.loop-its_seats.its_seats-iterator)
-    (into_iter_items c.next.new.self) x c.requires.own was.1.1 rest c.requires.passes in (
-      search rules,
+    (into_iter_items c.next.new.self) x c.requires.own was.1.1 rest c.requires.passes in
+    let step = c.in-Some.ensures.steps.1 in
+    let left = was.0 in (
+      omega (arith, step, left),
       (
         front ++ x ∷ [],
         goes_on (vec_items c.args.seats) front
@@ -49,7 +62,8 @@ hand_out-requires g c =
     let front : List StoreId = was.1.0 in
     let x : StoreId = c.in-Some.its_seats in
     let rest : into_iter_items c.loop-its_seats.its_seats-iterator
-    ≡ c.in-Some.its_seats ∷ into_iter_items c.next.new.self = search rules in
+    ≡ c.in-Some.its_seats ∷ into_iter_items c.next.new.self =
+    c.in-Some.ensures.steps.0 in
     let count : x.passes ≡ length c.args.directories.now =
     holds_own (λ (s : StoreId). s.passes ≡ length c.args.directories.now)
     (vec_items c.args.seats) c.args.stores.now

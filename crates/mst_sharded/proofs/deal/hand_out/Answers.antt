@@ -17,9 +17,12 @@ loop-pass-preserved g c =
     let grown : Dealt = c.push.new.self in
     let low : c.loop-pass.place < length (vec_items c.loop-pass.rows) = search rules in
     let rest : into_iter_items c.loop-pass.pass-iterator
-    ≡ c.in-Some.pass ∷ into_iter_items c.next.new.self = search rules in
+    ≡ c.in-Some.pass ∷ into_iter_items c.next.new.self =
+    c.in-Some.ensures.steps.0 in
     let pushed : c.push.new.self ≡ dealt_more c.index_mut.result.now c.in-Some.pass =
-    search rules in
+    c.in_ok-push.ensures.pushed in
+    let step = c.in-Some.ensures.steps.1 in
+    let left = was.0 in
     let front : List Known = was.2.0 in
     let long = length-append front (p ∷ []) in
     let is_long : length front ≡ n = was.2.2 in
@@ -27,7 +30,7 @@ loop-pass-preserved g c =
     (λ d. was.4 n d (omega arith))
     (λ e. next_at all front (into_iter_items c.next.new.self) p n e
     (was.2.1 ∙ ap (λ (l : List Known). front ++ l) rest) is_long) pushed in (
-      search rules,
+      omega (arith, step, left),
       length-set rows n grown ∙ was.1,
       (
         front ++ p ∷ [],

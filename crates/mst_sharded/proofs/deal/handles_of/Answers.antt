@@ -1,4 +1,4 @@
-use Rattle.std.proofs.Common.{◌≡◌, ◌+◌, ◌∷◌, ◌++◌, [], List, map, vec_items, vec_len, rules, arith, refl, sym, ap, ◌∙◌, length-append}
+use Rattle.std.proofs.Common.{◌≡◌, ◌+◌, ◌∷◌, ◌++◌, [], List, map, vec_items, rules, arith, refl, sym, ap, ◌∙◌, length-append}
 use Rattle.std.specs.Vec.Iter.{into_iter_items, into_iter_len}
 use Rattle.std.proofs.lemmas.List.{map-append}
 use Rattle.mst_sharded.specs.Sharding.{Sharding}
@@ -11,20 +11,20 @@ pub handle_of-requires-clause-whole : goal.handle_of-requires-clause-whole
 handle_of-requires-clause-whole g c =
     let was = c.loop-row.invariant in
     let rest : into_iter_items c.loop-row.row-iterator
-    ≡ c.in-Some.row ∷ into_iter_items c.next.new.self = search rules in
+    ≡ c.in-Some.row ∷ into_iter_items c.next.new.self =
+    c.in-Some.ensures.steps.0 in
     holds_own (IsWhole c.args.splits.now) (vec_items c.args.rows) (vec_items c.args.rows) was.0
     (into_iter_items c.loop-row.row-iterator) (into_iter_items c.next.new.self) c.in-Some.row refl
     was.1 rest c.requires.whole
 
 pub loop-row-init : goal.loop-row-init
 loop-row-init g c =
-    let gives : into_iter_len c.into_iter-row-iterator.result ≡ vec_len c.args.rows =
-    search rules in
-    let long = c.args.rows.ok.0 in (
+    let gives = c.into_iter-row-iterator.ensures.into_iter_gives in
+    let count = gives.1 ∙ c.args.rows.ok.0 in (
       [],
-      search rules,
-      omega (arith, gives, long),
-      search rules,
+      sym gives.0,
+      omega (arith, count),
+      c.new-handles.ensures.items,
     )
 
 pub loop-row-preserved : goal.loop-row-preserved
@@ -33,11 +33,13 @@ loop-row-preserved g c =
     let front : List Dealt = was.0 in
     let row : Dealt = c.in-Some.row in
     let rest : into_iter_items c.loop-row.row-iterator
-    ≡ c.in-Some.row ∷ into_iter_items c.next.new.self = search rules in
+    ≡ c.in-Some.row ∷ into_iter_items c.next.new.self =
+    c.in-Some.ensures.steps.0 in
     let pushed : vec_items c.push.new.self
-    ≡ vec_items c.loop-row.handles ++ c.in_ok-handle.handle ∷ [] = search rules in
+    ≡ vec_items c.loop-row.handles ++ c.in_ok-handle.handle ∷ [] =
+    c.in_ok-push.ensures.items in
     let step : into_iter_len c.next.new.self + 1 ≡ into_iter_len c.loop-row.row-iterator =
-    search rules in
+    c.in-Some.ensures.steps.1 in
     let long = length-append front (row ∷ []) in
     let count = was.2 in (
       front ++ row ∷ [],

@@ -1,4 +1,4 @@
-use Rattle.std.proofs.Common.{◌≡◌, ◌∷◌, ◌++◌, [], ◌∙◌, ℕ, List, length, drop, vec_items, vec_len, sym, ap, subst}
+use Rattle.std.proofs.Common.{◌∷◌, ◌++◌, [], ◌∙◌, ℕ, List, length, drop, vec_items, vec_len, sym, ap, subst}
 use Rattle.std.specs.List.{SwappedAt}
 use Rattle.mst_store.specs.Passes.{Known}
 use Rattle.mst_sharded.proofs.Moved.{written_whole}

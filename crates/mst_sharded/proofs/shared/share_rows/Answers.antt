@@ -1,4 +1,4 @@
-use Rattle.std.proofs.Common.{◌≡◌, ◌+◌, ◌∷◌, ◌++◌, [], ℕ, List, vec_items, vec_len, rules, arith, sym, ap, ◌∙◌, length-append}
+use Rattle.std.proofs.Common.{◌≡◌, ◌+◌, ◌∷◌, ◌++◌, [], ℕ, List, vec_items, rules, arith, refl, sym, ap, ◌∙◌, length-append}
 use Rattle.std.specs.Arc.{arc_value}
 use Rattle.std.specs.Vec.Iter.{into_iter_items, into_iter_len}
 use Rattle.std.proofs.lemmas.List.{map-append}
@@ -14,21 +14,21 @@ pub share_row-requires-clause-own : goal.share_row-requires-clause-own
 share_row-requires-clause-own g c =
     let was = c.loop-row.invariant in
     let rest : into_iter_items c.loop-row.row-iterator
-    ≡ c.in-Some.row ∷ into_iter_items c.next.new.self = search rules in
+    ≡ c.in-Some.row ∷ into_iter_items c.next.new.self =
+    c.in-Some.ensures.steps.0 in
     row_own (arc_value c.args.map.now) (vec_items c.args.rows) was.0
     (into_iter_items c.loop-row.row-iterator) (into_iter_items c.next.new.self)
     c.in-Some.row c.loop-row.number c.requires.own was.1 rest was.4
 
 pub loop-row-init : goal.loop-row-init
 loop-row-init g c =
-    let gives : into_iter_len c.into_iter-row-iterator.result ≡ vec_len c.args.rows =
-    search rules in
-    let long = c.args.rows.ok.0 in (
+    let gives = c.into_iter-row-iterator.ensures.into_iter_gives in
+    let count = gives.1 ∙ c.args.rows.ok.0 in (
       [],
-      search rules,
-      omega (arith, gives, long),
-      search rules,
-      search rules,
+      sym gives.0,
+      omega (arith, count),
+      c.new-handles.ensures.items,
+      refl,
     )
 
 pub loop-row-preserved : goal.loop-row-preserved
@@ -38,11 +38,13 @@ loop-row-preserved g c =
     let row : Dealt = c.in-Some.row in
     let splits : List (List ℕ) = (arc_value c.args.map.now).splits in
     let rest : into_iter_items c.loop-row.row-iterator
-    ≡ c.in-Some.row ∷ into_iter_items c.next.new.self = search rules in
+    ≡ c.in-Some.row ∷ into_iter_items c.next.new.self =
+    c.in-Some.ensures.steps.0 in
     let pushed : vec_items c.push.new.self
-    ≡ vec_items c.loop-row.handles ++ c.in_ok-handle.handle ∷ [] = search rules in
+    ≡ vec_items c.loop-row.handles ++ c.in_ok-handle.handle ∷ [] =
+    c.in_ok-push.ensures.items in
     let step : into_iter_len c.next.new.self + 1 ≡ into_iter_len c.loop-row.row-iterator =
-    search rules in
+    c.in-Some.ensures.steps.1 in
     let long = length-append front (row ∷ []) in
     let count = was.2 in
     let at = was.4 in (

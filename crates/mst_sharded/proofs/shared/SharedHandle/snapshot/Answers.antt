@@ -1,4 +1,4 @@
-use Rattle.std.proofs.Common.{◌≡◌, ◌∙◌, List, vec_items, rules, subst}
+use Rattle.std.proofs.Common.{◌∙◌, List, vec_items}
 use Rattle.std.specs.Arc.{arc_value}
 use Rattle.mst_store.specs.Passes.{Known}
 use Rattle.mst_sharded.specs.Sharding.{PinsNow}

@@ -1,8 +1,8 @@
-use Rattle.std.proofs.Common.{◌≡◌, ◌≤◌, ◌∙◌, ℕ, List, length, vec_items, vec_len, rules, arith, refl, sym, ap, subst}
+use Rattle.std.proofs.Common.{◌≡◌, ◌∙◌, ℕ, List, vec_items, rules, arith, refl, sym, subst}
 use Rattle.std.specs.Arc.{arc_value}
 use Rattle.std.specs.Prelude.{OnOk}
 use Rattle.mst_store.specs.Passes.{Known}
-use Rattle.mst_sharded.specs.Sharding.{Sharding, sharding, AllStep, SeesMore}
+use Rattle.mst_sharded.specs.Sharding.{sharding, AllStep, SeesMore}
 use Rattle.mst_sharded.specs.Applying.{MigratesAll}
 use Rattle.mst_sharded.specs.Shared.{AreOf}
 use Rattle.mst_sharded.proofs.Applied.{migrates_all}

@@ -7,12 +7,13 @@ use Rattle.mst_key.specs.Map.{IsMap}
 use Rattle.mst_store.specs.Passes.{Known}
 use Rattle.mst_sharded.specs.Listing.{Listing, HasListed}
 use Rattle.mst_sharded.specs.Shared.{AreOf}
-use Rattle.mst_sharded.specs.Sharding.{sharding, IsSharding}
+use Rattle.mst_sharded.specs.Sharding.{Sharding, sharding, IsSharding}
 use Rattle.mst_sharded.proofs.Moved.{given_back}
 use Rattle.std.proofs.lemmas.Result.{IfOk-weaker}
 use Rattle.mst_sharded_proof.specs.Shards.{directory}
-use Rattle.mst_sharded.specs.Directory.{OfClean}
-use Rattle.mst_sharded.proofs.Shares.{few_listed}
+use Rattle.mst_sharded.specs.Directory.{LacksDirectory, OfClean}
+use Rattle.mst_sharded.proofs.Shares.{few_listed, found_as, lent}
+use Rattle.std.specs.Prelude.{IfOk, IfErr}
 use Rattle.mst_sharded.proofs.shared.SharedSnapshot.directory.Goals as goal
 
 pub returns-clause-few : goal.returns-clause-few
@@ -70,3 +71,36 @@ returns-clause-same g c =
     ∙ given_back (vec_len c.lift_pins-pins.result.0) c.pairs_in-told.new.pinned
     (vec_items c.lift_pins-pins.result.0) ps count (c.pairs_in-told.ensures.same ∙ seen) in
     ap (λ (x : List Known). sharding splits x) now ∙ c.self.view_is
+
+pub pairs_in-told-requires : goal.pairs_in-told-requires
+pairs_in-told-requires g c =
+    let was = c.self.invariant in
+    let splits : List (List ℕ) = (arc_value c.self.inside.map).splits in
+    let ps : List Known = vec_items c.self.inside.pinned in
+    let seen : c.as_mut_slice.result.now ≡ ps = search rules in
+    let are : c.split_keys.result.now ≡ splits = search rules in
+    let has = lent splits c.split_keys.result.now c.self.inside.directory c.lift-list.result ps
+    c.as_mut_slice.result.now are c.lift-list.ensures.same seen was.0.count was.1 was.2 was.3 in
+    record { splits = c.split_keys.ensures.is; count = has.count; listed = has.listed }
+
+pub returns-clause-ok : goal.returns-clause-ok
+returns-clause-ok g c =
+    let splits : List (List ℕ) = (arc_value c.self.inside.map).splits in
+    let ps : List Known = vec_items c.self.inside.pinned in
+    let seen : c.as_mut_slice.result.now ≡ ps = search rules in
+    let are : c.split_keys.result.now ≡ splits = search rules in
+    found_as
+    (λ (h : Sharding). IfOk c.pairs_in-told.result (λ pairs. OfClean
+    (λ format m. pairs.items ≡ directory format m h.splits) h))
+    splits c.split_keys.result.now ps c.as_mut_slice.result.now c.args.self are seen
+    c.self.view_is c.pairs_in-told.ensures.ok
+
+pub returns-clause-err : goal.returns-clause-err
+returns-clause-err g c =
+    let splits : List (List ℕ) = (arc_value c.self.inside.map).splits in
+    let ps : List Known = vec_items c.self.inside.pinned in
+    let seen : c.as_mut_slice.result.now ≡ ps = search rules in
+    let are : c.split_keys.result.now ≡ splits = search rules in
+    found_as (λ (h : Sharding). IfErr c.pairs_in-told.result (λ fault. LacksDirectory fault h))
+    splits c.split_keys.result.now ps c.as_mut_slice.result.now c.args.self are seen
+    c.self.view_is c.pairs_in-told.ensures.err
