@@ -1,4 +1,5 @@
 //! Batches by worked rows, against edits made one by one, and with each growth refused.
+use crate::confirming::{confirm, confirm_at};
 use linked_list_allocator::LocalHeap;
 use mst_batch::{edited_pairs, normal_edits};
 use mst_key::{Edit, Key, Memory, Value};
@@ -134,8 +135,8 @@ fn holds(rt: &impl Abort, alloc: Global, batch: &Worked) -> bool {
 
 #[test]
 fn worked_batches(rt: HostRuntime) {
-    for batch in BATCHES {
-        assert!(rt; holds(&rt, rt.alloc(), batch));
+    for (place, batch) in BATCHES.iter().enumerate() {
+        confirm_at(&rt, holds(&rt, rt.alloc(), batch), place);
     }
 }
 
@@ -226,7 +227,7 @@ fn all_hold(rt: &impl Abort, alloc: Global, map: &[(&str, &str)]) -> bool {
 #[test]
 fn all_batches_of_three_edits(rt: HostRuntime) {
     for map in MAPS {
-        assert!(rt; all_hold(&rt, rt.alloc(), map));
+        confirm_at(&rt, all_hold(&rt, rt.alloc(), map), map.len());
     }
 }
 
@@ -238,8 +239,8 @@ fn is_made(rt: &impl Abort, alloc: Global, batch: &Worked, bytes: usize) -> bool
     let after = pairs_of(rt, alloc, batch.after);
     let heap = LocalHeap::new(alloc, bytes).expect(rt, "memory");
     let found = are_after(&heap, &pairs, &edits, &after);
-    assert!(rt; heap.used() == 0, "nothing is kept");
-    assert!(rt; found != Ok(false), "made wrongly");
+    confirm(rt, heap.used() == 0, "nothing is kept");
+    confirm(rt, found != Ok(false), "made wrongly");
     found.is_ok()
 }
 
@@ -260,6 +261,6 @@ fn memory_refused(rt: HostRuntime) {
         refusals(&rt, rt.alloc(), &BATCHES[4]),
     ];
     for count in counts {
-        assert!(rt; (4..256).contains(&count), "{count}");
+        confirm_at(&rt, (4..256).contains(&count), count);
     }
 }

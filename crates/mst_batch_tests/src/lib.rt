@@ -5,6 +5,8 @@
 #[cfg(test)]
 mod batches;
 #[cfg(test)]
+mod confirming;
+#[cfg(test)]
 mod loads;
 #[cfg(test)]
 mod plans;

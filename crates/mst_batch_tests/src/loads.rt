@@ -2,6 +2,7 @@
 ghost use Rattle.std.specs.Prelude.{◌<◌, ◌≤◌, length};
 
 use crate::batches::{Spelt, edit_of, edits_of, key_of, pairs_of, value_of};
+use crate::confirming::{confirm, confirm_at};
 use linked_list_allocator::LocalHeap;
 use mst_arena::{Desk, PlainRows, Root};
 use mst_batch::{NotApplied, apply};
@@ -73,6 +74,15 @@ fn load_into<B: Allocator + Copy>(
     Ok(Loaded { root, free })
 }
 
+/// Whether a batch that takes so many rows is made where there are as many, and leaves this root
+/// digest.
+fn fits_exactly(done: &Loaded, size: u32, taken: u32, digest: &[u8; 32]) -> bool {
+    match &done.root {
+        Ok(root) => root.digest == *digest && done.free.checked_add(taken) == Some(size),
+        Err(why) => *why == NotApplied::NoRoom && size < taken && done.free == size,
+    }
+}
+
 /// Makes a batch in the empty maps of up to 15 rows: it fits exactly in those that have as many
 /// rows as it takes.
 fn check_load(
@@ -87,16 +97,8 @@ fn check_load(
     let digest = root_of_in(format, after);
     for size in 1..16u32 {
         let done = load_into(alloc, alloc, format, edits, size).expect(rt, "memory");
-        match done.root {
-            Ok(root) => {
-                assert!(rt; root.digest == digest);
-                assert!(rt; done.free.checked_add(taken) == Some(size));
-            }
-            Err(why) => {
-                assert!(rt; why == NotApplied::NoRoom);
-                assert!(rt; size < taken && done.free == size);
-            }
-        }
+        let right = fits_exactly(&done, size, taken, &digest);
+        confirm_at(rt, right, size as usize);
     }
 }
 
@@ -116,9 +118,9 @@ fn is_loaded(rt: &impl Abort, alloc: Global, edits: &[Edit], bytes: usize) -> bo
     assert!(rt; edits.len() > 1);
     let heap = LocalHeap::new(alloc, bytes).expect(rt, "memory");
     let done = load_into(alloc, &heap, Format::One, edits, 15).expect(rt, "memory");
-    assert!(rt; heap.used() == 0, "nothing is kept");
+    confirm(rt, heap.used() == 0, "nothing is kept");
     let is_made = done.root.is_ok();
-    assert!(rt; is_made || done.free == 15);
+    confirm(rt, is_made || done.free == 15, "no row is taken");
     is_made
 }
 
@@ -136,7 +138,7 @@ fn refusals(rt: &impl Abort, alloc: Global, edits: &[Edit]) -> usize {
 fn memory_refused_to_a_load(rt: HostRuntime) {
     let edits = edits_of(&rt, rt.alloc(), LOADS[1].edits);
     let count = refusals(&rt, rt.alloc(), &edits);
-    assert!(rt; (4..256).contains(&count), "{count}");
+    confirm_at(&rt, (4..256).contains(&count), count);
 }
 
 /// Makes one edit in the empty map of so many rows.
@@ -170,9 +172,9 @@ fn check_alone(rt: &impl Abort, alloc: Global, format: Format, key: &'static str
     let full = edit_alone(alloc, format, &put, 1).expect(rt, "memory");
     let made = edit_alone(alloc, format, &put, 2).expect(rt, "memory");
     let stays = edit_alone(alloc, format, &remove, 1).expect(rt, "memory");
-    assert!(rt; full == Err(NotApplied::NoRoom));
-    assert!(rt; made.expect(rt, "two rows").digest == root_of_in(format, &after));
-    assert!(rt; stays.expect(rt, "no row").digest == root_of_in(format, &[]));
+    let made = made.expect(rt, "two rows").digest == root_of_in(format, &after);
+    let stays = stays.expect(rt, "no row").digest == root_of_in(format, &[]);
+    confirm(rt, full == Err(NotApplied::NoRoom) && made && stays, key);
 }
 
 #[test]

@@ -5,6 +5,7 @@ ghost use Rattle.mst_key.specs.Layer.{layer_in};
 ghost use Rattle.mst_batch.specs.Plans.{kept, made, last, entry, with_planned, planned_entry, plan_of};
 
 use crate::batches::{key_of, value_of};
+use crate::confirming::confirm_at;
 use mst_arena::{Desk, PlainRows, Root};
 use mst_batch::{Plan, PlanEntry, PlanNode, carry_out, rows_of};
 use mst_key::{Format, Key, Memory, Value};
@@ -97,20 +98,23 @@ fn put_by_plan(
 /// Keys of several layers in each format, with values.
 const PAIRS: &[(&str, &str)] = &[("8", "x"), ("4l", ""), ("05f", "a value of some length")];
 
+/// Whether the pair's two rows are taken where there are two, and leave this root digest.
+fn fits_exactly(done: &Carried, size: u32, digest: &[u8; 32]) -> bool {
+    match &done.root {
+        Ok(root) => root.digest == *digest && done.free.checked_add(2) == Some(size),
+        Err(NoRoom) => size == 1 && done.free == 1,
+    }
+}
+
 /// Puts a pair by its plan: into one row it does not go, into two and more it does.
 fn check_pair(rt: &impl Abort, alloc: Global, format: Format, spelt: (&str, &str)) {
     let (key, value) = (key_of(rt, spelt.0), value_of(rt, spelt.1));
     let pairs = [(key.copy(), value.copy())];
+    let digest = root_of_in(format, &pairs);
     for size in 1..5u32 {
         let done = put_by_plan(alloc, format, &key, &value, size).expect(rt, "memory");
-        assert!(rt; done.count == 2);
-        match done.root {
-            Ok(root) => {
-                assert!(rt; root.digest == root_of_in(format, &pairs));
-                assert!(rt; done.free.checked_add(2) == Some(size));
-            }
-            Err(NoRoom) => assert!(rt; size == 1 && done.free == 1),
-        }
+        let right = done.count == 2 && fits_exactly(&done, size, &digest);
+        confirm_at(rt, right, size as usize);
     }
 }
 

@@ -1,12 +1,11 @@
-//! The tests of the program and of what it stands on: its words and the texts for the user, whole
-//! scripts, loads and replays, the core of pins, threads at one store, a map of one large node,
-//! devices that fail, and memory that is refused to each task and to a sink.
+//! What transcripts (`tests/transcripts`) do not show of the program and of what it stands on:
+//! devices that fail, memory that is refused to each task and to a sink, words that the system does
+//! not give, the calls of a load while they are made, threads at one store, all orders of events in
+//! the core of pins, scripts over one shard, and what a run leaves to the next one.
 #![tactic(auto)]
 
 #[cfg(test)]
 mod failing;
-#[cfg(test)]
-mod large;
 #[cfg(test)]
 mod memory;
 #[cfg(test)]
@@ -15,8 +14,6 @@ mod outcomes;
 mod pins;
 #[cfg(test)]
 mod program;
-#[cfg(test)]
-mod replays;
 #[cfg(test)]
 mod script;
 #[cfg(test)]

@@ -77,7 +77,7 @@ fn outcome_in<R: Threads + Wait + AllocGlobal + Sync>(
     input: &[u8],
 ) -> Result<(Outcome, usize), AllocError> {
     let heap = LocalHeap::new(rt.alloc(), size)?;
-    let outcome = outcome_of(rt, &heap, task, input, 256)?;
+    let outcome = outcome_of(rt, &heap, task, input)?;
     Ok((outcome, heap.used()))
 }
 

@@ -14,17 +14,16 @@ pub struct Outcome {
     pub err: Vec<u8>,
 }
 
-/// Does a task over this input in the memory of an allocator, with room for so many bytes of what
-/// it writes.
+/// Does a task over this input in the memory of an allocator, with room for 256 bytes of what it
+/// writes.
 pub fn outcome_of<R: Threads + Wait + AllocGlobal + Sync, A: Allocator + Copy>(
     rt: &R,
     alloc: A,
     task: Task<'_>,
     input: &[u8],
-    room: usize,
 ) -> Result<Outcome, AllocError> {
     let mut source = BytesSource::new(input);
-    let mut out = BytesSink::new(rt.alloc(), room)?;
+    let mut out = BytesSink::new(rt.alloc(), 256)?;
     let mut err = BytesSink::new(rt.alloc(), 64)?;
     let status = match execute(rt, alloc, task, &Open, &mut source, &mut out) {
         Ok(Ending::Done) => DONE,

@@ -5,9 +5,6 @@ pub const SCRIPT: &str = "1 put 61 31\n2 get 61\n1 frob\n3 put 61 -\n4 get 61";
 
 pub const ANSWERS: &str = "none\nsome 31\nfault L3\nsome 31\nsome -\n";
 
-/// A script of one line, as input that no task but a script reads.
-pub const ONE_GET: &[u8] = b"1 get 61\n";
-
 /// A pin through two publishes, as lines of a replay, and their answers.
 pub const EVENTS: &str = "passes 2
 pin 1

@@ -4,7 +4,6 @@ mod memory;
 mod overlap;
 mod reading;
 
-use crate::texts::ONE_CALL;
 use mst_load::{Open, Report, load};
 use std::test::Fail;
 
@@ -22,14 +21,5 @@ fn a_load_comes_to_the_map_that_its_calls_leave(rt: HostRuntime) -> Result<(), F
         } = report;
         assert!(rt; events == u64::from(writers * calls) && falls == 0 && root == built);
     }
-    Ok(())
-}
-
-#[test]
-fn a_report_is_told_in_four_lines(rt: HostRuntime) -> Result<(), Fail> {
-    let Ok(report) = load(&rt, rt.alloc(), 1, 1, 1, &Open) else {
-        panic!(rt; "no memory or no thread")
-    };
-    assert_eq!(rt; report.lines().as_slice(), ONE_CALL.as_bytes());
     Ok(())
 }

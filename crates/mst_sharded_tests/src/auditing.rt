@@ -136,41 +136,74 @@ fn writes(
     true
 }
 
-// What two threads that write and two that audit came to.
-fn all_right<R: Threads + Wait + Sync>(
+// Whether all writes of two threads go through.
+fn both_write<R: Threads + Wait + Sync>(
     rt: &R,
-    alloc: Global,
-    handles: Vec<Handle<'_, Global, Global>>,
+    first: Handle<'_, Global, Global>,
+    second: Handle<'_, Global, Global>,
     keys: &[Key],
     values: &[Value],
 ) -> bool {
+    let (mut first, mut second) = (first, second);
+    let (first_wrote, second_wrote) = join(
+        rt,
+        || -> bool { writes(rt, &mut first, keys, values, 0) },
+        || -> bool { writes(rt, &mut second, keys, values, WRITES) },
+    );
+    first_wrote && second_wrote
+}
+
+// Whether the answers of all snapshots of two threads are proved.
+fn both_audit<R: Threads + Wait + Sync>(
+    rt: &R,
+    alloc: Global,
+    one: Handle<'_, Global, Global>,
+    other: Handle<'_, Global, Global>,
+    keys: &[Key],
+) -> bool {
+    let (one_read, other_read) = join(
+        rt,
+        || -> bool { audits(alloc, one, keys) },
+        || -> bool { audits(alloc, other, keys) },
+    );
+    one_read && other_read
+}
+
+/// Four handles of one map: two that write, and two that audit.
+type Four<'a> = (
+    Handle<'a, Global, Global>,
+    Handle<'a, Global, Global>,
+    Handle<'a, Global, Global>,
+    Handle<'a, Global, Global>,
+);
+
+// The last four of these handles.
+fn four<'a>(rt: &impl Abort, handles: Vec<Handle<'a, Global, Global>>) -> Four<'a> {
     let mut handles = handles;
-    let (Some(mut first), Some(mut second), Some(one), Some(other)) = (
+    let (Some(first), Some(second), Some(one), Some(other)) = (
         handles.pop(),
         handles.pop(),
         handles.pop(),
         handles.pop(),
     ) else {
-        return false;
+        panic!(rt; "four handles")
     };
+    (first, second, one, other)
+}
+
+// What two threads that write and two that audit came to.
+fn all_right<R: Threads + Wait + Sync>(
+    rt: &R,
+    alloc: Global,
+    handles: Four<'_>,
+    keys: &[Key],
+    values: &[Value],
+) -> bool {
+    let (first, second, one, other) = handles;
     let (wrote, read) = join(
         rt,
-        || -> bool {
-            let (first_wrote, second_wrote) = join(
-                rt,
-                || -> bool { writes(rt, &mut first, keys, values, 0) },
-                || -> bool { writes(rt, &mut second, keys, values, WRITES) },
-            );
-            first_wrote && second_wrote
-        },
-        || -> bool {
-            let (one_read, other_read) = join(
-                rt,
-                || -> bool { audits(alloc, one, keys) },
-                || -> bool { audits(alloc, other, keys) },
-            );
-            one_read && other_read
-        },
+        || -> bool { both_write(rt, first, second, keys, values) },
+        || -> bool { both_audit(rt, alloc, one, other, keys) },
     );
     wrote && read
 }
@@ -178,7 +211,7 @@ fn all_right<R: Threads + Wait + Sync>(
 #[test]
 fn snapshots_are_proved_while_others_write(rt: HostRuntime) {
     let (sharded, seats) = opened(&rt, SHARDS, SHAPE);
-    let handles = dealt(&rt, rt.alloc(), &sharded, seats);
+    let handles = four(&rt, dealt(&rt, rt.alloc(), &sharded, seats));
     let (keys, values) = (all_keys(&rt), some_values(&rt));
     assert!(rt; all_right(&rt, rt.alloc(), handles, keys.as_slice(), values.as_slice()));
 }

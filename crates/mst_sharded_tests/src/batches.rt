@@ -1,5 +1,6 @@
 //! Batches of edits, beside single writes and a plain list, and migrations.
-use crate::maps::{SHAPE, dealt, opened};
+use crate::confirming::confirm;
+use crate::maps::{SHAPE, one_dealt, opened};
 use crate::plain::{NOTHING, Plain, after, agrees, edit_of, edits_of, write_of};
 use mst_key::Edit;
 use mst_sharded::{Handle, SpreadFault, StoppedMigration};
@@ -12,18 +13,21 @@ fn apply_all(rt: &(impl Abort + AllocGlobal), handle: &mut Handle<'_, Global, Gl
     let mut plain = NOTHING;
     for round in 0..6u32 {
         let edits = edits_of(rt, round.wrapping_mul(count), count);
-        assert!(rt; handle.try_apply(rt.alloc(), edits.as_slice()) == Ok(()));
+        confirm(
+            rt,
+            handle.try_apply(rt.alloc(), edits.as_slice()) == Ok(()),
+            "the batch is made",
+        );
         plain = after(&plain, round.wrapping_mul(count), count);
-        assert!(rt; agrees(rt, handle, &plain));
+        confirm(rt, agrees(rt, handle, &plain), "the maps agree");
     }
 }
 
 // The same in a map of so many shards.
 fn apply_in(rt: &(impl Abort + AllocGlobal), shards: usize, count: u32) {
     let (sharded, seats) = opened(rt, shards, SHAPE);
-    let mut handles = dealt(rt, rt.alloc(), &sharded, seats);
-    assert!(rt; handles.len() == 1);
-    apply_all(rt, &mut handles[0], count);
+    let mut handle = one_dealt(rt, &sharded, seats);
+    apply_all(rt, &mut handle, count);
 }
 
 #[test]
@@ -61,17 +65,16 @@ fn apply_each(
             Edit::Put(key, value) => handle.try_put(key, value),
             Edit::Remove(key) => handle.try_remove(key),
         };
-        assert!(rt; answer.is_ok());
+        confirm(rt, answer.is_ok(), "the batch is made");
     }
 }
 
 #[test]
 fn a_batch_leaves_what_single_writes_leave(rt: HostRuntime) {
     let (sharded, seats) = opened(&rt, 7, SHAPE);
-    let mut handles = dealt(&rt, rt.alloc(), &sharded, seats);
-    assert!(rt; handles.len() == 1);
-    apply_each(&rt, &mut handles[0], 90);
-    assert!(rt; agrees(&rt, &mut handles[0], &after(&NOTHING, 0, 90)));
+    let mut handle = one_dealt(&rt, &sharded, seats);
+    apply_each(&rt, &mut handle, 90);
+    assert!(rt; agrees(&rt, &mut handle, &after(&NOTHING, 0, 90)));
 }
 
 /// So few rows that a shard has room for some keys, and not for all of its own.
@@ -103,24 +106,24 @@ pub(crate) fn first_two() -> Plain {
 #[test]
 fn a_shard_without_room_stops_a_batch(rt: HostRuntime) {
     let (sharded, seats) = opened(&rt, 2, FEW_ROWS);
-    let mut handles = dealt(&rt, rt.alloc(), &sharded, seats);
-    assert!(rt; handles.len() == 1);
+    let mut handle = one_dealt(&rt, &sharded, seats);
     let edits = uneven(&rt);
-    let answer = handles[0].try_apply(rt.alloc(), edits.as_slice());
+    let answer = handle.try_apply(rt.alloc(), edits.as_slice());
     assert!(rt; answer == Err(SpreadFault::Shard(1, ApplyFault::NoRoom)));
-    assert!(rt; agrees(&rt, &mut handles[0], &first_two()));
+    assert!(rt; agrees(&rt, &mut handle, &first_two()));
 }
 
 #[test]
 fn a_shard_without_room_stops_a_migration(rt: HostRuntime) {
     let (sharded, seats) = opened(&rt, 2, FEW_ROWS);
-    let mut handles = dealt(&rt, rt.alloc(), &sharded, seats);
-    let Some(mut handle) = handles.pop() else {
-        panic!(rt; "a handle")
-    };
+    let mut handle = one_dealt(&rt, &sharded, seats);
     for place in 64..75usize {
         let edits = [edit_of(&rt, (place, 1))];
-        assert!(rt; handle.try_apply(rt.alloc(), &edits) == Ok(()));
+        confirm(
+            &rt,
+            handle.try_apply(rt.alloc(), &edits) == Ok(()),
+            "the batch is made",
+        );
     }
     let stopped = StoppedMigration {
         shard: 1,

@@ -1,7 +1,8 @@
 //! Memory that is refused: to opening, dealing, batches of edits and migrations.
 ghost use Rattle.std.specs.Prelude.{◌≡◌};
 
-use crate::maps::{SHAPE, dealt, heap_of, numbered, opened};
+use crate::confirming::{confirm, confirm_at};
+use crate::maps::{SHAPE, heap_of, numbered, one_dealt, opened};
 use crate::plain::{NOTHING, Plain, after, agrees, edits_of};
 use linked_list_allocator::LocalHeap;
 use mst_key::{Edit, Key};
@@ -31,7 +32,11 @@ fn opens_in(rt: &impl Abort, heap: &LocalHeap) -> bool {
     match Sharded::open(heap, splits, SMALL) {
         Ok(_) => true,
         Err(fault) => {
-            assert!(rt; matches!(fault, ShardsFault::Memory(_)));
+            confirm(
+                rt,
+                matches!(fault, ShardsFault::Memory(_)),
+                "memory is refused",
+            );
             false
         }
     }
@@ -42,10 +47,10 @@ fn each_growth_of_open_is_refused(rt: HostRuntime) {
     for units in 1..4096usize {
         let heap = heap_of(&rt, units * 64);
         if opens_in(&rt, &heap) {
-            assert!(rt; 16 < units, "{units} units were enough");
+            confirm_at(&rt, 16 < units, units);
             return;
         }
-        assert!(rt; heap.used() == 0, "nothing is kept");
+        confirm(&rt, heap.used() == 0, "nothing is kept");
     }
     panic!(rt; "refused with ample memory")
 }
@@ -65,10 +70,10 @@ fn each_growth_of_deal_is_refused(rt: HostRuntime) {
     for units in 1..1024usize {
         let heap = heap_of(&rt, units * 32);
         if deals_in(&rt, &heap) {
-            assert!(rt; 4 < units, "{units} units were enough");
+            confirm_at(&rt, 4 < units, units);
             return;
         }
-        assert!(rt; heap.used() == 0, "nothing is kept");
+        confirm(&rt, heap.used() == 0, "nothing is kept");
     }
     panic!(rt; "refused with ample memory")
 }
@@ -96,12 +101,20 @@ fn applies_in(
     match handle.try_apply(heap, edits) {
         Ok(()) => agrees(rt, handle, &all),
         Err(SpreadFault::Memory(_)) => {
-            assert!(rt; agrees(rt, handle, &NOTHING));
+            confirm(rt, agrees(rt, handle, &NOTHING), "the maps agree");
             false
         }
         Err(SpreadFault::Shard(shard, fault)) => {
-            assert!(rt; matches!(fault, ApplyFault::Memory(_)));
-            assert!(rt; agrees(rt, handle, &with_shards(&all, shard)));
+            confirm(
+                rt,
+                matches!(fault, ApplyFault::Memory(_)),
+                "memory is refused",
+            );
+            confirm(
+                rt,
+                agrees(rt, handle, &with_shards(&all, shard)),
+                "the maps agree",
+            );
             false
         }
     }
@@ -110,9 +123,8 @@ fn applies_in(
 // The same over a new map of four shards.
 fn applies_anew(rt: &(impl Abort + AllocGlobal), heap: &LocalHeap, edits: &[Edit]) -> bool {
     let (sharded, seats) = opened(rt, 4, SHAPE);
-    let mut handles = dealt(rt, rt.alloc(), &sharded, seats);
-    assert!(rt; handles.len() == 1);
-    applies_in(rt, &mut handles[0], heap, edits)
+    let mut handle = one_dealt(rt, &sharded, seats);
+    applies_in(rt, &mut handle, heap, edits)
 }
 
 #[test]
@@ -121,10 +133,10 @@ fn each_growth_of_a_batch_is_refused(rt: HostRuntime) {
     for units in 1..512usize {
         let heap = heap_of(&rt, units * 256);
         if applies_anew(&rt, &heap, edits.as_slice()) {
-            assert!(rt; 16 < units, "{units} units were enough");
+            confirm_at(&rt, 16 < units, units);
             return;
         }
-        assert!(rt; heap.used() == 0, "nothing is kept");
+        confirm(&rt, heap.used() == 0, "nothing is kept");
     }
     panic!(rt; "refused with ample memory")
 }
@@ -132,10 +144,7 @@ fn each_growth_of_a_batch_is_refused(rt: HostRuntime) {
 #[test]
 fn each_growth_of_a_migration_is_refused(rt: HostRuntime) {
     let (sharded, seats) = opened(&rt, 4, SHAPE);
-    let mut handles = dealt(&rt, rt.alloc(), &sharded, seats);
-    let Some(mut handle) = handles.pop() else {
-        panic!(rt; "a handle")
-    };
+    let mut handle = one_dealt(&rt, &sharded, seats);
     let edits = edits_of(&rt, 0, 40);
     assert!(rt; handle.try_apply(rt.alloc(), edits.as_slice()) == Ok(()));
     let mut before = 0;
@@ -143,14 +152,18 @@ fn each_growth_of_a_migration_is_refused(rt: HostRuntime) {
         let heap = heap_of(&rt, units * 64);
         match handle.try_migrate(&heap, Format::Two) {
             Ok(()) => {
-                assert!(rt; agrees(&rt, &mut handle, &after(&NOTHING, 0, 40)));
-                assert!(rt; 4 <= units, "{units} heaps were tried");
+                confirm(
+                    &rt,
+                    agrees(&rt, &mut handle, &after(&NOTHING, 0, 40)),
+                    "the maps agree",
+                );
+                confirm_at(&rt, 4 <= units, units);
                 return;
             }
             Err(stopped) => {
                 // shards that were migrated take no memory
-                assert!(rt; before <= stopped.shard);
-                assert!(rt; heap.used() == 0, "nothing is kept");
+                confirm(&rt, before <= stopped.shard, "a larger heap gets as far");
+                confirm(&rt, heap.used() == 0, "nothing is kept");
                 before = stopped.shard;
             }
         }

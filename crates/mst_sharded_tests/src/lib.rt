@@ -8,6 +8,8 @@ mod auditing;
 #[cfg(test)]
 mod batches;
 #[cfg(test)]
+mod confirming;
+#[cfg(test)]
 mod growths;
 #[cfg(test)]
 mod maps;
@@ -25,5 +27,7 @@ mod shared_growths;
 mod shares;
 #[cfg(test)]
 mod snapshots;
+#[cfg(test)]
+mod threads;
 #[cfg(test)]
 mod writes;

@@ -77,3 +77,19 @@ pub(crate) fn dealt<'a, B: Allocator + Copy>(
     };
     handles
 }
+
+/// The one handle of a sharded map whose shards have one pass.
+pub(crate) fn one_dealt<'a>(
+    rt: &(impl Abort + AllocGlobal),
+    sharded: &'a Sharded<Global>,
+    seats: AllSeats<Global>,
+) -> Handle<'a, Global, Global>
+    requires own { seats ≡ seats_of sharded.now }
+{
+    let mut handles = dealt(rt, rt.alloc(), sharded, seats);
+    assert!(rt; handles.len() == 1);
+    let Some(handle) = handles.pop() else {
+        panic!(rt; "a handle")
+    };
+    handle
+}

@@ -1,4 +1,5 @@
 //! Which splits and shapes a sharded map may have.
+use crate::confirming::confirm;
 use crate::maps::{KEYS, SHAPE, key, numbered, splits_of};
 use mst_key::Key;
 use mst_sharded::{Sharded, ShardsFault};
@@ -29,10 +30,18 @@ fn splits_rise_strictly_from_above_the_least_key(rt: HostRuntime) {
         &[b"a", b"c", b"b"],
     ];
     for splits in GOOD {
-        assert!(rt; refused(&rt, spelt(&rt, splits), SHAPE).is_none());
+        confirm(
+            &rt,
+            refused(&rt, spelt(&rt, splits), SHAPE).is_none(),
+            "the splits are taken",
+        );
     }
     for splits in BAD {
-        assert!(rt; refused(&rt, spelt(&rt, splits), SHAPE) == Some(ShardsFault::Splits));
+        confirm(
+            &rt,
+            refused(&rt, spelt(&rt, splits), SHAPE) == Some(ShardsFault::Splits),
+            "the splits are refused",
+        );
     }
 }
 
@@ -66,13 +75,21 @@ fn shapes_are_those_of_a_store(rt: HostRuntime) {
             passes: *passes,
             format: Format::One,
         };
-        assert!(rt; refused(&rt, splits_of(&rt, 3), shape) == Some(ShardsFault::Shape));
+        confirm(
+            &rt,
+            refused(&rt, splits_of(&rt, 3), shape) == Some(ShardsFault::Shape),
+            "the shape is refused",
+        );
         let shape = Shape {
             rows: *rows,
             passes: *passes,
             format: Format::One,
         };
-        assert!(rt; refused(&rt, spelt(&rt, &[b"\x00"]), shape) == Some(ShardsFault::Splits));
+        confirm(
+            &rt,
+            refused(&rt, spelt(&rt, &[b"\x00"]), shape) == Some(ShardsFault::Splits),
+            "the splits are refused",
+        );
     }
     assert!(rt; numbered(&rt, 0) < numbered(&rt, KEYS - 1));
 }

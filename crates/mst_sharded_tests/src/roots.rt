@@ -1,5 +1,6 @@
 //! Root digests and directories of snapshots.
-use crate::maps::{SHAPE, dealt, heap_of, numbered, opened};
+use crate::confirming::confirm;
+use crate::maps::{SHAPE, heap_of, numbered, one_dealt, opened};
 use crate::plain::{edits_of, value};
 use mst_sharded::{DirectoryFault, Handle};
 use std::alloc::Global;
@@ -17,7 +18,11 @@ fn root_after<'a>(
     let mut root = [0; 32];
     for batch in 0..count / by.max(1) {
         let edits = edits_of(rt, batch.wrapping_mul(by), by);
-        assert!(rt; handle.try_apply(rt.alloc(), edits.as_slice()) == Ok(()));
+        confirm(
+            rt,
+            handle.try_apply(rt.alloc(), edits.as_slice()) == Ok(()),
+            "the batch is made",
+        );
         let mut snapshot = handle.snapshot();
         let Ok(digest) = snapshot.root(rt.alloc()) else {
             panic!(rt; "no root")
@@ -31,10 +36,7 @@ fn root_after<'a>(
 // The root digest of a map of so many shards, after the same edits.
 fn root_in(rt: &(impl Abort + AllocGlobal), shards: usize, by: u32) -> [u8; 32] {
     let (sharded, seats) = opened(rt, shards, SHAPE);
-    let mut handles = dealt(rt, rt.alloc(), &sharded, seats);
-    let Some(handle) = handles.pop() else {
-        panic!(rt; "no handle")
-    };
+    let handle = one_dealt(rt, &sharded, seats);
     root_after(rt, handle, 96, by)
 }
 
@@ -52,10 +54,7 @@ fn other_splits_have_another_root(rt: HostRuntime) {
 #[test]
 fn a_snapshot_without_changes_takes_no_memory(rt: HostRuntime) {
     let (sharded, seats) = opened(&rt, 7, SHAPE);
-    let mut handles = dealt(&rt, rt.alloc(), &sharded, seats);
-    let Some(mut handle) = handles.pop() else {
-        panic!(rt; "no handle")
-    };
+    let mut handle = one_dealt(&rt, &sharded, seats);
     assert!(rt; handle.try_put(&numbered(&rt, 5), &value(&rt, 1)).is_ok());
     let heap = heap_of(&rt, 64);
     let mut snapshot = handle.snapshot();

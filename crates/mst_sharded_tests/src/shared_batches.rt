@@ -1,6 +1,7 @@
 //! Batches by a handle beside a share of its map: those from one shard on, beside a plain list, and
 //! what goes on where one stopped.
 use crate::batches::{FEW_ROWS, first_two, uneven};
+use crate::confirming::confirm;
 use crate::maps::{KEYS, SHAPE, numbered};
 use crate::plain::{NOTHING, Plain, after, edits_of, is_left, write_of};
 use crate::shares::one_shared;
@@ -52,7 +53,7 @@ fn shared_batches_are_those_of_a_plain_list(rt: HostRuntime) {
         let first = round.wrapping_mul(40);
         handle = applied(&rt, handle, edits_of(&rt, first, 40).as_slice(), 0);
         plain = after(&plain, first, 40);
-        assert!(rt; agrees(&rt, &mut handle, &plain));
+        confirm(&rt, agrees(&rt, &mut handle, &plain), "the maps agree");
     }
 }
 
@@ -64,7 +65,7 @@ fn shared_batches_from_a_shard_on_leave_those_before_it(rt: HostRuntime) {
         let (first, from) = (round.wrapping_mul(40), round as usize % 3);
         handle = applied(&rt, handle, edits_of(&rt, first, 40).as_slice(), from);
         plain = after_from(&plain, first, 40, from);
-        assert!(rt; agrees(&rt, &mut handle, &plain));
+        confirm(&rt, agrees(&rt, &mut handle, &plain), "the maps agree");
     }
     let mut snapshot = handle.snapshot();
     assert!(rt; snapshot.version_at(0) == Some(2) && snapshot.version_at(1) == Some(4));

@@ -4,6 +4,7 @@ ghost use Rattle.std.specs.Prelude.{◌≡◌};
 ghost use Rattle.std.specs.Arc.{arc_value};
 ghost use Rattle.mst_sharded.specs.Opening.{seats_of};
 
+use crate::confirming::{confirm, confirm_at};
 use crate::maps::{heap_of, numbered};
 use crate::plain::{is_left, value};
 use linked_list_allocator::LocalHeap;
@@ -94,9 +95,9 @@ fn each_growth_of_share_is_refused(rt: HostRuntime) {
     let heap = heap_of(&rt, AMPLE);
     for units in 0..1024usize {
         let shares = shares_with(&rt, &heap, units.saturating_mul(32));
-        assert!(rt; heap.used() == 0, "nothing is kept");
+        confirm(&rt, heap.used() == 0, "nothing is kept");
         if shares {
-            assert!(rt; 4 < units, "{units} units were enough");
+            confirm_at(&rt, 4 < units, units);
             return;
         }
     }
@@ -120,11 +121,60 @@ enum Call {
 fn had_memory(rt: &impl Abort, fault: Option<DirectoryFault>) -> bool {
     match fault {
         Some(fault) => {
-            assert!(rt; matches!(fault, DirectoryFault::Memory(_)));
+            confirm(
+                rt,
+                matches!(fault, DirectoryFault::Memory(_)),
+                "memory is refused",
+            );
             false
         }
         None => true,
     }
+}
+
+// Asks for the root digest, and returns whether there was memory.
+fn asks_root<'h>(
+    rt: &impl Abort,
+    heap: &'h LocalHeap,
+    snapshot: SharedSnapshot<&'h LocalHeap>,
+) -> (SharedSnapshot<&'h LocalHeap>, bool) {
+    let (snapshot, root) = snapshot.root(heap);
+    (snapshot, had_memory(rt, root.err()))
+}
+
+// The same for a proof.
+fn asks_proof<'h>(
+    rt: &impl Abort,
+    heap: &'h LocalHeap,
+    snapshot: SharedSnapshot<&'h LocalHeap>,
+) -> (SharedSnapshot<&'h LocalHeap>, bool) {
+    let (snapshot, proof) = snapshot.prove(heap, &numbered(rt, 64));
+    (snapshot, had_memory(rt, proof.err()))
+}
+
+// The same for the directory.
+fn asks_directory<'h>(
+    rt: &impl Abort,
+    heap: &'h LocalHeap,
+    snapshot: SharedSnapshot<&'h LocalHeap>,
+) -> (SharedSnapshot<&'h LocalHeap>, bool) {
+    let (snapshot, pairs) = snapshot.directory(heap);
+    (snapshot, had_memory(rt, pairs.err()))
+}
+
+// The same for a call that leaves the snapshot where it is.
+fn asks_other<'h>(
+    heap: &'h LocalHeap,
+    snapshot: SharedSnapshot<&'h LocalHeap>,
+    call: Call,
+) -> (SharedSnapshot<&'h LocalHeap>, bool) {
+    let mut snapshot = snapshot;
+    let given = match call {
+        Call::Next => snapshot.next(heap, None).is_ok(),
+        Call::Range => snapshot.range(heap, None, None, 9).is_ok(),
+        _ => snapshot.format(heap).is_ok(),
+    };
+    (snapshot, given)
 }
 
 // Makes the call, and returns whether there was memory.
@@ -134,25 +184,19 @@ fn asks<'h>(
     snapshot: SharedSnapshot<&'h LocalHeap>,
     call: Call,
 ) -> (SharedSnapshot<&'h LocalHeap>, bool) {
-    let mut snapshot = snapshot;
-    let given = match call {
-        Call::Next => snapshot.next(heap, None).is_ok(),
-        Call::Range => snapshot.range(heap, None, None, 9).is_ok(),
-        Call::Format => snapshot.format(heap).is_ok(),
-        Call::Root => {
-            let (snapshot, root) = snapshot.root(heap);
-            return (snapshot, had_memory(rt, root.err()));
-        }
-        Call::Prove => {
-            let (snapshot, proof) = snapshot.prove(heap, &numbered(rt, 64));
-            return (snapshot, had_memory(rt, proof.err()));
-        }
-        Call::Directory => {
-            let (snapshot, pairs) = snapshot.directory(heap);
-            return (snapshot, had_memory(rt, pairs.err()));
-        }
-    };
-    (snapshot, given)
+    match call {
+        Call::Root => asks_root(rt, heap, snapshot),
+        Call::Prove => asks_proof(rt, heap, snapshot),
+        Call::Directory => asks_directory(rt, heap, snapshot),
+        Call::Next | Call::Range | Call::Format => asks_other(heap, snapshot, call),
+    }
+}
+
+// The snapshot reads as before.
+fn reads_as_before(rt: &impl Abort, snapshot: &mut SharedSnapshot<&LocalHeap>) {
+    assert!(rt; is_left(&snapshot.get(&numbered(rt, 63)), 1));
+    assert!(rt; is_left(&snapshot.get(&numbered(rt, 64)), 2));
+    assert!(rt; snapshot.version_at(0) == Some(1) && snapshot.version_at(1) == Some(1));
 }
 
 // Makes the call with about so many bytes, in which the snapshot reads as before.
@@ -165,9 +209,7 @@ fn asks_with<'h>(
 ) -> (SharedSnapshot<&'h LocalHeap>, bool) {
     let _held = all_but(rt, heap, left);
     let (mut snapshot, given) = asks(rt, heap, snapshot, call);
-    assert!(rt; is_left(&snapshot.get(&numbered(rt, 63)), 1));
-    assert!(rt; is_left(&snapshot.get(&numbered(rt, 64)), 2));
-    assert!(rt; snapshot.version_at(0) == Some(1) && snapshot.version_at(1) == Some(1));
+    reads_as_before(rt, &mut snapshot);
     (snapshot, given)
 }
 
@@ -183,9 +225,9 @@ fn refused_each<'h>(
     for units in 0..4096usize {
         let (left, given) = asks_with(rt, heap, snapshot, call, units.saturating_mul(32));
         snapshot = left;
-        assert!(rt; heap.used() == used, "nothing is kept");
+        confirm(rt, heap.used() == used, "nothing is kept");
         if given {
-            assert!(rt; 0 < units, "no memory was enough");
+            confirm(rt, 0 < units, "no memory was enough");
             return snapshot;
         }
     }
@@ -208,7 +250,7 @@ fn all_refused(rt: &(impl Abort + AllocGlobal), heap: &LocalHeap) {
 fn each_growth_of_a_shared_snapshot_is_refused(rt: HostRuntime) {
     let heap = heap_of(&rt, AMPLE);
     all_refused(&rt, &heap);
-    assert!(rt; heap.used() == 0, "nothing is kept");
+    confirm(&rt, heap.used() == 0, "nothing is kept");
 }
 
 // ---- handles
@@ -228,7 +270,7 @@ fn migrates_with<'h>(
     match moved {
         Ok(()) => true,
         Err(MoveFault::Memory(_)) => {
-            assert!(rt; left < 1024, "a list of two passes");
+            confirm(rt, left < 1024, "a list of two passes");
             false
         }
         Err(MoveFault::Shard(_)) => false,
@@ -241,9 +283,9 @@ fn migrates_at_last(rt: &(impl Abort + AllocGlobal), heap: &LocalHeap) {
     let used = heap.used();
     for units in 0..4096usize {
         let moved = migrates_with(rt, heap, &mut handle, units.saturating_mul(32));
-        assert!(rt; heap.used() == used, "nothing is kept");
+        confirm(rt, heap.used() == used, "nothing is kept");
         if moved {
-            assert!(rt; 1 < units, "{units} units were enough");
+            confirm_at(rt, 1 < units, units);
             return;
         }
     }
@@ -254,7 +296,7 @@ fn migrates_at_last(rt: &(impl Abort + AllocGlobal), heap: &LocalHeap) {
 fn each_growth_of_a_shared_migration_is_refused(rt: HostRuntime) {
     let heap = heap_of(&rt, AMPLE);
     migrates_at_last(&rt, &heap);
-    assert!(rt; heap.used() == 0, "nothing is kept");
+    confirm(&rt, heap.used() == 0, "nothing is kept");
 }
 
 // Writes, pins and reads where no memory is left.
@@ -276,5 +318,5 @@ fn lives_without_memory(rt: &(impl Abort + AllocGlobal), heap: &LocalHeap) {
 fn shared_writes_and_pins_take_no_memory(rt: HostRuntime) {
     let heap = heap_of(&rt, AMPLE);
     lives_without_memory(&rt, &heap);
-    assert!(rt; heap.used() == 0, "nothing is kept");
+    confirm(&rt, heap.used() == 0, "nothing is kept");
 }

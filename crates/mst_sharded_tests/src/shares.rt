@@ -1,22 +1,22 @@
 //! Handles and snapshots beside a share of their map, beside a handle and a snapshot of another
-//! map: the same writes, reads, proofs and migrations. Those of one map also on threads that
-//! outlive the function that opened it.
-use crate::maps::{KEYS, SHAPE, dealt, numbered, opened};
+//! map: the same writes, reads, proofs and migrations.
+use crate::confirming::confirm;
+use crate::maps::{KEYS, SHAPE, numbered, one_dealt, opened};
 use crate::plain::{value, write_of};
+use crate::snapshots::digest_of;
 use mst_key::{Key, Value};
 use mst_sharded::{
     DirectoryFault, Handle, MoveFault, Sharded, SharedHandle, SharedSnapshot, Snapshot,
     StoppedMigration,
 };
 use mst_sharded_proof::{audit_directory, verify_sharded};
-use mst_store::{Format, MigrateFault, Shape};
+use mst_store::{Format, Shape};
 use std::alloc::Global;
 use std::process::Abort;
 use std::sync::Arc;
-use std::thread::{self, Threads};
 
-// The handles of a new map, each beside a share of it. No other share is left.
-fn shared(
+/// The handles of a new map, each beside a share of it. No other share is left.
+pub(crate) fn shared(
     rt: &(impl Abort + AllocGlobal),
     shards: usize,
     shape: Shape,
@@ -41,6 +41,43 @@ pub(crate) fn one_shared(
         panic!(rt; "a handle")
     };
     handle
+}
+
+/// The root digest of a snapshot beside a share.
+pub(crate) fn shared_digest(
+    rt: &(impl Abort + AllocGlobal),
+    shared: SharedSnapshot<Global>,
+) -> (SharedSnapshot<Global>, [u8; 32]) {
+    let (shared, root) = shared.root(rt.alloc());
+    let Ok(root) = root else {
+        panic!(rt; "a root digest")
+    };
+    (shared, root)
+}
+
+/// Its proof of a key.
+pub(crate) fn shared_proof(
+    rt: &(impl Abort + AllocGlobal),
+    shared: SharedSnapshot<Global>,
+    key: &Key,
+) -> (SharedSnapshot<Global>, Vec<u8>) {
+    let (shared, proof) = shared.prove(rt.alloc(), key);
+    let Ok(proof) = proof else {
+        panic!(rt; "a proof")
+    };
+    (shared, proof)
+}
+
+// Its directory.
+fn shared_pairs(
+    rt: &(impl Abort + AllocGlobal),
+    shared: SharedSnapshot<Global>,
+) -> (SharedSnapshot<Global>, Vec<(Key, Value)>) {
+    let (shared, pairs) = shared.directory(rt.alloc());
+    let Ok(pairs) = pairs else {
+        panic!(rt; "a directory")
+    };
+    (shared, pairs)
 }
 
 // ---- beside another map
@@ -69,11 +106,19 @@ fn write_some(
     first: u32,
 ) {
     for number in 0..40u32 {
-        assert!(rt; writes(rt, handle, shared, first.wrapping_add(number)));
+        confirm(
+            rt,
+            writes(rt, handle, shared, first.wrapping_add(number)),
+            "the write answers alike",
+        );
     }
     for number in 0..KEYS {
         let key = numbered(rt, number);
-        assert!(rt; handle.get(&key) == shared.get(&key));
+        confirm(
+            rt,
+            handle.get(&key) == shared.get(&key),
+            "both find the same",
+        );
     }
 }
 
@@ -85,12 +130,20 @@ fn same_gets(
 ) {
     for number in 0..KEYS {
         let key = numbered(rt, number);
-        assert!(rt; snapshot.get(&key) == shared.get(&key));
+        confirm(
+            rt,
+            snapshot.get(&key) == shared.get(&key),
+            "both find the same",
+        );
     }
     assert!(rt; snapshot.shards() == shared.shards());
     // none is behind the last shard
     for shard in 0..9usize {
-        assert!(rt; snapshot.version_at(shard) == shared.version_at(shard));
+        confirm(
+            rt,
+            snapshot.version_at(shard) == shared.version_at(shard),
+            "both are of one version",
+        );
     }
 }
 
@@ -105,7 +158,11 @@ fn same_steps(
         let Ok(found) = shared.next(rt.alloc(), last.as_ref()) else {
             panic!(rt; "no memory")
         };
-        assert!(rt; snapshot.next(last.as_ref()) == found);
+        confirm(
+            rt,
+            snapshot.next(last.as_ref()) == found,
+            "both find the same",
+        );
         match found {
             Some((key, _)) => last = Some(key),
             None => return,
@@ -130,20 +187,63 @@ fn same_range(
     assert!(rt; one.as_slice() == other.as_slice());
 }
 
-// Compares their proofs of a key, and verifies them.
-fn same_proof(
+// Whether the snapshot has this proof of a key, which verifies.
+fn is_proof(
+    rt: &(impl Abort + AllocGlobal),
+    snapshot: &mut Snapshot<'_, Global, Global>,
+    root: (Format, &[u8; 32]),
+    key: &Key,
+    other: &[u8],
+) -> bool {
+    let Ok(one) = snapshot.prove(rt.alloc(), key) else {
+        return false;
+    };
+    one.as_slice() == other && verify_sharded(root.0, root.1, key, other) == Ok(snapshot.get(key))
+}
+
+// Compares their proofs of all keys, and verifies them.
+fn same_proofs(
     rt: &(impl Abort + AllocGlobal),
     snapshot: &mut Snapshot<'_, Global, Global>,
     shared: SharedSnapshot<Global>,
     root: (Format, &[u8; 32]),
-    key: &Key,
 ) -> SharedSnapshot<Global> {
-    let (shared, other) = shared.prove(rt.alloc(), key);
-    let (Ok(one), Ok(other)) = (snapshot.prove(rt.alloc(), key), other) else {
-        panic!(rt; "a proof")
+    let mut shared = shared;
+    for number in 0..KEYS {
+        let key = numbered(rt, number);
+        let (left, proof) = shared_proof(rt, shared, &key);
+        shared = left;
+        confirm(
+            rt,
+            is_proof(rt, snapshot, root, &key, proof.as_slice()),
+            "it is a proof",
+        );
+    }
+    shared
+}
+
+// Whether the snapshot has this directory, which passes an audit.
+fn is_directory(
+    rt: &(impl Abort + AllocGlobal),
+    snapshot: &mut Snapshot<'_, Global, Global>,
+    root: (Format, &[u8; 32]),
+    other: &[(Key, Value)],
+) -> bool {
+    let Ok(one) = snapshot.directory(rt.alloc()) else {
+        return false;
     };
-    assert!(rt; one.as_slice() == other.as_slice());
-    assert!(rt; verify_sharded(root.0, root.1, key, other.as_slice()) == Ok(snapshot.get(key)));
+    one.as_slice() == other && audit_directory(root.0, root.1, other) == Ok(())
+}
+
+// Compares their directories, which pass an audit.
+fn same_directory(
+    rt: &(impl Abort + AllocGlobal),
+    snapshot: &mut Snapshot<'_, Global, Global>,
+    shared: SharedSnapshot<Global>,
+    root: (Format, &[u8; 32]),
+) -> SharedSnapshot<Global> {
+    let (shared, pairs) = shared_pairs(rt, shared);
+    assert!(rt; is_directory(rt, snapshot, root, pairs.as_slice()));
     shared
 }
 
@@ -157,23 +257,22 @@ fn same_root(
     let mut shared = shared;
     assert!(rt; snapshot.format() == Some(format));
     assert!(rt; shared.format(rt.alloc()) == Ok(Some(format)));
-    let (shared, other) = shared.root(rt.alloc());
-    let (Ok(root), Ok(other)) = (snapshot.root(rt.alloc()), other) else {
-        panic!(rt; "a root digest")
-    };
-    assert!(rt; root == other);
-    let (shared, other) = shared.directory(rt.alloc());
-    let (Ok(one), Ok(other)) = (snapshot.directory(rt.alloc()), other) else {
-        panic!(rt; "a directory")
-    };
-    assert!(rt; one.as_slice() == other.as_slice());
-    assert!(rt; audit_directory(format, &root, other.as_slice()) == Ok(()));
-    let mut shared = shared;
-    for number in 0..KEYS {
-        let key = numbered(rt, number);
-        shared = same_proof(rt, snapshot, shared, (format, &root), &key);
-    }
-    shared
+    let (shared, root) = shared_digest(rt, shared);
+    assert!(rt; digest_of(rt, snapshot) == root);
+    let shared = same_directory(rt, snapshot, shared, (format, &root));
+    same_proofs(rt, snapshot, shared, (format, &root))
+}
+
+// Compares their pairs of ranges.
+fn same_ranges(
+    rt: &(impl Abort + AllocGlobal),
+    snapshot: &mut Snapshot<'_, Global, Global>,
+    shared: &mut SharedSnapshot<Global>,
+) {
+    same_range(rt, snapshot, shared, (0, 127), 200);
+    same_range(rt, snapshot, shared, (17, 101), 1);
+    same_range(rt, snapshot, shared, (64, 32), 5);
+    same_range(rt, snapshot, shared, (3, 120), 40);
 }
 
 // Takes a snapshot of each map, compares all that they answer, and releases them.
@@ -186,10 +285,7 @@ fn same_snapshots<'a>(
     let (mut snapshot, mut shared) = (handle.snapshot(), shared.snapshot());
     same_gets(rt, &mut snapshot, &mut shared);
     same_steps(rt, &mut snapshot, &mut shared);
-    same_range(rt, &mut snapshot, &mut shared, (0, 127), 200);
-    same_range(rt, &mut snapshot, &mut shared, (17, 101), 1);
-    same_range(rt, &mut snapshot, &mut shared, (64, 32), 5);
-    same_range(rt, &mut snapshot, &mut shared, (3, 120), 40);
+    same_ranges(rt, &mut snapshot, &mut shared);
     let shared = same_root(rt, &mut snapshot, shared, format);
     (snapshot.release(), shared.release())
 }
@@ -198,9 +294,7 @@ fn same_snapshots<'a>(
 // migration to the other format and back.
 fn same_maps(rt: &(impl Abort + AllocGlobal), shards: usize) {
     let (sharded, seats) = opened(rt, shards, SHAPE);
-    let Some(mut handle) = dealt(rt, rt.alloc(), &sharded, seats).pop() else {
-        panic!(rt; "a handle")
-    };
+    let mut handle = one_dealt(rt, &sharded, seats);
     let mut shared = one_shared(rt, shards, SHAPE);
     assert!(rt; handle.shards() == shared.shards());
     let mut format = Format::One;
@@ -211,8 +305,16 @@ fn same_maps(rt: &(impl Abort + AllocGlobal), shards: usize) {
             Format::One => Format::Two,
             Format::Two => Format::One,
         };
-        assert!(rt; handle.try_migrate(rt.alloc(), format).is_ok());
-        assert!(rt; shared.try_migrate(rt.alloc(), format) == Ok(()));
+        confirm(
+            rt,
+            handle.try_migrate(rt.alloc(), format).is_ok(),
+            "the map migrates",
+        );
+        confirm(
+            rt,
+            shared.try_migrate(rt.alloc(), format) == Ok(()),
+            "the map migrates",
+        );
     }
 }
 
@@ -233,17 +335,37 @@ fn shares_of_a_map_of_seven_shards_answer_as_handles_do(rt: HostRuntime) {
 
 // ---- two formats
 
+// Puts too many keys into the second of two shards for it to be migrated in its rows.
+fn fill_second(rt: &impl Abort, handle: &mut SharedHandle<Global>) {
+    for number in 64..104 {
+        let value = value(rt, 1);
+        confirm(
+            rt,
+            handle.try_put(&numbered(rt, number), &value).is_ok(),
+            "the pair is put",
+        );
+    }
+}
+
+// Asks a snapshot of shards in two formats for all that needs one.
+fn is_mixed(
+    rt: &(impl Abort + AllocGlobal),
+    snapshot: SharedSnapshot<Global>,
+    key: &Key,
+) -> SharedSnapshot<Global> {
+    let (snapshot, root) = snapshot.root(rt.alloc());
+    assert!(rt; root == Err(DirectoryFault::Mixed));
+    let (snapshot, proof) = snapshot.prove(rt.alloc(), key);
+    assert!(rt; proof.err() == Some(DirectoryFault::Mixed));
+    let (snapshot, pairs) = snapshot.directory(rt.alloc());
+    assert!(rt; pairs.err() == Some(DirectoryFault::Mixed));
+    snapshot
+}
+
 #[test]
 fn a_share_of_shards_in_two_formats_has_no_root_digest(rt: HostRuntime) {
     let mut handle = one_shared(&rt, 2, Shape { rows: 64, ..SHAPE });
-    // the second shard has too many keys to be migrated in its rows
-    for number in 64..104 {
-        assert!(rt;
-            handle
-                .try_put(&numbered(&rt, number), &value(&rt, 1))
-                .is_ok()
-        );
-    }
+    fill_second(&rt, &mut handle);
     let moved = handle.try_migrate(rt.alloc(), Format::Two);
     assert!(rt;
         matches!(
@@ -255,71 +377,6 @@ fn a_share_of_shards_in_two_formats_has_no_root_digest(rt: HostRuntime) {
     let mut snapshot = handle.snapshot();
     assert!(rt; snapshot.format(rt.alloc()) == Ok(None));
     assert!(rt; snapshot.get(&key).is_some());
-    let (snapshot, root) = snapshot.root(rt.alloc());
-    assert!(rt; root == Err(DirectoryFault::Mixed));
-    let (snapshot, proof) = snapshot.prove(rt.alloc(), &key);
-    assert!(rt; proof.err() == Some(DirectoryFault::Mixed));
-    let (snapshot, pairs) = snapshot.directory(rt.alloc());
-    assert!(rt; pairs.err() == Some(DirectoryFault::Mixed));
+    let snapshot = is_mixed(&rt, snapshot, &key);
     assert!(rt; snapshot.release().get(&key).is_some());
-}
-
-// ---- threads
-
-// Puts a byte at each key of one of two shards. Returns the handle, and whether all went through.
-fn fill(handle: SharedHandle<Global>, second: bool, byte: u8) -> (SharedHandle<Global>, bool) {
-    let mut handle = handle;
-    let first = if second { 5u8 } else { 1u8 };
-    for number in 0..64u8 {
-        let bytes = [first.wrapping_add(number / 16), number % 16];
-        let (Ok(key), Ok(value)) = (Key::new(&bytes), Value::new(&[byte])) else {
-            return (handle, false);
-        };
-        if handle.try_put(&key, &value).is_err() {
-            return (handle, false);
-        }
-    }
-    (handle, true)
-}
-
-// Whether a snapshot has at each key the byte of its shard, with a proof.
-fn is_full(rt: &(impl Abort + AllocGlobal), snapshot: SharedSnapshot<Global>) -> bool {
-    let (snapshot, root) = snapshot.root(rt.alloc());
-    let Ok(root) = root else {
-        return false;
-    };
-    let mut snapshot = snapshot;
-    for number in 0..KEYS {
-        let key = numbered(rt, number);
-        let (left, proof) = snapshot.prove(rt.alloc(), &key);
-        snapshot = left;
-        let Ok(proof) = proof else {
-            return false;
-        };
-        let byte = if number < 64 { 1 } else { 2 };
-        let found = verify_sharded(Format::One, &root, &key, proof.as_slice());
-        if found != Ok(Some(value(rt, byte))) {
-            return false;
-        }
-    }
-    true
-}
-
-#[test]
-fn shares_write_on_threads_of_their_own(rt: HostRuntime) {
-    let mut handles = shared(&rt, 2, Shape { passes: 2, ..SHAPE });
-    let (Some(one), Some(other), true) = (handles.pop(), handles.pop(), handles.is_empty()) else {
-        panic!(rt; "two handles")
-    };
-    let (Ok(first), Ok(second)) = (
-        thread::spawn(&rt, move || fill(one, false, 1)),
-        thread::spawn(&rt, move || fill(other, true, 2)),
-    ) else {
-        panic!(rt; "no thread")
-    };
-    let ((one, one_filled), (other, other_filled)) = (first.join(&rt), second.join(&rt));
-    assert!(rt; one_filled && other_filled);
-    assert!(rt; is_full(&rt, one.snapshot()));
-    // the map is there for as long as one handle of it
-    assert!(rt; is_full(&rt, other.snapshot()));
 }

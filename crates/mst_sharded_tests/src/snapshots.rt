@@ -1,5 +1,6 @@
 //! Snapshots beside a plain list: reads across shards, root digests, proofs and directories.
-use crate::maps::{SHAPE, dealt, numbered, opened};
+use crate::confirming::confirm;
+use crate::maps::{SHAPE, numbered, one_dealt, opened};
 use crate::plain::{NOTHING, Plain, after, edits_of, is_left};
 use mst_key::Key;
 use mst_sharded::{DirectoryFault, Handle, Snapshot};
@@ -110,6 +111,30 @@ fn read_all(
     assert!(rt; ranges(rt, snapshot, plain, (3, 120), 40));
 }
 
+/// The root digest of a snapshot.
+pub(crate) fn digest_of(
+    rt: &(impl Abort + AllocGlobal),
+    snapshot: &mut Snapshot<'_, Global, Global>,
+) -> [u8; 32] {
+    let Ok(root) = snapshot.root(rt.alloc()) else {
+        panic!(rt; "a root digest")
+    };
+    root
+}
+
+// Whether the directory passes an audit.
+fn audits(
+    rt: &(impl Abort + AllocGlobal),
+    snapshot: &mut Snapshot<'_, Global, Global>,
+    format: Format,
+    root: &[u8; 32],
+) -> bool {
+    let Ok(pairs) = snapshot.directory(rt.alloc()) else {
+        return false;
+    };
+    audit_directory(format, root, pairs.as_slice()) == Ok(())
+}
+
 // The root digest of a snapshot whose proofs show the plain list, and whose directory passes an
 // audit.
 fn root_of(
@@ -118,57 +143,63 @@ fn root_of(
     plain: &Plain,
     format: Format,
 ) -> [u8; 32] {
-    let Ok(root) = snapshot.root(rt.alloc()) else {
-        panic!(rt; "a root digest")
-    };
+    let root = digest_of(rt, snapshot);
     assert!(rt; snapshot.format() == Some(format));
     assert!(rt; proves(rt, snapshot, plain, format, &root));
-    let Ok(pairs) = snapshot.directory(rt.alloc()) else {
-        panic!(rt; "a directory")
-    };
-    assert!(rt; audit_directory(format, &root, pairs.as_slice()) == Ok(()));
+    assert!(rt; audits(rt, snapshot, format, &root));
     root
 }
 
-// Makes a batch of edits, and takes a snapshot.
+// Compares a snapshot of the handle with the plain list, and returns its root digest.
+fn looked<'a>(
+    rt: &(impl Abort + AllocGlobal),
+    handle: Handle<'a, Global, Global>,
+    plain: &Plain,
+    format: Format,
+) -> (Handle<'a, Global, Global>, [u8; 32]) {
+    let mut snapshot = handle.snapshot();
+    read_all(rt, &mut snapshot, plain);
+    let root = root_of(rt, &mut snapshot, plain, format);
+    (snapshot.release(), root)
+}
+
+// Makes a batch of edits.
 fn changed<'a>(
     rt: &(impl Abort + AllocGlobal),
     mut handle: Handle<'a, Global, Global>,
     from: u32,
     count: u32,
-) -> Snapshot<'a, Global, Global> {
+) -> Handle<'a, Global, Global> {
     let edits = edits_of(rt, from, count);
     assert!(rt; handle.try_apply(rt.alloc(), edits.as_slice()) == Ok(()));
-    handle.snapshot()
+    handle
+}
+
+// Migrates all shards.
+fn migrated<'a>(
+    rt: &(impl Abort + AllocGlobal),
+    mut handle: Handle<'a, Global, Global>,
+    to: Format,
+) -> Handle<'a, Global, Global> {
+    assert!(rt; handle.try_migrate(rt.alloc(), to).is_ok());
+    handle
 }
 
 // Snapshots of a map of so many shards, one after another, through a migration.
 fn snapshots_in(rt: &(impl Abort + AllocGlobal), shards: usize) {
     let (sharded, seats) = opened(rt, shards, SHAPE);
-    let mut handles = dealt(rt, rt.alloc(), &sharded, seats);
-    let Some(handle) = handles.pop() else {
-        panic!(rt; "a handle")
-    };
-    let mut snapshot = handle.snapshot();
-    let empty = root_of(rt, &mut snapshot, &NOTHING, Format::One);
+    let handle = one_dealt(rt, &sharded, seats);
+    let (handle, empty) = looked(rt, handle, &NOTHING, Format::One);
     let plain = after(&NOTHING, 0, 150);
-    let mut snapshot = changed(rt, snapshot.release(), 0, 150);
-    read_all(rt, &mut snapshot, &plain);
-    let first = root_of(rt, &mut snapshot, &plain, Format::One);
+    let (handle, first) = looked(rt, changed(rt, handle, 0, 150), &plain, Format::One);
     // one edit more changes one shard
     let plain = after(&plain, 150, 1);
-    let mut snapshot = changed(rt, snapshot.release(), 150, 1);
-    let second = root_of(rt, &mut snapshot, &plain, Format::One);
+    let (handle, second) = looked(rt, changed(rt, handle, 150, 1), &plain, Format::One);
     assert!(rt; empty != first && first != second);
-    let mut handle = snapshot.release();
-    assert!(rt; handle.try_migrate(rt.alloc(), Format::Two).is_ok());
-    let mut snapshot = handle.snapshot();
-    let third = root_of(rt, &mut snapshot, &plain, Format::Two);
+    let (handle, third) = looked(rt, migrated(rt, handle, Format::Two), &plain, Format::Two);
     assert!(rt; second != third);
-    let mut handle = snapshot.release();
-    assert!(rt; handle.try_migrate(rt.alloc(), Format::One).is_ok());
-    let mut snapshot = handle.snapshot();
-    assert!(rt; root_of(rt, &mut snapshot, &plain, Format::One) == second);
+    let (_handle, last) = looked(rt, migrated(rt, handle, Format::One), &plain, Format::One);
+    assert!(rt; last == second);
 }
 
 #[test]
@@ -191,25 +222,35 @@ fn snapshots_of_64_shards(rt: HostRuntime) {
     snapshots_in(&rt, 64);
 }
 
+// Puts too many keys into the second of two shards for it to be migrated in its rows.
+fn fill_second(rt: &impl Abort, handle: &mut Handle<'_, Global, Global>) {
+    for number in 64..104 {
+        let value = crate::plain::value(rt, 1);
+        confirm(
+            rt,
+            handle.try_put(&numbered(rt, number), &value).is_ok(),
+            "the pair is put",
+        );
+    }
+}
+
+// Asks a snapshot of shards in two formats for all that needs one.
+fn is_mixed(rt: &(impl Abort + AllocGlobal), snapshot: &mut Snapshot<'_, Global, Global>) {
+    assert!(rt; snapshot.format().is_none());
+    assert!(rt; snapshot.root(rt.alloc()) == Err(DirectoryFault::Mixed));
+    let key = numbered(rt, 70);
+    assert!(rt; snapshot.get(&key).is_some());
+    assert!(rt; snapshot.prove(rt.alloc(), &key).err() == Some(DirectoryFault::Mixed));
+    assert!(rt; snapshot.directory(rt.alloc()).err() == Some(DirectoryFault::Mixed));
+}
+
 #[test]
 fn shards_in_two_formats_have_no_root_digest(rt: HostRuntime) {
     let shape = Shape { rows: 64, ..SHAPE };
     let (sharded, seats) = opened(&rt, 2, shape);
-    let mut handles = dealt(&rt, rt.alloc(), &sharded, seats);
-    let Some(mut handle) = handles.pop() else {
-        panic!(rt; "a handle")
-    };
-    // the second shard has too many keys to be migrated in its rows
-    for number in 64..104 {
-        let value = crate::plain::value(&rt, 1);
-        assert!(rt; handle.try_put(&numbered(&rt, number), &value).is_ok());
-    }
+    let mut handle = one_dealt(&rt, &sharded, seats);
+    fill_second(&rt, &mut handle);
     assert!(rt; handle.try_migrate(rt.alloc(), Format::Two).is_err());
     let mut snapshot = handle.snapshot();
-    assert!(rt; snapshot.format().is_none());
-    assert!(rt; snapshot.root(rt.alloc()) == Err(DirectoryFault::Mixed));
-    let key = numbered(&rt, 70);
-    assert!(rt; snapshot.get(&key).is_some());
-    assert!(rt; snapshot.prove(rt.alloc(), &key).err() == Some(DirectoryFault::Mixed));
-    assert!(rt; snapshot.directory(rt.alloc()).err() == Some(DirectoryFault::Mixed));
+    is_mixed(&rt, &mut snapshot);
 }

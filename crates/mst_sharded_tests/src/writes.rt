@@ -1,9 +1,12 @@
 //! Reads and writes of single keys, beside a store and beside a plain list.
-use crate::maps::{KEYS, SHAPE, dealt, numbered, opened};
+ghost use Rattle.std.specs.Prelude.{◌≡◌};
+
+use crate::confirming::confirm;
+use crate::maps::{KEYS, SHAPE, numbered, one_dealt, opened};
 use crate::plain::{NOTHING, Plain, agrees, is_left, value, write_of};
 use mst_key::{Key, Value};
 use mst_sharded::Handle;
-use mst_store::{Pass, Store};
+use mst_store::{Pass, Seats, Store};
 use std::alloc::Global;
 use std::process::Abort;
 
@@ -34,18 +37,21 @@ fn write_all(rt: &impl Abort, handle: &mut Handle<'_, Global, Global>) {
     let mut plain = NOTHING;
     for round in 0..8u32 {
         for number in 0..40u32 {
-            assert!(rt; writes(rt, handle, &mut plain, round * 40 + number));
+            confirm(
+                rt,
+                writes(rt, handle, &mut plain, round * 40 + number),
+                "the write answers alike",
+            );
         }
-        assert!(rt; agrees(rt, handle, &plain));
+        confirm(rt, agrees(rt, handle, &plain), "the maps agree");
     }
 }
 
 // The same in a map of so many shards.
 fn write_in(rt: &(impl Abort + AllocGlobal), shards: usize) {
     let (sharded, seats) = opened(rt, shards, SHAPE);
-    let mut handles = dealt(rt, rt.alloc(), &sharded, seats);
-    assert!(rt; handles.len() == 1);
-    write_all(rt, &mut handles[0]);
+    let mut handle = one_dealt(rt, &sharded, seats);
+    write_all(rt, &mut handle);
 }
 
 #[test]
@@ -78,22 +84,55 @@ fn alike(
     pass.try_put(key, value) == handle.try_put(key, value) && pass.get(key) == handle.get(key)
 }
 
+// Compares many writes of the pass and of the handle.
+fn compare_all(
+    rt: &impl Abort,
+    pass: &mut Pass<'_, Global>,
+    handle: &mut Handle<'_, Global, Global>,
+) {
+    for number in 0..200u32 {
+        let (place, left) = write_of(number);
+        let key = numbered(rt, place);
+        confirm(
+            rt,
+            alike(pass, handle, &key, &value(rt, left)),
+            "they are alike",
+        );
+    }
+}
+
+// A store of the shape of a shard.
+fn store_of(rt: &(impl Abort + AllocGlobal)) -> (Store<Global>, Seats<Global>)
+    ensures own { result.1 ≡ result.0 }
+{
+    let Ok(opened) = Store::open(rt.alloc(), SHAPE) else {
+        panic!(rt; "no memory")
+    };
+    opened
+}
+
+// The last pass of a store.
+fn pass_of<'a>(
+    rt: &(impl Abort + AllocGlobal),
+    store: &'a Store<Global>,
+    seats: Seats<Global>,
+) -> Pass<'a, Global>
+    requires own { seats ≡ store.now }
+{
+    let Ok(mut passes) = store.deal(rt.alloc(), seats) else {
+        panic!(rt; "no memory")
+    };
+    let Some(pass) = passes.pop() else {
+        panic!(rt; "a pass")
+    };
+    pass
+}
+
 #[test]
 fn one_shard_is_a_store(rt: HostRuntime) {
     let (sharded, seats) = opened(&rt, 1, SHAPE);
-    let mut handles = dealt(&rt, rt.alloc(), &sharded, seats);
-    let Ok((store, its_seats)) = Store::open(rt.alloc(), SHAPE) else {
-        panic!(rt; "no memory")
-    };
-    let Ok(mut passes) = store.deal(rt.alloc(), its_seats) else {
-        panic!(rt; "no memory")
-    };
-    let (Some(mut handle), Some(mut pass)) = (handles.pop(), passes.pop()) else {
-        panic!(rt; "a handle and a pass")
-    };
-    for number in 0..200u32 {
-        let (place, left) = write_of(number);
-        let key = numbered(&rt, place);
-        assert!(rt; alike(&mut pass, &mut handle, &key, &value(&rt, left)));
-    }
+    let mut handle = one_dealt(&rt, &sharded, seats);
+    let (store, its_seats) = store_of(&rt);
+    let mut pass = pass_of(&rt, &store, its_seats);
+    compare_all(&rt, &mut pass, &mut handle);
 }

@@ -1,11 +1,15 @@
 //! If there is memory, no call is refused any, at sizes from a few rows to the most; and writes
 //! take none of the memory that a heap has left.
+use crate::bouts::{Bout, play};
+use crate::confirming::{confirm, confirm_at};
 use crate::fixtures::{key, value};
 use crate::stores::{both_passes, dealt, heap_of, opened};
 use mst_key::{Key, Value};
 use mst_store::{Format, Memory, Pass, Pinned, Shape};
 use std::alloc::{Allocator, Global};
 use std::process::Abort;
+use std::sync::Wait;
+use std::thread::Threads;
 
 /// The bytes of a heap for a store of `FEW_ROWS`, and as much again.
 const HEAP: usize = 131_072;
@@ -64,14 +68,32 @@ fn a_thousand_writes_take_nothing_of_a_heap_with_room(rt: HostRuntime) {
     let (store, seats) = opened(&rt, &heap, shape);
     let (mut first, mut second) = both_passes(&rt, &heap, &store, seats);
     let used = heap.used();
-    assert!(rt; used < HEAP / 2, "as much again is left");
+    confirm(&rt, used < HEAP / 2, "as much again is left");
     for number in 0..1_000u32 {
         let done = if number % 2 == 0 {
             change(&rt, &mut first, number)
         } else {
             change(&rt, &mut second, number)
         };
-        assert!(rt; done && heap.used() == used, "write {number}");
+        confirm_at(&rt, done && heap.used() == used, number as usize);
+    }
+}
+
+// Whether a store of so many rows deals so many passes.
+fn deals(rt: &(impl Abort + AllocGlobal), rows: u32, passes: u32) -> bool {
+    let shape = Shape {
+        rows,
+        passes,
+        format: Format::Two,
+    };
+    let (store, seats) = opened(rt, rt.alloc(), shape);
+    dealt(rt, rt.alloc(), &store, seats).len() == passes as usize
+}
+
+// Stores of so many rows deal each number of passes.
+fn deals_each(rt: &(impl Abort + AllocGlobal), rows: u32) {
+    for passes in 1..=32u32 {
+        confirm_at(rt, deals(rt, rows, passes), rows as usize);
     }
 }
 
@@ -81,19 +103,7 @@ fn stores_of_many_sizes_open_and_deal(rt: HostRuntime) {
         4, 5, 63, 64, 65, 1_000, 4_095, 4_096, 16_383, 32_768, 65_534, MOST_ROWS,
     ];
     for rows in ROWS {
-        for passes in 1..=32u32 {
-            let shape = Shape {
-                rows: *rows,
-                passes,
-                format: Format::Two,
-            };
-            let (store, seats) = opened(&rt, rt.alloc(), shape);
-            let dealt = dealt(&rt, rt.alloc(), &store, seats);
-            assert!(rt;
-                dealt.len() == passes as usize,
-                "{rows} rows, {passes} passes"
-            );
-        }
+        deals_each(&rt, *rows);
     }
 }
 
@@ -153,29 +163,46 @@ const LARGE: Shape = Shape {
     format: Format::One,
 };
 
+// A store of so many pairs answers, by a free pass in format 1, and by a pinned one in format 2 if
+// it is to move.
+#[derive(Clone, Copy)]
+struct ReadsAll {
+    count: u32,
+    is_moved: bool,
+}
+
+impl Bout for ReadsAll {
+    fn plays<'a, R: Abort + AllocGlobal + Threads + Wait + Sync>(
+        &self,
+        rt: &R,
+        first: Pass<'a, Global>,
+        second: &mut Pass<'a, Global>,
+    ) -> bool {
+        let mut first = first;
+        let count = self.count;
+        let right = put_all(rt, second, count)
+            && answers(rt, &mut first, count)
+            && (!self.is_moved || moves(rt, second, count));
+        let mut pinned = first.pin();
+        right && answers_pinned(rt, &mut pinned, count)
+    }
+}
+
 #[test]
 fn ranges_and_proofs_of_both_formats_lack_no_memory(rt: HostRuntime) {
     for count in [1_000u32, 28_000] {
-        let (store, seats) = opened(&rt, rt.alloc(), LARGE);
-        let (mut first, mut second) = both_passes(&rt, rt.alloc(), &store, seats);
-        assert!(rt; put_all(&rt, &mut first, count));
-        assert!(rt; answers(&rt, &mut second, count), "{count} pairs, format 1");
-        assert!(rt; moves(&rt, &mut first, count), "{count} pairs move");
-        let mut pinned = second.pin();
-        assert!(rt;
-            answers_pinned(&rt, &mut pinned, count),
-            "{count} pairs, format 2"
-        );
+        let is_moved = true;
+        play(&rt, LARGE, &ReadsAll { count, is_moved });
     }
 }
 
 #[test]
 fn ranges_and_proofs_of_sixty_thousand_pairs_lack_no_memory(rt: HostRuntime) {
-    let (store, seats) = opened(&rt, rt.alloc(), LARGE);
-    let (mut first, second) = both_passes(&rt, rt.alloc(), &store, seats);
-    assert!(rt; put_all(&rt, &mut first, 60_000));
-    assert!(rt; answers(&rt, &mut first, 60_000));
-    assert!(rt; answers_pinned(&rt, &mut second.pin(), 60_000));
+    const MANY: ReadsAll = ReadsAll {
+        count: 60_000,
+        is_moved: false,
+    };
+    play(&rt, LARGE, &MANY);
 }
 
 // How many rows the map takes after the keys of these numbers were put by three passes in turns.

@@ -1,11 +1,14 @@
 //! Threads that pin, read, prove and verify while others put and migrate.
-use crate::fixtures::{gets, key, puts, value};
+use crate::answers::gets;
+use crate::fixtures::{key, value};
 use crate::stores::{dealt, opened};
+use crate::writes::puts;
 use mst_key::{Key, Value};
 use mst_proof::verify_in;
 use mst_store::Format::{One, Two};
 use mst_store::{Format, MigrateFault, Pass, Pinned, Shape};
 use std::alloc::Global;
+use std::process::Abort;
 use std::sync::Wait;
 use std::thread::{Threads, join};
 
@@ -94,8 +97,63 @@ fn puts_on(rt: &impl Wait, pass: &mut Pass<Global>, key: &Key, values: (&Value, 
     true
 }
 
-// What two threads that write and two that audit came to.
-fn all_right<R: Threads + Wait + Sync>(
+// What one thread that migrates and one that puts came to.
+fn both_write<R: Threads + Wait + Sync>(
+    rt: &R,
+    alloc: Global,
+    mover: &mut Pass<Global>,
+    writer: &mut Pass<Global>,
+    key: &Key,
+    values: (&Value, &Value),
+) -> bool {
+    let (moved, put) = join(
+        rt,
+        || -> bool { moves_to_and_fro(rt, alloc, mover) },
+        || -> bool { puts_on(rt, writer, key, values) },
+    );
+    moved && put
+}
+
+// What two threads that audit came to.
+fn both_audit<'a, R: Threads + Wait + Sync>(
+    rt: &R,
+    alloc: Global,
+    first: Pass<'a, Global>,
+    second: Pass<'a, Global>,
+    keys: (&Key, &Key),
+) -> bool {
+    let (one, other) = join(
+        rt,
+        || -> bool { audits(alloc, first, keys.0, keys.1) },
+        || -> bool { audits(alloc, second, keys.1, keys.0) },
+    );
+    one && other
+}
+
+// What the threads that write and those that audit came to.
+fn all_run<'a, R: Threads + Wait + Sync>(
+    rt: &R,
+    alloc: Global,
+    (mover, writer): (&mut Pass<Global>, &mut Pass<Global>),
+    (first, second): (Pass<'a, Global>, Pass<'a, Global>),
+    keys: (&Key, &Key),
+    values: (&Value, &Value),
+) -> bool {
+    let (wrote, read) = join(
+        rt,
+        || -> bool { both_write(rt, alloc, mover, writer, keys.0, values) },
+        || -> bool { both_audit(rt, alloc, first, second, keys) },
+    );
+    wrote && read
+}
+
+// Whether the last writes were seen.
+fn has_ended(pass: &mut Pass<Global>) -> bool {
+    gets(pass, b"1", Some(b"b")) && pass.format() == One && pass.version() == 2_001
+}
+
+// What all threads came to.
+fn all_right<R: Abort + Threads + Wait + Sync>(
     rt: &R,
     alloc: Global,
     passes: Vec<Pass<'_, Global>, Global>,
@@ -103,36 +161,14 @@ fn all_right<R: Threads + Wait + Sync>(
     values: (&Value, &Value),
 ) -> bool {
     let mut passes = passes;
-    let (Some(mut mover), Some(mut writer), Some(first), Some(second)) = (
-        passes.pop(),
-        passes.pop(),
-        passes.pop(),
-        passes.pop(),
-    ) else {
-        return false;
-    };
+    let mut mover = passes.pop().expect(rt, "four passes");
+    let mut writer = passes.pop().expect(rt, "three more");
+    let first = passes.pop().expect(rt, "two more");
+    let second = passes.pop().expect(rt, "one more");
     let begun = puts(&mut writer, b"9", b"1", None);
-    let (wrote, read) = join(
-        rt,
-        || -> bool {
-            let (moved, put) = join(
-                rt,
-                || -> bool { moves_to_and_fro(rt, alloc, &mut mover) },
-                || -> bool { puts_on(rt, &mut writer, keys.0, values) },
-            );
-            moved && put
-        },
-        || -> bool {
-            let (one, other) = join(
-                rt,
-                || -> bool { audits(alloc, first, keys.0, keys.1) },
-                || -> bool { audits(alloc, second, keys.1, keys.0) },
-            );
-            one && other
-        },
-    );
-    let ended = gets(&mut mover, b"1", Some(b"b")) && mover.format() == One;
-    begun && wrote && read && ended && mover.version() == 2_001
+    let writers = (&mut mover, &mut writer);
+    let right = all_run(rt, alloc, writers, (first, second), keys, values);
+    begun && right && has_ended(&mut mover)
 }
 
 #[test]

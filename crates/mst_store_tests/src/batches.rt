@@ -1,20 +1,24 @@
 //! Batches: many edits in one version, against the same edits one by one.
+use crate::answers::{counts, gets, has_root, has_version};
+use crate::bouts::{Bout, FullBout, play, play_full};
 use crate::calls::Call::{
     Apply, ApplyInTurn, ApplyInTurnInVain, ApplyInVain, Get, Migrate, Pin, Put, Remove, Root, Rows,
     Unpin, Version,
 };
 use crate::calls::{Step, script};
-use crate::fixtures::{
-    ROOT_OF_BOTH, ROOT_OF_NONE, Spelt, counts, edits_of, gets, has_root, has_version, puts, value,
-};
+use crate::confirming::{confirm, confirm_at};
+use crate::fixtures::{ROOT_OF_BOTH, ROOT_OF_NONE, value};
 use crate::plain_list::PlainList;
 use crate::room::keys;
-use crate::stores::{AMPLE, SMALL, both_passes, dealt, fill, heap_of, is_full, opened};
+use crate::stores::{SMALL, dealt, opened};
+use crate::writes::{Spelt, edits_of, puts};
 use linked_list_allocator::LocalHeap;
 use mst_key::{Edit, Key};
 use mst_store::{ApplyFault, Format, Memory, Pass, Shape};
-use std::alloc::{AllocError, Global};
+use std::alloc::{AllocError, Allocator, Global};
 use std::process::Abort;
+use std::sync::Wait;
+use std::thread::Threads;
 
 // Of a with 1 and abc with x, in an order that is not that of the keys, by way of others.
 const BOTH: &[Spelt] = &[
@@ -200,28 +204,76 @@ fn refused_heaps(
     None
 }
 
+// Whether each growth of a batch is refused, and then it goes through.
+fn grows(
+    alloc: Global,
+    first: &mut Pass<Global>,
+    second: &mut Pass<Global>,
+    edits: &[Edit],
+) -> bool {
+    if !puts(first, b"abc", b"x", None) {
+        return false;
+    }
+    match refused_heaps(alloc, first, second, edits) {
+        Some(count) => 2 < count && has_root(second, &ROOT_OF_BOTH) && has_version(second, 2),
+        None => false,
+    }
+}
+
+#[derive(Clone, Copy)]
+struct EachGrowth;
+
+impl Bout for EachGrowth {
+    fn plays<'a, R: Abort + AllocGlobal + Threads + Wait + Sync>(
+        &self,
+        rt: &R,
+        first: Pass<'a, Global>,
+        second: &mut Pass<'a, Global>,
+    ) -> bool {
+        let mut first = first;
+        let edits = edits_of(rt.alloc(), BOTH).expect(rt, "memory");
+        grows(rt.alloc(), &mut first, second, &edits)
+    }
+}
+
 #[test]
 fn each_growth_of_a_batch_is_refused(rt: HostRuntime) {
-    let (store, seats) = opened(&rt, rt.alloc(), SMALL);
-    let (mut first, mut second) = both_passes(&rt, rt.alloc(), &store, seats);
-    assert!(rt; puts(&mut first, b"abc", b"x", None));
-    let edits = edits_of(rt.alloc(), BOTH).expect(&rt, "memory");
-    let refused = refused_heaps(rt.alloc(), &mut first, &mut second, &edits);
-    assert!(rt; matches!(refused, Some(count) if 2 < count));
-    assert!(rt; has_root(&mut second, &ROOT_OF_BOTH) && has_version(&mut second, 2));
+    play(&rt, SMALL, &EachGrowth);
+}
+
+// Whether a batch finds no memory in this heap, but one of no edits.
+fn needs_none<A: Allocator + Copy>(
+    first: &mut Pass<A>,
+    second: &mut Pass<A>,
+    heap: &LocalHeap,
+    edits: &[Edit],
+) -> bool {
+    let refused = ApplyFault::Memory(Memory::from(AllocError));
+    first.try_apply(heap, edits) == Err(refused)
+        && second.try_apply(heap, &[]) == Ok(())
+        && has_version(first, 1)
+}
+
+#[derive(Clone, Copy)]
+struct NoEdits;
+
+impl FullBout for NoEdits {
+    fn plays<'a, A: Allocator + Copy, R: Abort + AllocGlobal + Wait>(
+        &self,
+        rt: &R,
+        heap: &LocalHeap,
+        first: Pass<'a, A>,
+        second: &mut Pass<'a, A>,
+    ) -> bool {
+        let mut first = first;
+        let edits = edits_of(rt.alloc(), BOTH).expect(rt, "memory");
+        needs_none(&mut first, second, heap, &edits)
+    }
 }
 
 #[test]
 fn no_edits_take_no_memory(rt: HostRuntime) {
-    let heap = heap_of(&rt, AMPLE);
-    let (store, seats) = opened(&rt, &heap, SMALL);
-    let (mut first, mut second) = both_passes(&rt, &heap, &store, seats);
-    let edits = edits_of(rt.alloc(), BOTH).expect(&rt, "memory");
-    let blocks = fill(&rt, &heap);
-    assert!(rt; is_full(&heap) && !blocks.is_empty());
-    let refused = ApplyFault::Memory(Memory::from(AllocError));
-    assert!(rt; first.try_apply(&heap, &edits) == Err(refused));
-    assert!(rt; second.try_apply(&heap, &[]) == Ok(()) && has_version(&mut first, 1));
+    play_full(&rt, &NoEdits);
 }
 
 // ---- random batches, over the store and over a plain list
@@ -235,9 +287,9 @@ fn next(state: u64) -> u64 {
 // Two puts for each remove.
 fn random_edit(rt: &impl Abort, keys: &[Key], state: u64) -> Edit {
     let bytes = state.to_be_bytes();
-    let Some(key) = keys.get((state >> 33) as usize % 305) else {
-        panic!(rt; "305 keys")
-    };
+    let key = keys
+        .get((state >> 33) as usize % 305)
+        .expect(rt, "305 keys");
     if bytes[0] % 3 < 2 {
         Edit::Put(key.copy(), value(rt, &[bytes[3] % 4]))
     } else {
@@ -283,12 +335,12 @@ fn apply_both(
     let taken = list.cost(list).all.saturating_add(after.cost(list).new);
     let answer = pass.try_apply(rt.alloc(), edits);
     if taken > rows {
-        assert!(rt; answer == Err(ApplyFault::NoRoom));
-        assert!(rt; has_root(pass, &list.root(rt, rt.alloc())));
+        let same = has_root(pass, &list.root(rt, rt.alloc()));
+        confirm(rt, answer == Err(ApplyFault::NoRoom) && same, "no room");
         return None;
     }
-    assert!(rt; answer == Ok(()));
-    assert!(rt; has_root(pass, &after.root(rt, rt.alloc())));
+    let made = has_root(pass, &after.root(rt, rt.alloc()));
+    confirm(rt, answer == Ok(()) && made, "the map after it");
     Some(after)
 }
 
@@ -330,10 +382,7 @@ fn applies_as_the_list(rt: &(impl Abort + AllocGlobal), rows: u32, format: Forma
         panic!(rt; "one pass")
     };
     let refused = random_batches(rt, pass, shape, seed);
-    assert!(rt;
-        0 < refused && refused < BATCHES,
-        "{refused} batches were refused"
-    );
+    confirm_at(rt, 0 < refused && refused < BATCHES, refused as usize);
 }
 
 #[test]

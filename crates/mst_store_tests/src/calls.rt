@@ -2,14 +2,18 @@
 //!
 //! A table that is a constant costs its test's proof next to nothing; the same calls written out
 //! cost it more than in proportion.
-use crate::fixtures::{
-    Spelt, applies, applies_in_turn, batch_fails, batch_lacks_room, count_pairs, counts,
-    finds_no_room, gets, has_root, has_version, leaves_free, migrates, migration_fails, moves_many,
-    next_is, proves, put_fails, puts, puts_in_turn, puts_many, removes, removes_in_turn,
+use crate::answers::{
+    count_pairs, counts, gets, has_both, has_root, has_version, leaves_free, next_is, proves,
     still_counts, still_gets, still_next, still_proves,
 };
+use crate::confirming::confirm_at;
 use crate::starving::{is_right_or_refused, is_starved, still_starved};
 use crate::stores::{Seat, both_passes, opened};
+use crate::writes::{
+    Spelt, applies, applies_in_turn, batch_fails, batch_lacks_room, finds_no_room, migrates,
+    migration_fails, moves_many, put_fails, puts, puts_in_turn, puts_many, removes,
+    removes_in_turn,
+};
 use mst_store::{ApplyFault, Format, MigrateFault, Pass, Pinned, Shape, WriteFault};
 use std::alloc::{Allocator, Global};
 use std::process::Abort;
@@ -54,6 +58,8 @@ pub(crate) enum Call {
     Get(Bytes, Option<Bytes>),
     /// The key of the next pair above the bound.
     Next(Option<Bytes>, Option<Bytes>),
+    /// That all pairs are a with 1 and abc with x.
+    BothPairs,
     /// How many pairs there are from the one bound to the other, up to the limit.
     Pairs(Option<Bytes>, Option<Bytes>, usize, usize),
     /// The proof of the key.
@@ -137,6 +143,7 @@ fn answers<A: Allocator + Copy>(
         Call::Pairs(from, to, limit, count) => {
             count_pairs(pass, rt.alloc(), from, to, limit) == Some(count)
         }
+        Call::BothPairs => has_both(pass, rt.alloc()),
         Call::Proof(key, text) => proves(pass, rt.alloc(), key, text),
         Call::NoMemory(key) => is_starved(rt.alloc(), pass, key),
         Call::EachGrowth(key) => is_right_or_refused(rt.alloc(), pass, key),
@@ -183,7 +190,7 @@ pub(crate) fn run<A: Allocator + Copy>(
         } else {
             answers(rt, second, *call)
         };
-        assert!(rt; right, "call {place}");
+        confirm_at(rt, right, place);
     }
 }
 
@@ -246,20 +253,30 @@ fn run_part(
         } else {
             call_at(rt, second, *call)
         };
-        assert!(rt; right, "call {place}");
+        confirm_at(rt, right, place);
     }
 }
 
 /// The calls of both passes of a new store of so many rows, pins among them, return what the steps
 /// say. The steps come in parts, one after the other.
 pub(crate) fn script(rt: &(impl Abort + AllocGlobal + Wait), rows: u32, parts: &[&[Step]]) {
+    script_in(rt, Format::One, rows, parts);
+}
+
+/// The same of a store that opens in this format.
+pub(crate) fn script_in(
+    rt: &(impl Abort + AllocGlobal + Wait),
+    format: Format,
+    rows: u32,
+    parts: &[&[Step]],
+) {
     let (store, seats) = opened(
         rt,
         rt.alloc(),
         Shape {
             rows,
             passes: 2,
-            format: Format::One,
+            format,
         },
     );
     let (first, second) = both_passes(rt, rt.alloc(), &store, seats);

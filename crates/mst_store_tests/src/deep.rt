@@ -2,15 +2,20 @@
 //!
 //! A call goes one node deeper for each of them. A key of layer 15 is one of a billion, and each
 //! layer above takes four times as many trials, so a tree of all 129 layers cannot be had.
-use crate::fixtures::{counts, gets, has_root, key, migrates, puts, removes, value};
+use crate::answers::{counts, gets, has_root};
+use crate::bouts::{Bout, play};
+use crate::confirming::confirm_at;
+use crate::fixtures::{key, value};
 use crate::plain_list::PlainList;
-use crate::stores::{both_passes, opened};
+use crate::writes::{migrates, puts, removes};
 use mst_key::{Key, Value};
 use mst_proof::verify_in;
 use mst_store::Format::{One, Two};
 use mst_store::{Format, Pass, Shape};
 use std::alloc::Global;
 use std::process::Abort;
+use std::sync::Wait;
+use std::thread::Threads;
 
 /// A key of each layer in format 2, from 14 down to 0. Each lies between the two before it, so the
 /// nodes hang in turns before the entry of the node above and after it.
@@ -51,7 +56,7 @@ fn listed(rt: &impl Abort, alloc: Global) -> PlainList {
 fn the_layers_fall_by_one(rt: HostRuntime) {
     for (place, bytes) in DEEP.iter().enumerate() {
         let layer = key(&rt, bytes).layer_in(Two);
-        assert!(rt; usize::from(layer).saturating_add(place) == 14, "{place}");
+        confirm_at(&rt, usize::from(layer).saturating_add(place) == 14, place);
     }
 }
 
@@ -140,16 +145,70 @@ const SHAPE: Shape = Shape {
     format: One,
 };
 
+// Whether the map goes to format 2 and back, and is read and changed there.
+fn goes_deep(
+    rt: &impl Abort,
+    alloc: Global,
+    first: &mut Pass<Global>,
+    second: &mut Pass<Global>,
+) -> bool {
+    puts_each(first)
+        && stands(rt, alloc, first, One, ROWS_IN_ONE)
+        && migrates(second, alloc, Two, One)
+        && stands(rt, alloc, first, Two, ROWS_IN_TWO)
+        && are_proved(rt, alloc, first)
+        && changes_each(first)
+        && migrates(second, alloc, One, Two)
+        && stands(rt, alloc, second, One, ROWS_IN_ONE)
+}
+
+#[derive(Clone, Copy)]
+struct GoesDeep;
+
+impl Bout for GoesDeep {
+    fn plays<'a, R: Abort + AllocGlobal + Threads + Wait + Sync>(
+        &self,
+        rt: &R,
+        first: Pass<'a, Global>,
+        second: &mut Pass<'a, Global>,
+    ) -> bool {
+        let mut first = first;
+        goes_deep(rt, rt.alloc(), &mut first, second)
+    }
+}
+
 #[test]
 fn a_deep_tree_is_made_by_a_migration(rt: HostRuntime) {
-    let (store, seats) = opened(&rt, rt.alloc(), SHAPE);
-    let (mut first, mut second) = both_passes(&rt, rt.alloc(), &store, seats);
-    assert!(rt; puts_each(&mut first) && stands(&rt, rt.alloc(), &mut first, One, ROWS_IN_ONE));
-    assert!(rt; migrates(&mut second, rt.alloc(), Two, One));
-    assert!(rt; stands(&rt, rt.alloc(), &mut first, Two, ROWS_IN_TWO));
-    assert!(rt; are_proved(&rt, rt.alloc(), &mut first) && changes_each(&mut first));
-    assert!(rt; migrates(&mut second, rt.alloc(), One, Two));
-    assert!(rt; stands(&rt, rt.alloc(), &mut second, One, ROWS_IN_ONE));
+    play(&rt, SHAPE, &GoesDeep);
+}
+
+// Whether the tree grows from below and falls from above.
+fn grows_and_falls(
+    rt: &impl Abort,
+    alloc: Global,
+    first: &mut Pass<Global>,
+    second: &mut Pass<Global>,
+) -> bool {
+    puts_each_above(first)
+        && stands(rt, alloc, second, Two, ROWS_IN_TWO)
+        && are_proved(rt, alloc, second)
+        && removes_each(second)
+        && counts(first, Some(0))
+}
+
+#[derive(Clone, Copy)]
+struct GrowsAndFalls;
+
+impl Bout for GrowsAndFalls {
+    fn plays<'a, R: Abort + AllocGlobal + Threads + Wait + Sync>(
+        &self,
+        rt: &R,
+        first: Pass<'a, Global>,
+        second: &mut Pass<'a, Global>,
+    ) -> bool {
+        let mut first = first;
+        grows_and_falls(rt, rt.alloc(), &mut first, second)
+    }
 }
 
 #[test]
@@ -158,10 +217,5 @@ fn a_deep_tree_grows_from_below_and_falls_from_above(rt: HostRuntime) {
         format: Two,
         ..SHAPE
     };
-    let (store, seats) = opened(&rt, rt.alloc(), shape);
-    let (mut first, mut second) = both_passes(&rt, rt.alloc(), &store, seats);
-    assert!(rt; puts_each_above(&mut first));
-    assert!(rt; stands(&rt, rt.alloc(), &mut second, Two, ROWS_IN_TWO));
-    assert!(rt; are_proved(&rt, rt.alloc(), &mut second) && removes_each(&mut second));
-    assert!(rt; counts(&mut first, Some(0)));
+    play(&rt, shape, &GrowsAndFalls);
 }

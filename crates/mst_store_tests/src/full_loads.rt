@@ -1,6 +1,8 @@
 //! Batches that fill a store to its last row, are refused one row short, and free rows where none
 //! is left.
-use crate::fixtures::{ROOT_OF_NONE, counts, has_root, has_version, key, value};
+use crate::answers::{counts, has_root, has_version};
+use crate::confirming::confirm_at;
+use crate::fixtures::{ROOT_OF_NONE, key, value};
 use crate::stores::{dealt, opened};
 use mst_key::{Edit, Key};
 use mst_store::{ApplyFault, Format, Pass, Shape, WriteFault};
@@ -150,7 +152,7 @@ fn with_pass(rt: &(impl Abort + AllocGlobal), load: Load, rows: u32, is_short: b
     } else {
         fills_and_frees(rt, pass, load)
     };
-    assert!(rt; right, "{rows} rows");
+    confirm_at(rt, right, rows as usize);
 }
 
 #[test]

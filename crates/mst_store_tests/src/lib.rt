@@ -6,11 +6,17 @@
 #[cfg(test)]
 mod ample;
 #[cfg(test)]
+mod answers;
+#[cfg(test)]
 mod auditing;
 #[cfg(test)]
 mod batches;
 #[cfg(test)]
+mod bouts;
+#[cfg(test)]
 mod calls;
+#[cfg(test)]
+mod confirming;
 #[cfg(test)]
 mod deep;
 #[cfg(test)]
@@ -51,3 +57,5 @@ mod table;
 mod waiting;
 #[cfg(test)]
 mod whole_batches;
+#[cfg(test)]
+mod writes;

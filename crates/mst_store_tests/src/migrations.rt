@@ -1,17 +1,21 @@
 //! Migrations: the tree of the map in the other format, while readers stay.
+use crate::answers::{counts, gets, has_version, still_gets};
+use crate::bouts::{Bout, FullBout, play, play_full};
 use crate::calls::Call::{
     Get, InFormat, LetGo, Migrate, MigrateInVain, MigrateMany, Pin, Put, PutInVain, Remove, Root,
     Rows, Unpin, Version,
 };
-use crate::calls::{Step, run, script};
-use crate::fixtures::{
-    ROOT_OF_NONE, counts, gets, has_version, migrates, migration_fails, other, puts, still_gets,
-};
-use crate::stores::{AMPLE, SMALL, both_passes, fill, heap_of, is_full, opened};
+use crate::calls::{Step, run, script, script_in};
+use crate::fixtures::{ROOT_OF_NONE, other};
+use crate::stores::SMALL;
+use crate::writes::{migrates, migration_fails, puts};
 use linked_list_allocator::LocalHeap;
 use mst_store::Format::{One, Two};
 use mst_store::{Format, Memory, MigrateFault, Pass, Pinned, Shape};
-use std::alloc::{AllocError, Global};
+use std::alloc::{AllocError, Allocator, Global};
+use std::process::Abort;
+use std::sync::Wait;
+use std::thread::Threads;
 
 /// The root digest in format 1 of the map of 1 with a and 9 with 1: the SHA-256 of the 15 bytes 01
 /// 00 0002 00 01 31 01 61 00 01 39 01 31 00.
@@ -161,14 +165,7 @@ fn a_store_opens_in_format_2(rt: HostRuntime) {
         (2, Migrate(One, Two)),
         (1, Root(ROOT_IN_ONE)),
     ];
-    let shape = Shape {
-        rows: 8,
-        passes: 2,
-        format: Two,
-    };
-    let (store, seats) = opened(&rt, rt.alloc(), shape);
-    let (mut first, mut second) = both_passes(&rt, rt.alloc(), &store, seats);
-    run(&rt, &mut first, &mut second, STEPS);
+    script_in(&rt, Two, 8, &[STEPS]);
 }
 
 // Whether the pinned version is still that of 1 with a alone, in format 1, of this root.
@@ -207,6 +204,27 @@ fn stays<'a>(
     (pinned.unpin(), right)
 }
 
+// Whether two rows are left in use after a thousand migrations beside a pin of this pass.
+fn takes_six(alloc: Global, pass: Pass<'_, Global>, writer: &mut Pass<Global>) -> bool {
+    let put = puts(writer, b"1", b"a", None);
+    let (mut pass, right) = stays(alloc, pass, writer);
+    put && right && counts(&mut pass, Some(2)) && has_version(&mut pass, 1_001)
+}
+
+#[derive(Clone, Copy)]
+struct BesideAPin;
+
+impl Bout for BesideAPin {
+    fn plays<'a, R: Abort + AllocGlobal + Threads + Wait + Sync>(
+        &self,
+        rt: &R,
+        first: Pass<'a, Global>,
+        second: &mut Pass<'a, Global>,
+    ) -> bool {
+        takes_six(rt.alloc(), first, second)
+    }
+}
+
 // Two rows are pinned, and two and two serve the versions in turn.
 #[test]
 fn a_thousand_migrations_beside_a_pin_take_six_rows(rt: HostRuntime) {
@@ -215,12 +233,7 @@ fn a_thousand_migrations_beside_a_pin_take_six_rows(rt: HostRuntime) {
         passes: 2,
         format: One,
     };
-    let (store, seats) = opened(&rt, rt.alloc(), shape);
-    let (first, mut second) = both_passes(&rt, rt.alloc(), &store, seats);
-    assert!(rt; puts(&mut second, b"1", b"a", None));
-    let (mut first, right) = stays(rt.alloc(), first, &mut second);
-    assert!(rt; right);
-    assert!(rt; counts(&mut first, Some(2)) && has_version(&mut first, 1_001));
+    play(&rt, shape, &BesideAPin);
 }
 
 // Whether a migration in a heap of so many bytes goes through; none if memory was refused, and then
@@ -292,30 +305,75 @@ const IN_TWO: Kept = Kept {
     version: 3,
 };
 
-// There and back.
+// Whether so many heaps were found too small, more than two.
+fn are_refused(heaps: Option<usize>) -> bool {
+    match heaps {
+        Some(count) => 2 < count,
+        None => false,
+    }
+}
+
+// Whether each growth of a migration is refused, there and back.
+fn grows(alloc: Global, first: &mut Pass<Global>, second: &mut Pass<Global>) -> bool {
+    are_refused(refused_heaps(alloc, first, second, &IN_ONE))
+        && are_refused(refused_heaps(alloc, first, second, &IN_TWO))
+        && second.root() == ROOT_IN_ONE
+        && has_version(second, 4)
+}
+
+#[derive(Clone, Copy)]
+struct EachGrowth;
+
+impl Bout for EachGrowth {
+    fn plays<'a, R: Abort + AllocGlobal + Threads + Wait + Sync>(
+        &self,
+        rt: &R,
+        first: Pass<'a, Global>,
+        second: &mut Pass<'a, Global>,
+    ) -> bool {
+        let mut first = first;
+        run(rt, &mut first, second, PUT_BOTH);
+        grows(rt.alloc(), &mut first, second)
+    }
+}
+
 #[test]
 fn each_growth_of_a_migration_is_refused(rt: HostRuntime) {
-    let (store, seats) = opened(&rt, rt.alloc(), SMALL);
-    let (mut first, mut second) = both_passes(&rt, rt.alloc(), &store, seats);
-    run(&rt, &mut first, &mut second, PUT_BOTH);
-    for kept in [IN_ONE, IN_TWO] {
-        let refused = refused_heaps(rt.alloc(), &mut first, &mut second, &kept);
-        assert!(rt; matches!(refused, Some(count) if 2 < count));
+    play(&rt, SMALL, &EachGrowth);
+}
+
+// Whether a migration finds no memory in this heap, but to the format that stands.
+fn needs_none<A: Allocator + Copy>(
+    first: &mut Pass<A>,
+    second: &mut Pass<A>,
+    heap: &LocalHeap,
+) -> bool {
+    let refused = MigrateFault::Memory(Memory::from(AllocError));
+    puts(first, b"1", b"a", None)
+        && migration_fails(second, heap, Two, refused)
+        && migrates(second, heap, One, One)
+        && has_version(first, 2)
+        && first.format() == One
+}
+
+#[derive(Clone, Copy)]
+struct ToTheSame;
+
+impl FullBout for ToTheSame {
+    fn plays<'a, A: Allocator + Copy, R: Abort + AllocGlobal + Wait>(
+        &self,
+        _rt: &R,
+        heap: &LocalHeap,
+        first: Pass<'a, A>,
+        second: &mut Pass<'a, A>,
+    ) -> bool {
+        let mut first = first;
+        needs_none(&mut first, second, heap)
     }
-    assert!(rt; second.root() == ROOT_IN_ONE && has_version(&mut second, 4));
 }
 
 // Over a full heap a migration finds no memory, but to the format that stands.
 #[test]
 fn to_the_format_that_stands_no_memory_is_taken(rt: HostRuntime) {
-    let heap = heap_of(&rt, AMPLE);
-    let (store, seats) = opened(&rt, &heap, SMALL);
-    let (mut first, mut second) = both_passes(&rt, &heap, &store, seats);
-    assert!(rt; puts(&mut first, b"1", b"a", None));
-    let blocks = fill(&rt, &heap);
-    assert!(rt; is_full(&heap) && !blocks.is_empty());
-    let refused = MigrateFault::Memory(Memory::from(AllocError));
-    assert!(rt; migration_fails(&mut second, &heap, Two, refused));
-    assert!(rt; migrates(&mut second, &heap, One, One));
-    assert!(rt; has_version(&mut first, 2) && first.format() == One);
+    play_full(&rt, &ToTheSame);
 }

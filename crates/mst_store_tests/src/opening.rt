@@ -3,6 +3,7 @@ ghost use Rattle.std.specs.Prelude.{◌≡◌};
 
 use crate::calls::Call::{Get, Put};
 use crate::calls::{Step, run};
+use crate::confirming::{confirm, confirm_at};
 use crate::stores::{SMALL, both_passes, heap_of, opened};
 use mst_store::{Format, OpenFault, Seats, Shape, Store};
 use std::alloc::Global;
@@ -43,10 +44,7 @@ fn shapes_are_tested_before_memory(rt: HostRuntime) {
             passes: *passes,
             format: Format::One,
         };
-        assert!(rt;
-            is_tested(&rt, shape, *for_memory),
-            "{rows} rows, {passes} passes"
-        );
+        confirm_at(&rt, is_tested(&rt, shape, *for_memory), *rows as usize);
     }
 }
 
@@ -57,7 +55,8 @@ fn opens_in(rt: &(impl Abort + AllocGlobal), bytes: usize) -> bool {
     match Store::open(&heap, SMALL) {
         Ok(_) => true,
         Err(fault) => {
-            assert!(rt; matches!(fault, OpenFault::Memory(_)) && heap.used() == 0);
+            let memory = matches!(fault, OpenFault::Memory(_));
+            confirm(rt, memory && heap.used() == 0, "nothing is kept");
             false
         }
     }
@@ -70,10 +69,8 @@ fn each_growth_of_open_is_refused_in_turn(rt: HostRuntime) {
     let mut refused = 0u32;
     for step in 1..512usize {
         if !opens_in(&rt, step * 16) {
-            assert!(rt;
-                refused as usize == step - 1,
-                "once opened, a larger heap serves too"
-            );
+            // once opened, a larger heap serves too
+            confirm_at(&rt, refused as usize == step - 1, step);
             refused = step as u32;
         }
     }

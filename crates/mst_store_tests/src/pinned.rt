@@ -1,17 +1,19 @@
 //! Passes that keep a pin: each reads its version while others write.
+use crate::answers::{counts, has_version, still_gets};
+use crate::bouts::{Bout, play};
 use crate::calls::Call::{
     Get, LetGo, Next, NoMemory, Number, OtherRoot, Pairs, Pin, Proof, Put, PutInVain, PutMany,
     Remove, Root, Rows, Unpin, Version,
 };
-use crate::calls::{Step, run, script};
-use crate::fixtures::{
-    PROOF_OF_BOTH, ROOT_OF_BOTH, ROOT_OF_NONE, counts, puts, puts_many, still_gets,
-};
-use crate::stores::{SMALL, both_passes, opened};
+use crate::calls::{Step, script};
+use crate::fixtures::{PROOF_OF_BOTH, ROOT_OF_BOTH, ROOT_OF_NONE};
+use crate::stores::SMALL;
+use crate::writes::{puts, puts_many};
 use mst_store::{Format, Pass, Pinned, Shape};
 use std::alloc::Global;
 use std::process::Abort;
-use std::thread::join;
+use std::sync::Wait;
+use std::thread::{Threads, join};
 
 #[test]
 fn a_new_store_is_read_as_the_empty_map(rt: HostRuntime) {
@@ -115,24 +117,30 @@ fn stays<'a>(pass: Pass<'a, Global>, other: &mut Pass<Global>) -> (Pass<'a, Glob
     (pinned.unpin(), right)
 }
 
+#[derive(Clone, Copy)]
+struct LongPin;
+
+impl Bout for LongPin {
+    fn plays<'a, R: Abort + AllocGlobal + Threads + Wait + Sync>(
+        &self,
+        _rt: &R,
+        first: Pass<'a, Global>,
+        second: &mut Pass<'a, Global>,
+    ) -> bool {
+        let put = puts(second, b"a", b"1", None);
+        let (mut first, right) = stays(first, second);
+        put && right && has_version(&mut first, 1_001) && counts(&mut first, Some(2))
+    }
+}
+
 #[test]
 fn a_long_pin_keeps_its_version_and_no_more(rt: HostRuntime) {
-    const PUT: &[Step] = &[(1, Put(b"a", b"1", None))];
-    const AFTER: &[Step] = &[(1, Version(1_001)), (1, Rows(Some(2)))];
-    let (store, seats) = opened(
-        &rt,
-        rt.alloc(),
-        Shape {
-            rows: 6,
-            passes: 2,
-            format: Format::One,
-        },
-    );
-    let (mut first, mut second) = both_passes(&rt, rt.alloc(), &store, seats);
-    run(&rt, &mut first, &mut second, PUT);
-    let (mut first, right) = stays(first, &mut second);
-    assert!(rt; right);
-    run(&rt, &mut first, &mut second, AFTER);
+    const SIX: Shape = Shape {
+        rows: 6,
+        passes: 2,
+        format: Format::One,
+    };
+    play(&rt, SIX, &LongPin);
 }
 
 #[test]
@@ -148,18 +156,30 @@ fn a_pinned_pass_that_is_dropped_holds_its_rows(rt: HostRuntime) {
     script(&rt, 6, &[STEPS]);
 }
 
+#[derive(Clone, Copy)]
+struct BesidePuts;
+
+impl Bout for BesidePuts {
+    fn plays<'a, R: Abort + AllocGlobal + Threads + Wait + Sync>(
+        &self,
+        rt: &R,
+        first: Pass<'a, Global>,
+        second: &mut Pass<'a, Global>,
+    ) -> bool {
+        let put = puts(second, b"a", b"1", None);
+        let mut pinned = first.pin();
+        let (wrote, read) = join(
+            rt,
+            || -> bool { puts_many(second) },
+            || -> bool { reads_on(&mut pinned) },
+        );
+        put && wrote && read
+    }
+}
+
 #[test]
 fn a_pinned_pass_reads_in_a_thread_while_another_puts(rt: HostRuntime) {
-    let (store, seats) = opened(&rt, rt.alloc(), SMALL);
-    let (mut first, second) = both_passes(&rt, rt.alloc(), &store, seats);
-    assert!(rt; puts(&mut first, b"a", b"1", None));
-    let mut pinned = second.pin();
-    let (wrote, read) = join(
-        &rt,
-        || -> bool { puts_many(&mut first) },
-        || -> bool { reads_on(&mut pinned) },
-    );
-    assert!(rt; wrote && read);
+    play(&rt, SMALL, &BesidePuts);
 }
 
 // Whether the pinned version keeps its value through many reads.

@@ -1,30 +1,13 @@
 //! What reads answer: ranges, the next key, the root digest.
-use crate::calls::Call::{Next, Pairs, Put, Remove, Root, Version};
-use crate::calls::{Step, run, script};
+use crate::calls::Call::{BothPairs, Next, Pairs, Put, Remove, Root, Version};
+use crate::calls::{Step, script};
 use crate::fixtures::{ROOT_OF_BOTH, ROOT_OF_NONE};
-use crate::stores::{SMALL, both_passes, opened};
-use mst_key::{Key, Value};
-use mst_store::Pass;
-use std::alloc::{Allocator, Global};
-use std::process::Abort;
-
-// Whether a pair has these bytes.
-fn is_pair(pair: &(Key, Value), key: &[u8], value: &[u8]) -> bool {
-    pair.0.bytes() == key && pair.1.bytes() == value
-}
-
-// Whether all pairs are a with 1 and abc with x.
-fn has_both<A: Allocator + Copy>(pass: &mut Pass<A>, alloc: Global) -> bool {
-    let Ok(all) = pass.range(alloc, None, None, 10) else {
-        return false;
-    };
-    all.len() == 2 && is_pair(&all[0], b"a", b"1") && is_pair(&all[1], b"abc", b"x")
-}
 
 #[test]
 fn ranges_are_in_the_order_of_keys(rt: HostRuntime) {
     const PUTS: &[Step] = &[(2, Put(b"abc", b"x", None)), (2, Put(b"a", b"1", None))];
     const RANGES: &[Step] = &[
+        (2, BothPairs),
         (2, Pairs(None, None, 1, 1)),
         (2, Pairs(None, None, 0, 0)),
         (2, Pairs(Some(b"a"), Some(b"abc"), 10, 1)),
@@ -32,11 +15,7 @@ fn ranges_are_in_the_order_of_keys(rt: HostRuntime) {
         (2, Pairs(Some(b"abc"), None, 10, 1)),
         (2, Pairs(Some(b"b"), None, 10, 0)),
     ];
-    let (store, seats) = opened(&rt, rt.alloc(), SMALL);
-    let (mut first, mut second) = both_passes(&rt, rt.alloc(), &store, seats);
-    run(&rt, &mut first, &mut second, PUTS);
-    assert!(rt; has_both(&mut second, rt.alloc()));
-    run(&rt, &mut first, &mut second, RANGES);
+    script(&rt, 8, &[PUTS, RANGES]);
 }
 
 #[test]

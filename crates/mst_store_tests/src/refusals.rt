@@ -1,4 +1,5 @@
 //! The text of each refusal.
+use crate::confirming::confirm;
 use mst_store::{
     ApplyFault, BatchFault, Busy, ChangeFault, Memory, MigrateFault, OpenFault, WriteFault,
 };
@@ -12,9 +13,24 @@ fn says<T: Display>(rt: &impl Abort, alloc: Global, fault: &T, text: &str) -> bo
     printed.as_str() == text
 }
 
+/// Each of these refusals prints its text.
+fn all_say<T: Display>(rt: &impl Abort, alloc: Global, faults: &[(T, &str)]) {
+    for (fault, text) in faults {
+        confirm(rt, says(rt, alloc, fault, text), text);
+    }
+}
+
+/// Whether the refusals that no table has print their texts.
+fn others_say(rt: &impl Abort, alloc: Global, refused: Memory) -> bool {
+    const SHAPE: &str = "a store has 4 to 65535 rows and 1 to 32 passes";
+    says(rt, alloc, &OpenFault::Shape, SHAPE)
+        && says(rt, alloc, &OpenFault::Memory(refused), "no memory")
+        && says(rt, alloc, &MigrateFault::Memory(refused), "no memory")
+        && says(rt, alloc, &Busy, "another pass has the turn")
+}
+
 #[test]
 fn each_refusal_has_its_text(rt: HostRuntime) {
-    const SHAPE: &str = "a store has 4 to 65535 rows and 1 to 32 passes";
     const WRITES: &[(WriteFault, &str)] = &[
         (WriteFault::Busy, "another pass has the turn"),
         (WriteFault::VersionsSpent, "version numbers are spent"),
@@ -29,20 +45,10 @@ fn each_refusal_has_its_text(rt: HostRuntime) {
         (MigrateFault::VersionsSpent, "version numbers are spent"),
         (MigrateFault::NoRoom, "no room"),
     ];
-    let refused = Memory::from(AllocError);
-    assert!(rt; says(&rt, rt.alloc(), &OpenFault::Shape, SHAPE));
-    assert!(rt; says(&rt, rt.alloc(), &OpenFault::Memory(refused), "no memory"));
-    assert!(rt; says(&rt, rt.alloc(), &MigrateFault::Memory(refused), "no memory"));
-    for (fault, text) in WRITES {
-        assert!(rt; says(&rt, rt.alloc(), fault, text), "{text}");
-    }
-    for (fault, text) in CHANGES {
-        assert!(rt; says(&rt, rt.alloc(), fault, text), "{text}");
-    }
-    for (fault, text) in MIGRATIONS {
-        assert!(rt; says(&rt, rt.alloc(), fault, text), "{text}");
-    }
-    assert!(rt; says(&rt, rt.alloc(), &Busy, "another pass has the turn"));
+    all_say(&rt, rt.alloc(), WRITES);
+    all_say(&rt, rt.alloc(), CHANGES);
+    all_say(&rt, rt.alloc(), MIGRATIONS);
+    assert!(rt; others_say(&rt, rt.alloc(), Memory::from(AllocError)));
 }
 
 #[test]
@@ -56,13 +62,11 @@ fn each_refusal_of_a_batch_has_its_text(rt: HostRuntime) {
         (BatchFault::VersionsSpent, "version numbers are spent"),
         (BatchFault::NoRoom, "no room"),
     ];
+    all_say(&rt, rt.alloc(), TRIES);
+    all_say(&rt, rt.alloc(), BATCHES);
     let refused = Memory::from(AllocError);
-    assert!(rt; says(&rt, rt.alloc(), &ApplyFault::Memory(refused), "no memory"));
-    assert!(rt; says(&rt, rt.alloc(), &BatchFault::Memory(refused), "no memory"));
-    for (fault, text) in TRIES {
-        assert!(rt; says(&rt, rt.alloc(), fault, text), "{text}");
-    }
-    for (fault, text) in BATCHES {
-        assert!(rt; says(&rt, rt.alloc(), fault, text), "{text}");
-    }
+    assert!(rt;
+        says(&rt, rt.alloc(), &ApplyFault::Memory(refused), "no memory")
+            && says(&rt, rt.alloc(), &BatchFault::Memory(refused), "no memory")
+    );
 }

@@ -1,7 +1,10 @@
 //! Scripts of puts, removes and migrations, over the store and over a plain list.
-use crate::fixtures::{has_root, is_value, key, value, write};
+use crate::answers::has_root;
+use crate::confirming::{confirm, confirm_at};
+use crate::fixtures::{is_value, key, value};
 use crate::plain_list::PlainList;
 use crate::stores::{dealt, opened};
+use crate::writes::write;
 use mst_key::{Format, Key, Value};
 use mst_store::{MigrateFault, Pass, Shape, WriteFault};
 use std::alloc::Global;
@@ -10,9 +13,14 @@ use std::process::Abort;
 /// How many random calls a test makes.
 const CALLS: u32 = 3_000;
 
-/// Whether the pass finds at the key what the list has there.
-fn gets_as(pass: &mut Pass<Global>, key: &Key, list: &PlainList) -> bool {
-    pass.get(key) == list.get(key)
+/// Whether the map has the list's root digest, and at the key what the list has there.
+fn stands_as(
+    rt: &(impl Abort + AllocGlobal),
+    pass: &mut Pass<Global>,
+    key: &Key,
+    list: &PlainList,
+) -> bool {
+    has_root(pass, &list.root(rt, rt.alloc())) && pass.get(key) == list.get(key)
 }
 
 /// How many rows the map takes, if it was counted.
@@ -55,9 +63,10 @@ impl Listed {
     ) {
         let list = self.list.with(rt, rt.alloc(), key, new);
         let cost = list.cost(&self.list);
-        assert!(rt; answer.is_ok() == (self.taken.saturating_add(cost.new) <= self.rows));
+        let fits = self.taken.saturating_add(cost.new) <= self.rows;
+        confirm(rt, answer.is_ok() == fits, "room");
         if let Ok(old) = answer {
-            assert!(rt; *old == self.list.get(key));
+            confirm(rt, *old == self.list.get(key), "the old value");
             self.list = list;
             self.taken = cost.all;
         }
@@ -73,7 +82,7 @@ impl Listed {
         } else {
             Err(MigrateFault::NoRoom)
         };
-        assert!(rt; *answer == wanted);
+        confirm(rt, *answer == wanted, "the format before, or no room");
         if fits {
             self.list = list;
             self.taken = cost.all;
@@ -92,8 +101,7 @@ fn change(
 ) -> Answer {
     let answer = write(pass, key, new);
     listed.follow(rt, key, new, &answer);
-    assert!(rt; has_root(pass, &listed.list.root(rt, rt.alloc())));
-    assert!(rt; gets_as(pass, key, &listed.list));
+    confirm(rt, stands_as(rt, pass, key, &listed.list), "the map");
     answer
 }
 
@@ -107,17 +115,16 @@ fn migrate(
 ) -> Move {
     let answer = pass.try_migrate(rt.alloc(), to);
     listed.follow_move(rt, to, &answer);
-    assert!(rt; has_root(pass, &listed.list.root(rt, rt.alloc())));
-    assert!(rt; pass.format() == listed.list.format());
+    let root = listed.list.root(rt, rt.alloc());
+    let moved = has_root(pass, &root) && pass.format() == listed.list.format();
+    confirm(rt, moved, "the map and its format");
     answer
 }
 
 /// How many rows the map takes, by the store and by the list.
 fn count_rows(rt: &impl Abort, pass: &mut Pass<Global>, listed: &Listed) -> usize {
-    let Some(rows) = rows_of(pass) else {
-        panic!(rt; "no other pass has the turn, and none pins")
-    };
-    assert!(rt; rows as usize == listed.taken);
+    let rows = rows_of(pass).expect(rt, "no other pass has the turn, and none pins");
+    confirm(rt, rows as usize == listed.taken, "the rows of the map");
     rows as usize
 }
 
@@ -152,8 +159,8 @@ fn run_all(rt: &(impl Abort + AllocGlobal), pass: &mut Pass<Global>, rows: u32, 
             None => None,
         };
         let answer = change(rt, pass, &mut listed, &key(rt, bytes), new.as_ref());
-        assert!(rt; is_wanted(&answer, *wanted));
-        assert!(rt; count_rows(rt, pass, &listed) == *taken);
+        let right = is_wanted(&answer, *wanted) && count_rows(rt, pass, &listed) == *taken;
+        confirm_at(rt, right, *taken);
     }
 }
 
@@ -268,9 +275,9 @@ fn random_call(
     state: u64,
 ) -> Outcome {
     let bytes = state.to_be_bytes();
-    let Some(key) = keys.get((state >> 33) as usize % 305) else {
-        panic!(rt; "305 keys")
-    };
+    let key = keys
+        .get((state >> 33) as usize % 305)
+        .expect(rt, "305 keys");
     let Some(pass) = passes.get_mut(usize::from(bytes[1] % 2)) else {
         panic!(rt; "two passes")
     };
@@ -327,15 +334,12 @@ fn call_at_random(
 ) {
     let mut listed = Listed::new(rt.alloc(), shape.rows, shape.format);
     let Counts { refused, moved } = random_calls(rt, passes, &mut listed, seed);
-    assert!(rt;
-        0 < refused && refused < CALLS,
-        "{refused} calls were refused"
-    );
-    assert!(rt; 0 < moved, "no migration went through");
+    confirm_at(rt, 0 < refused && refused < CALLS, refused as usize);
+    confirm(rt, 0 < moved, "no migration went through");
     let Some(pass) = passes.first_mut() else {
         panic!(rt; "two passes")
     };
-    assert!(rt; count_rows(rt, pass, &listed) > 0);
+    confirm(rt, count_rows(rt, pass, &listed) > 0, "the map is empty");
 }
 
 /// Three thousand random calls of two passes of a store of so many rows, which opens in the format,

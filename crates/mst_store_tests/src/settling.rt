@@ -3,7 +3,9 @@ ghost use Rattle.std.specs.Prelude.{◌≡◌};
 ghost use Rattle.mst_store.specs.Passes.{IsSamePass};
 ghost use Rattle.mst_store.specs.Settling.{AreAllPasses};
 
-use crate::fixtures::{ROOT_OF_BOTH, gets, has_root, has_version};
+use crate::answers::{gets, has_root, has_version};
+use crate::confirming::{confirm, confirm_at};
+use crate::fixtures::ROOT_OF_BOTH;
 use crate::stores::{dealt, opened};
 use mst_key::{Format, Key, Value};
 use mst_store::{Pass, Shape, meet, settle};
@@ -40,7 +42,7 @@ fn each_puts_its_number<A: Allocator + Copy>(rt: &impl Abort, passes: &mut [Pass
 {
     for pass in passes.iter_mut() {
         let own = pass.number().to_le_bytes();
-        assert!(rt; adds(pass, &own, b"x"));
+        confirm(rt, adds(pass, &own, b"x"), "a put");
     }
 }
 
@@ -56,9 +58,11 @@ fn gets_all<A: Allocator + Copy>(pass: &mut Pass<A>, numbers: &[u32]) -> bool {
 
 // The passes have these numbers, and each gets what all put.
 fn all_get_all<A: Allocator + Copy>(rt: &impl Abort, passes: &mut [Pass<A>], order: &[u32]) {
-    for (pass, number) in passes.iter_mut().zip(order) {
-        assert!(rt; pass.number() == *number);
-        assert!(rt; gets_all(pass, order));
+    let mut place = 0usize;
+    for pass in passes.iter_mut() {
+        let right = order.get(place) == Some(&pass.number()) && gets_all(pass, order);
+        confirm_at(rt, right, place);
+        place = place.wrapping_add(1);
     }
 }
 
@@ -141,7 +145,7 @@ fn each_puts_its_pair(rt: &impl Abort, passes: &mut [Pass<Global>])
     ensures whole { AreAllPasses passes.new }
 {
     for pass in passes.iter_mut() {
-        assert!(rt; adds_its_own(pass));
+        confirm(rt, adds_its_own(pass), "a put");
     }
 }
 
@@ -152,7 +156,8 @@ fn all_have_the_root_of_both(rt: &impl Abort, passes: &mut [Pass<Global>])
     each_puts_its_pair(rt, passes);
     settle_free(passes);
     for pass in passes.iter_mut() {
-        assert!(rt; has_version(pass, 2) && has_root(pass, &ROOT_OF_BOTH));
+        let right = has_version(pass, 2) && has_root(pass, &ROOT_OF_BOTH);
+        confirm(rt, right, "both pairs");
     }
 }
 

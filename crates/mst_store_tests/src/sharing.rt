@@ -1,15 +1,17 @@
 //! What one pass writes the others read, one after another and in two threads.
+use crate::bouts::{Bout, play};
 use crate::calls::Call::{Get, InFormat, Next, Number, Put, Remove, Rows, Version};
-use crate::calls::{Step, run};
-use crate::fixtures::{key, migrates, other, puts};
-use crate::stores::{SMALL, both_passes, opened};
+use crate::calls::{Step, run, script};
+use crate::fixtures::{key, other};
+use crate::stores::SMALL;
+use crate::writes::{migrates, puts};
 use mst_key::{Key, Value};
 use mst_store::Format::{One, Two};
 use mst_store::{Format, MigrateFault, Pass, Shape, WriteFault};
 use std::alloc::{Allocator, Global};
 use std::process::Abort;
 use std::sync::Wait;
-use std::thread::join;
+use std::thread::{Threads, join};
 
 #[test]
 fn passes_share_a_map(rt: HostRuntime) {
@@ -28,10 +30,7 @@ fn passes_share_a_map(rt: HostRuntime) {
         (1, Remove(b"abc", Some(b""))),
         (2, Next(None, None)),
     ];
-    let (store, seats) = opened(&rt, rt.alloc(), SMALL);
-    let (mut first, mut second) = both_passes(&rt, rt.alloc(), &store, seats);
-    assert!(rt; store.passes() == 2);
-    run(&rt, &mut first, &mut second, STEPS);
+    script(&rt, 8, &[STEPS]);
 }
 
 // Whether each of a hundred puts of one pass and of the other, in turns, goes through, and after
@@ -60,16 +59,33 @@ fn write_in_turns<A: Allocator + Copy>(
 }
 
 // Two passes of a store that opens in the format write in turns; then they answer so.
-fn in_turns(rt: &(impl Abort + AllocGlobal + Wait), format: Format, after: &[Step]) {
-    let shape = Shape {
+#[derive(Clone, Copy)]
+struct InTurns {
+    format: Format,
+    after: &'static [Step],
+}
+
+impl Bout for InTurns {
+    fn plays<'a, R: Abort + AllocGlobal + Threads + Wait + Sync>(
+        &self,
+        rt: &R,
+        first: Pass<'a, Global>,
+        second: &mut Pass<'a, Global>,
+    ) -> bool {
+        let mut first = first;
+        let right = write_in_turns(rt.alloc(), &mut first, second, self.format);
+        run(rt, &mut first, second, self.after);
+        right
+    }
+}
+
+// The shape of a small store that opens in the format.
+fn small_in(format: Format) -> Shape {
+    Shape {
         rows: 8,
         passes: 2,
         format,
-    };
-    let (store, seats) = opened(rt, rt.alloc(), shape);
-    let (mut first, mut second) = both_passes(rt, rt.alloc(), &store, seats);
-    assert!(rt; write_in_turns(rt.alloc(), &mut first, &mut second, format));
-    run(rt, &mut first, &mut second, after);
+    }
 }
 
 // In format 2 the key b has layer 1 and stands above a. The format changes an odd number of times.
@@ -77,8 +93,16 @@ fn in_turns(rt: &(impl Abort + AllocGlobal + Wait), format: Format, after: &[Ste
 fn passes_that_write_in_turns_are_never_refused(rt: HostRuntime) {
     const FROM_ONE: &[Step] = &[(1, Version(225)), (1, InFormat(Two)), (2, Rows(Some(4)))];
     const FROM_TWO: &[Step] = &[(1, Version(225)), (1, InFormat(One)), (2, Rows(Some(3)))];
-    in_turns(&rt, One, FROM_ONE);
-    in_turns(&rt, Two, FROM_TWO);
+    const FIRST: InTurns = InTurns {
+        format: One,
+        after: FROM_ONE,
+    };
+    const SECOND: InTurns = InTurns {
+        format: Two,
+        after: FROM_TWO,
+    };
+    play(&rt, small_in(One), &FIRST);
+    play(&rt, small_in(Two), &SECOND);
 }
 
 // Migrates to the format until it goes through, and returns whether it did.
@@ -120,26 +144,41 @@ fn put_all(alloc: Global, pass: &mut Pass<Global>, key: &Key) -> bool {
     true
 }
 
+// What two threads are to leave.
+const LAST: &[Step] = &[
+    (1, Get(b"a", Some(&[99]))),
+    (1, Get(b"b", Some(&[99]))),
+    (2, Get(b"a", Some(&[99]))),
+    (2, Get(b"b", Some(&[99]))),
+    // a hundred puts and ten migrations of each
+    (1, Version(220)),
+    (2, InFormat(One)),
+    (2, Rows(Some(3))),
+];
+
+#[derive(Clone, Copy)]
+struct InTwoThreads;
+
+impl Bout for InTwoThreads {
+    fn plays<'a, R: Abort + AllocGlobal + Threads + Wait + Sync>(
+        &self,
+        rt: &R,
+        first: Pass<'a, Global>,
+        second: &mut Pass<'a, Global>,
+    ) -> bool {
+        let mut first = first;
+        let (a, b, alloc) = (key(rt, b"a"), key(rt, b"b"), rt.alloc());
+        let (one, other) = join(
+            rt,
+            || -> bool { put_all(alloc, &mut first, &a) },
+            || -> bool { put_all(alloc, second, &b) },
+        );
+        run(rt, &mut first, second, LAST);
+        one && other
+    }
+}
+
 #[test]
 fn passes_in_two_threads_share_a_map(rt: HostRuntime) {
-    const LAST: &[Step] = &[
-        (1, Get(b"a", Some(&[99]))),
-        (1, Get(b"b", Some(&[99]))),
-        (2, Get(b"a", Some(&[99]))),
-        (2, Get(b"b", Some(&[99]))),
-        // a hundred puts and ten migrations of each
-        (1, Version(220)),
-        (2, InFormat(One)),
-        (2, Rows(Some(3))),
-    ];
-    let (store, seats) = opened(&rt, rt.alloc(), SMALL);
-    let (mut first, mut second) = both_passes(&rt, rt.alloc(), &store, seats);
-    let (a, b, alloc) = (key(&rt, b"a"), key(&rt, b"b"), rt.alloc());
-    let (one, other) = join(
-        &rt,
-        || -> bool { put_all(alloc, &mut first, &a) },
-        || -> bool { put_all(alloc, &mut second, &b) },
-    );
-    assert!(rt; one && other);
-    run(&rt, &mut first, &mut second, LAST);
+    play(&rt, SMALL, &InTwoThreads);
 }

@@ -1,5 +1,6 @@
 //! Reads in heaps that are too small for their answers.
-use crate::fixtures::{PROOF_OF_BOTH, bound};
+use crate::answers::bound;
+use crate::fixtures::PROOF_OF_BOTH;
 use linked_list_allocator::LocalHeap;
 use mst_key::Key;
 use mst_store::{Pass, Pinned};

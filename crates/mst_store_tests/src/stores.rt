@@ -18,10 +18,7 @@ pub(crate) const AMPLE: usize = 16_384;
 
 /// A heap of so many bytes.
 pub(crate) fn heap_of(rt: &(impl Abort + AllocGlobal), bytes: usize) -> LocalHeap {
-    let Ok(heap) = LocalHeap::new(rt.alloc(), bytes) else {
-        panic!(rt; "no memory")
-    };
-    heap
+    LocalHeap::new(rt.alloc(), bytes).expect(rt, "memory")
 }
 
 /// Takes what is left of the heap, in blocks of the least size.
@@ -34,9 +31,7 @@ pub(crate) fn fill<'h>(
         let Ok(block) = Vec::with_capacity(heap, 1) else {
             return blocks;
         };
-        if blocks.push(block).is_err() {
-            panic!(rt; "no memory")
-        }
+        blocks.push(block).expect(rt, "memory");
     }
     blocks
 }
@@ -54,10 +49,7 @@ pub(crate) fn opened<A: Allocator + Copy>(
 ) -> (Store<A>, Seats<A>)
     ensures own { result.1 ≡ result.0 }
 {
-    let Ok(opened) = Store::open(alloc, shape) else {
-        panic!(rt; "no memory")
-    };
-    opened
+    Store::open(alloc, shape).expect(rt, "memory")
 }
 
 /// The passes of a store.

@@ -28,9 +28,7 @@ fn opened<A: Allocator + Copy>(alloc: A) -> Result<(Board<A>, Token<A>), Memory>
 
 #[test]
 fn a_pass_pins_the_first_record(rt: HostRuntime) {
-    let Ok((board, mut dealer)) = opened(rt.alloc()) else {
-        panic!(rt; "no memory")
-    };
+    let (board, mut dealer) = opened(rt.alloc()).expect(&rt, "memory");
     let mut first = board.deal(&mut dealer);
     let record = first.pin(1);
     assert!(rt; record == 0);
@@ -42,9 +40,7 @@ fn a_pass_pins_the_first_record(rt: HostRuntime) {
 
 #[test]
 fn one_pass_has_the_turn(rt: HostRuntime) {
-    let Ok((board, mut dealer)) = opened(rt.alloc()) else {
-        panic!(rt; "no memory")
-    };
+    let (board, mut dealer) = opened(rt.alloc()).expect(&rt, "memory");
     let mut first = board.deal(&mut dealer);
     let mut second = board.deal(&mut dealer);
     assert!(rt; second.take_turn(2));
@@ -58,9 +54,7 @@ fn one_pass_has_the_turn(rt: HostRuntime) {
 
 #[test]
 fn records_that_nobody_pins_are_drained(rt: HostRuntime) {
-    let Ok((board, mut dealer)) = opened(rt.alloc()) else {
-        panic!(rt; "no memory")
-    };
+    let (board, mut dealer) = opened(rt.alloc()).expect(&rt, "memory");
     let mut first = board.deal(&mut dealer);
     let mut second = board.deal(&mut dealer);
     assert!(rt; first.pin(1) == 0);
@@ -75,9 +69,7 @@ fn records_that_nobody_pins_are_drained(rt: HostRuntime) {
 
 #[test]
 fn the_holder_of_the_turn_writes_a_row(rt: HostRuntime) {
-    let Ok((board, mut dealer)) = opened(rt.alloc()) else {
-        panic!(rt; "no memory")
-    };
+    let (board, mut dealer) = opened(rt.alloc()).expect(&rt, "memory");
     let mut first = board.deal(&mut dealer);
     assert!(rt; first.take_turn(1));
     let mut desk = first.take_desk();
@@ -97,9 +89,7 @@ fn the_holder_of_the_turn_writes_a_row(rt: HostRuntime) {
 
 #[test]
 fn a_note_is_heard_and_seen(rt: HostRuntime) {
-    let Ok((board, mut dealer)) = opened(rt.alloc()) else {
-        panic!(rt; "no memory")
-    };
+    let (board, mut dealer) = opened(rt.alloc()).expect(&rt, "memory");
     let mut first = board.deal(&mut dealer);
     let mut second = board.deal(&mut dealer);
     first.see_all();
@@ -142,9 +132,7 @@ fn each_growth_of_open_is_refused_in_turn(rt: HostRuntime) {
 
 #[test]
 fn the_words_say_who_pins_a_record(rt: HostRuntime) {
-    let Ok((board, mut dealer)) = opened(rt.alloc()) else {
-        panic!(rt; "no memory")
-    };
+    let (board, mut dealer) = opened(rt.alloc()).expect(&rt, "memory");
     let mut first = board.deal(&mut dealer);
     let mut second = board.deal(&mut dealer);
     assert!(rt; second.pins(0) == 0 && second.pins(1) == 0);

@@ -1,15 +1,18 @@
 //! Writes that wait for the turn: what they answer, in one thread and in two.
+use crate::bouts::{FullBout, play_full};
 use crate::calls::Call::{
     Get, InTurnInVain, Number, Pin, Put, PutInTurn, RemoveInTurn, Root, Rows, Unpin, Version,
 };
 use crate::calls::{Step, run, script};
 use crate::fixtures::{ROOT_OF_NONE, key};
-use crate::stores::{AMPLE, SMALL, both_passes, dealt, fill, heap_of, opened};
+use crate::stores::{both_passes, opened};
+use linked_list_allocator::LocalHeap;
 use mst_key::{Format, Key, Value};
 use mst_store::{Pass, Shape};
-use std::alloc::Global;
+use std::alloc::{Allocator, Global};
+use std::process::Abort;
 use std::sync::Wait;
-use std::thread::join;
+use std::thread::{Threads, join};
 
 #[test]
 fn a_remove_in_turn_answers_the_old_value(rt: HostRuntime) {
@@ -64,13 +67,30 @@ fn put_and_remove_all(rt: &impl Wait, pass: &mut Pass<Global>, key: &Key) -> boo
     true
 }
 
+// What two threads are to leave.
+const AFTER: &[Step] = &[
+    (1, Root(ROOT_OF_NONE)),
+    (2, Root(ROOT_OF_NONE)),
+    (1, Version(400)),
+];
+
+// Whether all writes of two threads go through.
+fn both_write<R: Threads + Wait + Sync>(
+    rt: &R,
+    first: &mut Pass<Global>,
+    second: &mut Pass<Global>,
+    (a, b): (&Key, &Key),
+) -> bool {
+    let (one, other) = join(
+        rt,
+        || -> bool { put_and_remove_all(rt, first, a) },
+        || -> bool { put_and_remove_all(rt, second, b) },
+    );
+    one && other
+}
+
 #[test]
 fn writes_in_turn_of_two_threads_all_go_through(rt: HostRuntime) {
-    const AFTER: &[Step] = &[
-        (1, Root(ROOT_OF_NONE)),
-        (2, Root(ROOT_OF_NONE)),
-        (1, Version(400)),
-    ];
     let shape = Shape {
         rows: 16,
         passes: 2,
@@ -79,31 +99,37 @@ fn writes_in_turn_of_two_threads_all_go_through(rt: HostRuntime) {
     let (store, seats) = opened(&rt, rt.alloc(), shape);
     let (mut first, mut second) = both_passes(&rt, rt.alloc(), &store, seats);
     let (a, b) = (key(&rt, b"a"), key(&rt, b"b"));
-    let (one, other) = join(
-        &rt,
-        || -> bool { put_and_remove_all(&rt, &mut first, &a) },
-        || -> bool { put_and_remove_all(&rt, &mut second, &b) },
-    );
-    assert!(rt; one && other);
+    assert!(rt; both_write(&rt, &mut first, &mut second, (&a, &b)));
     run(&rt, &mut first, &mut second, AFTER);
+}
+
+// Writes in turn over a full heap.
+const OVER_A_FULL_HEAP: &[Step] = &[
+    (1, Number(1)),
+    (1, PutInTurn(b"a", b"1")),
+    (1, RemoveInTurn(b"a", Some(b"1"))),
+    (1, Root(ROOT_OF_NONE)),
+    (1, Version(2)),
+];
+
+#[derive(Clone, Copy)]
+struct OverAFullHeap;
+
+impl FullBout for OverAFullHeap {
+    fn plays<'a, A: Allocator + Copy, R: Abort + AllocGlobal + Wait>(
+        &self,
+        rt: &R,
+        _heap: &LocalHeap,
+        first: Pass<'a, A>,
+        second: &mut Pass<'a, A>,
+    ) -> bool {
+        let mut first = first;
+        run(rt, &mut first, second, OVER_A_FULL_HEAP);
+        true
+    }
 }
 
 #[test]
 fn writes_in_turn_take_no_memory(rt: HostRuntime) {
-    const STEPS: &[Step] = &[
-        (1, Number(1)),
-        (1, PutInTurn(b"a", b"1")),
-        (1, RemoveInTurn(b"a", Some(b"1"))),
-        (1, Root(ROOT_OF_NONE)),
-        (1, Version(2)),
-    ];
-    let heap = heap_of(&rt, AMPLE);
-    let (store, seats) = opened(&rt, &heap, SMALL);
-    let mut passes = dealt(&rt, &heap, &store, seats);
-    let blocks = fill(&rt, &heap);
-    let (Some(mut second), Some(mut first)) = (passes.pop(), passes.pop()) else {
-        panic!(rt; "two passes")
-    };
-    assert!(rt; blocks.len() > 0 && store.passes() == 2);
-    run(&rt, &mut first, &mut second, STEPS);
+    play_full(&rt, &OverAFullHeap);
 }

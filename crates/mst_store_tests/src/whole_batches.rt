@@ -1,7 +1,8 @@
 //! Threads that make batches and migrate, beside others that pin: each sees all edits of a batch or
 //! none.
-use crate::fixtures::{Spelt, edits_of, key};
+use crate::fixtures::key;
 use crate::stores::{dealt, opened};
+use crate::writes::{Spelt, edits_of};
 use mst_key::{Edit, Key, Value};
 use mst_store::Format::{One, Two};
 use mst_store::{Format, MigrateFault, Pass, Pinned, Shape};
@@ -158,43 +159,71 @@ fn both_read<'a, R: Threads + Wait + Sync>(
     one && other
 }
 
+// Whether all batches of two threads go through.
+fn both_apply<R: Threads + Wait + Sync>(
+    rt: &R,
+    alloc: Global,
+    first: &mut Pass<Global>,
+    second: &mut Pass<Global>,
+    work: &Work,
+) -> bool {
+    let (one, other) = join(
+        rt,
+        || -> bool { applies_in_turns(rt, alloc, first, &work.one, &work.none) },
+        || -> bool { applies_in_turns(rt, alloc, second, &work.other, &work.one) },
+    );
+    one && other
+}
+
+// What a thread that migrates and two that read came to.
+fn others_run<'a, R: Threads + Wait + Sync>(
+    rt: &R,
+    alloc: Global,
+    mover: &mut Pass<Global>,
+    (first, second): (Pass<'a, Global>, Pass<'a, Global>),
+    keys: &[Key],
+) -> bool {
+    let (moved, read) = join(
+        rt,
+        || -> bool { moves_to_and_fro(rt, alloc, mover) },
+        || -> bool { both_read(rt, first, second, keys) },
+    );
+    moved && read
+}
+
 // What three threads that write and two that read came to.
-fn all_right<R: Threads + Wait + Sync>(
+fn all_run<'a, R: Threads + Wait + Sync>(
+    rt: &R,
+    alloc: Global,
+    mover: &mut Pass<Global>,
+    (first, second): (&mut Pass<Global>, &mut Pass<Global>),
+    (third, fourth): (Pass<'a, Global>, Pass<'a, Global>),
+    work: &Work,
+) -> bool {
+    let (applied, others) = join(
+        rt,
+        || -> bool { both_apply(rt, alloc, first, second, work) },
+        || -> bool { others_run(rt, alloc, mover, (third, fourth), &work.keys) },
+    );
+    applied && others
+}
+
+// What all threads came to.
+fn all_right<R: Abort + Threads + Wait + Sync>(
     rt: &R,
     alloc: Global,
     passes: Vec<Pass<'_, Global>, Global>,
     work: &Work,
 ) -> bool {
     let mut passes = passes;
-    let (Some(mut mover), Some(mut first), Some(mut second), Some(third), Some(fourth)) = (
-        passes.pop(),
-        passes.pop(),
-        passes.pop(),
-        passes.pop(),
-        passes.pop(),
-    ) else {
-        return false;
-    };
-    let (applied, others) = join(
-        rt,
-        || -> bool {
-            let (one, other) = join(
-                rt,
-                || -> bool { applies_in_turns(rt, alloc, &mut first, &work.one, &work.none) },
-                || -> bool { applies_in_turns(rt, alloc, &mut second, &work.other, &work.one) },
-            );
-            one && other
-        },
-        || -> bool {
-            let (moved, read) = join(
-                rt,
-                || -> bool { moves_to_and_fro(rt, alloc, &mut mover) },
-                || -> bool { both_read(rt, third, fourth, &work.keys) },
-            );
-            moved && read
-        },
-    );
-    applied && others && mover.format() == One && mover.version() == 1_500
+    let mut mover = passes.pop().expect(rt, "five passes");
+    let mut first = passes.pop().expect(rt, "four more");
+    let mut second = passes.pop().expect(rt, "three more");
+    let third = passes.pop().expect(rt, "two more");
+    let fourth = passes.pop().expect(rt, "one more");
+    let writers = (&mut first, &mut second);
+    let right = all_run(rt, alloc, &mut mover, writers, (third, fourth), work);
+    right && mover.format() == One && mover.version() == 1_500
 }
 
 #[test]

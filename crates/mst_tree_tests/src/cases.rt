@@ -2,18 +2,18 @@
 //!
 //! A table that is a constant costs its test's proof next to nothing, and the runner is proved
 //! once.
+use crate::confirming::confirm_at;
 use crate::keys::{edits_are_compared, has_layer, has_sizes, key_is_cloned, value_is_cloned};
 use crate::nodes::{
     has_entries, has_text, is_first, is_text_of_39, numbers_are_rooted, one_gap_is_rooted,
     two_are_rooted,
 };
 use crate::pairs::prints;
-use crate::proving::forged::is_forged;
-use crate::proving::verdicts::{is_verdict_alone, is_verdict_in};
-use crate::reports::{is_key, is_not_hex, is_root, is_said, is_said_behind};
+use crate::reports::is_not_hex;
 use mst_key::{KeySize, Memory, ValueSize};
 use mst_node::NodeFault;
 use mst_proof::ProofFault;
+use mst_sharded_proof::ShardedFault;
 use std::alloc::{AllocError, Global};
 use std::process::Abort;
 
@@ -39,8 +39,9 @@ pub enum Case {
     ValueSizePrints(Text),
     MemoryPrints(Text),
     NodeFaultPrints(Text),
-    /// What a fault of a proof prints.
+    /// What a fault of a proof prints, and one of a proof of a sharded map.
     FaultPrints(ProofFault, Text),
+    ShardedFaultPrints(ShardedFault, Text),
     /// The root digest of the first so many numbers.
     NumbersRoot(u32, Text),
     /// The root digest of a and abc.
@@ -55,55 +56,20 @@ pub enum Case {
     Entries(Text, Option<usize>),
     /// The first text of a proof.
     First(Text, Option<Text>),
-    /// The verdict on a proof: the root digest, the key, the proof and the verdict in words.
-    Verdict(Text, Text, Text, Text),
-    /// The verdict for a key on the first text alone of a proof of two.
-    VerdictAlone(Bytes, Text),
-    /// The verdict for a key on a proof of these texts, whose root is the first one's digest.
-    Forged(Text, &'static [Text], Text),
-    /// What is said of a text for a key, and whether it is a refusal.
-    Said(Text, Bytes, Text, bool),
-    /// What is said, as a refusal, of a text of the largest size and what stands after it.
-    SaidBehind(Bytes, Text),
-    /// Whether a word names a root digest.
-    Root(Text, bool),
-    /// The key that a word names.
-    Key(Text, Option<Bytes>),
     /// Whether so many zeros and what stands after them are said to be no hexadecimal text in a
     /// heap of 64 bytes; `None` if memory is refused.
     NotHex(usize, Bytes, Option<bool>),
 }
 
-/// Whether a question of what is said of a proof has its answer; false for any other question.
-fn reports_hold(rt: &impl Abort, alloc: Global, case: Case) -> bool {
-    match case {
-        Case::Said(key, text, line, refused) => is_said(rt, alloc, key, text, line, refused),
-        Case::SaidBehind(more, line) => is_said_behind(rt, alloc, more, line),
-        Case::Root(word, named) => is_root(word) == named,
-        Case::Key(word, key) => is_key(word, key),
-        Case::NotHex(zeros, more, said) => is_not_hex(rt, alloc, zeros, more) == said,
-        _ => false,
-    }
-}
-
-/// Whether a question of a proof has its answer; others are left to `reports_hold`.
-fn proofs_hold(rt: &impl Abort, alloc: Global, case: Case) -> bool {
-    match case {
-        Case::Verdict(root, key, proof, words) => is_verdict_in(rt, alloc, root, key, proof, words),
-        Case::VerdictAlone(key, words) => is_verdict_alone(rt, alloc, key, words),
-        Case::Forged(key, texts, words) => is_forged(rt, alloc, key, texts, words),
-        other => reports_hold(rt, alloc, other),
-    }
-}
-
-/// Whether a question of a text has its answer; others are left to `proofs_hold`.
+/// Whether a question of a text has its answer; false for any other question.
 fn texts_hold(rt: &impl Abort, alloc: Global, case: Case) -> bool {
     match case {
         Case::ThreeText(digits) => has_text(rt, alloc, digits),
         Case::NodeOf39(digits) => is_text_of_39(rt, alloc, digits),
         Case::Entries(text, count) => has_entries(rt, alloc, text, count),
         Case::First(proof, text) => is_first(rt, alloc, proof, text),
-        other => proofs_hold(rt, alloc, other),
+        Case::NotHex(zeros, more, said) => is_not_hex(rt, alloc, zeros, more) == said,
+        _ => false,
     }
 }
 
@@ -125,6 +91,7 @@ fn prints_hold(rt: &impl Abort, alloc: Global, case: Case) -> bool {
         Case::MemoryPrints(text) => prints(rt, alloc, &Memory::from(AllocError), text),
         Case::NodeFaultPrints(text) => prints(rt, alloc, &NodeFault, text),
         Case::FaultPrints(fault, text) => prints(rt, alloc, &fault, text),
+        Case::ShardedFaultPrints(fault, text) => prints(rt, alloc, &fault, text),
         other => roots_hold(rt, alloc, other),
     }
 }
@@ -144,6 +111,6 @@ fn holds(rt: &impl Abort, alloc: Global, case: Case) -> bool {
 /// Asks each question, and ends the test at the first that does not have its answer.
 pub fn ask(rt: &(impl Abort + AllocGlobal), cases: &[Case]) {
     for (place, case) in cases.iter().enumerate() {
-        assert!(rt; holds(rt, rt.alloc(), *case), "case {place}");
+        confirm_at(rt, holds(rt, rt.alloc(), *case), place);
     }
 }

@@ -1,4 +1,5 @@
 //! Heaps with little or no memory left.
+use crate::confirming::confirm;
 use linked_list_allocator::LocalHeap;
 use std::alloc::Global;
 use std::process::Abort;
@@ -32,7 +33,7 @@ pub fn heap_of(rt: &impl Abort, alloc: Global, bytes: usize) -> LocalHeap {
 /// Whether something was made in the heap. What was found is `None` if memory was refused for it.
 /// Ends the test if it was made wrongly, or if the heap keeps anything of it.
 pub fn is_made(rt: &impl Abort, heap: &LocalHeap, found: Option<bool>) -> bool {
-    assert!(rt; found != Some(false), "made wrongly");
-    assert!(rt; heap.used() == 0, "nothing is kept");
+    confirm(rt, found != Some(false), "made wrongly");
+    confirm(rt, heap.used() == 0, "nothing is kept");
     found.is_some()
 }

@@ -5,6 +5,7 @@ ghost use Rattle.std.specs.declared.cmp.Ordering.TheVariants.{Less};
 ghost use Rattle.mst_key.specs.Map.{key_cmp};
 
 use crate::cases::{Case, ask};
+use crate::confirming::confirm_at;
 use crate::pairs::{key_of, value_of};
 use mst_key::{Edit, Key, Value};
 use std::alloc::{AllocError, Allocator, Global};
@@ -122,7 +123,7 @@ fn is_order(rt: &impl Abort, alloc: Global, one: &[u8], other: &[u8], order: Ord
 /// Compares the key at a place among the rising ones with each of them.
 fn compare_with_each(rt: &impl Abort, alloc: Global, i: usize, one: &[u8]) {
     for (j, other) in RISING.iter().enumerate() {
-        assert!(rt; is_order(rt, alloc, one, other, i.cmp(&j)), "{i} and {j}");
+        confirm_at(rt, is_order(rt, alloc, one, other, i.cmp(&j)), j);
     }
 }
 

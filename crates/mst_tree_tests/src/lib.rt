@@ -5,6 +5,8 @@
 #[cfg(test)]
 mod cases;
 #[cfg(test)]
+mod confirming;
+#[cfg(test)]
 mod full_heap;
 #[cfg(test)]
 mod heaps;

@@ -1,6 +1,7 @@
 //! Values from another program (Python's hashlib), large lists, texts outside the grammar, and
 //! refused growths.
 use crate::cases::{Case, ask};
+use crate::confirming::confirm;
 use crate::heaps::{heap_of, is_made};
 use crate::pairs::{
     THREE_PAIRS, TWO_PAIRS, are_digits, bytes_of, numbered, pair, root, roots_agree, spelt,
@@ -90,7 +91,7 @@ fn roots_of_65535_pairs(rt: HostRuntime) {
 }
 
 /// The digest of the bytes of a hexadecimal text.
-pub fn digest_of(rt: &impl Abort, alloc: Global, text: &str) -> [u8; 32] {
+fn digest_of(rt: &impl Abort, alloc: Global, text: &str) -> [u8; 32] {
     digest(bytes_of(rt, alloc, text).as_slice())
 }
 
@@ -239,6 +240,6 @@ fn least_units(rt: &impl Abort, alloc: Global, pairs: &[(Key, Value)]) -> usize 
 fn each_growth_is_refused(rt: HostRuntime) {
     let pairs = numbered(&rt, rt.alloc(), 40);
     let least = least_units(&rt, rt.alloc(), pairs.as_slice());
-    assert!(rt; least > 16, "refused before");
-    assert!(rt; least < 2048, "refused with ample memory");
+    confirm(&rt, least > 16, "refused before");
+    confirm(&rt, least < 2048, "refused with ample memory");
 }

@@ -2,6 +2,7 @@
 //! memory is refused for them, the test ends.
 ghost use Rattle.std.specs.Prelude.{◌≤◌, length};
 
+use crate::confirming::few;
 use mst_key::{Key, Memory, Value};
 use mst_node::{build, digest, empty_digest, root_of, text};
 use std::alloc::{Allocator, Global};
@@ -79,7 +80,7 @@ pub fn top<A: Allocator + Copy>(
 
 /// The same in ample memory.
 pub fn top_of(rt: &impl Abort, alloc: Global, pairs: &[(Key, Value)]) -> Option<Vec<u8>> {
-    assert!(rt; pairs.len() <= 65_535);
+    few(rt, pairs);
     top(alloc, pairs).expect(rt, "memory")
 }
 
@@ -90,7 +91,7 @@ pub fn text_of(rt: &impl Abort, alloc: Global, pairs: &[(Key, Value)]) -> Vec<u8
 
 /// The root digest of the list.
 pub fn root(rt: &impl Abort, pairs: &[(Key, Value)]) -> [u8; 32] {
-    assert!(rt; pairs.len() <= 65_535);
+    few(rt, pairs);
     root_of(pairs)
 }
 

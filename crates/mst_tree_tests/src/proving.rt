@@ -1,78 +1,31 @@
-//! Proofs spelt out by hand or by another program (Python's hashlib), forged ones, proofs of larger
-//! maps, and refused growths.
+//! What each fault prints, proofs of larger maps, and refused growths. Transcripts
+//! (`tests/transcripts`) have proofs that are spelt out, and forged ones.
 ghost use Rattle.std.specs.Prelude.{◌≤◌, length};
 ghost use Rattle.mst_key.specs.Map.{IsMap};
 
 mod collisions;
-pub mod forged;
+mod faults;
 mod growths;
 mod maps;
 pub mod sizes;
-pub mod verdicts;
 
+use crate::confirming::{confirm, few};
 use crate::heaps::heap_of;
-use crate::pairs::{are_digits, bytes_of, key_of, prints};
+use crate::pairs::key_of;
 use linked_list_allocator::LocalHeap;
 use mst_key::{Format, Key, Memory, Value};
 use mst_node::{build_in, format_byte, is_map, root_of_in, text_in};
-use mst_proof::{ProofFault, collide_in, verify, verify_in};
+use mst_proof::{collide_in, verify_in};
 use std::alloc::{Allocator, Global};
 use std::cmp::Ordering;
 use std::process::Abort;
 
-/// The root digest of the map of `a` and `abc`, with the values `1` and `x`.
-pub const TWO: &str = "d4a8a9fc55058427163bd8a1f09ca5ec542de1cdaf28df100be5472e47b72503";
-
-/// The proof of that map for any key.
+/// The proof of the map of `a` and `abc`, with the values `1` and `x`, for any key.
 const TWO_PROOF: &str = "0101000000110100000200016101310003616263017800";
 
-/// The root digest of the map of `1`, `39` and `a`, with the values `x`, `y` and `z`.
-const THREE: &str = "373a7faf30fc0998ad7513e8fd54287fac4ef22030d6b13b63a2e861398714ac";
-
-/// The proof of that map for the key `1`.
+/// The proof of the map of `1`, `39` and `a`, with the values `x`, `y` and `z`, for the key `1`.
 pub const THREE_PROOF: &str =
     "01020000004b01010001017dfdf041db1f9c4de0e5e646a376510cfb7c4e47760ef8f74cb3181b74c061e6023339017901d2c0950048c47bae86f8557f6e7357048963954bbb6f1328ea6cc19d8898c5d80000000a01000001000131017800";
-
-/// The digest of these hexadecimal digits.
-fn root_in(rt: &impl Abort, alloc: Global, digits: &str) -> [u8; 32] {
-    let bytes = bytes_of(rt, alloc, digits);
-    *bytes.as_slice().first_chunk::<32>().expect(rt, "a digest")
-}
-
-/// Whether these words say that this value is present.
-fn tell_value(rt: &impl Abort, alloc: Global, words: &str, value: &Value) -> bool {
-    match words.strip_prefix("present ") {
-        Some(digits) => are_digits(rt, alloc, value.bytes(), digits),
-        None => false,
-    }
-}
-
-/// Whether these words say this verdict.
-fn tell(
-    rt: &impl Abort,
-    alloc: Global,
-    words: &str,
-    verdict: &Result<Option<Value>, ProofFault>,
-) -> bool {
-    match verdict {
-        Ok(None) => words == "absent",
-        Ok(Some(value)) => tell_value(rt, alloc, words, value),
-        Err(fault) => prints(rt, alloc, fault, words),
-    }
-}
-
-/// Whether the verdict in words is this one.
-fn is_verdict(
-    rt: &impl Abort,
-    alloc: Global,
-    root: &[u8; 32],
-    key: &[u8],
-    proof: &[u8],
-    words: &str,
-) -> bool {
-    let verdict = verify(root, &key_of(rt, key), proof);
-    tell(rt, alloc, words, &verdict)
-}
 
 /// The text of the top node of the list's tree in a format.
 fn top_in<A: Allocator + Copy>(
@@ -132,7 +85,7 @@ fn push_top(
     proof: &mut Vec<u8>,
     pairs: &[(Key, Value)],
 ) -> bool {
-    assert!(rt; pairs.len() <= 65_535);
+    few(rt, pairs);
     match top_in(alloc, format, pairs).expect(rt, "memory") {
         Some(text) => {
             push_text(rt, proof, text.as_slice());
@@ -236,7 +189,7 @@ fn proves(
     key: &[u8],
     value: Option<&[u8]>,
 ) -> bool {
-    assert!(rt; pairs.len() <= 65_535);
+    few(rt, pairs);
     let root = root_of_in(format, pairs);
     let proof = proof_for(rt, alloc, format, pairs, key);
     is_accepted(format, &root, &key_of(rt, key), proof.as_slice(), value)
@@ -288,11 +241,11 @@ fn collided(
     pairs: &[(Key, Value)],
     (key, proof): (&[u8], &[u8]),
 ) -> Option<Result<bool, Memory>> {
-    assert!(rt; pairs.len() <= 65_535);
+    few(rt, pairs);
     assert!(rt; is_map(pairs));
     let (room, heap) = (heap_of(rt, alloc, room), heap_of(rt, alloc, bytes));
     let key = key_of(rt, key);
     let found = collided_in(&room, &heap, format, pairs, &key, proof);
-    assert!(rt; room.used() == 0 && heap.used() == 0, "nothing is kept");
+    confirm(rt, room.used() == 0 && heap.used() == 0, "nothing is kept");
     found
 }

@@ -81,22 +81,13 @@ fn each_ten_thousandth_call_is_told(rt: HostRuntime) {
     }
 }
 
-const WORDS: &[&str] = &[
-    "mst",
-    "load",
-    "--readers",
-    "2",
-    "--writers",
-    "1",
-    "--calls",
-    "10000",
-];
+const LINE: &str = "mst load --readers 2 --writers 1 --calls 10000";
 
 // The calls of all workers count, and nothing is written to the sink for standard error.
 #[test]
 fn a_load_tells_its_calls(rt: HostRuntime) -> Result<(), Fail> {
     let progress = Progress::new(Lines::new(rt.alloc()));
-    let outcome = outcome_behind(&rt, WORDS, b"", &progress)?;
+    let outcome = outcome_behind(&rt, LINE, &progress)?;
     let told = progress.errors.told.load(SeqCst);
     assert!(rt; outcome.status == 0 && outcome.err.len() == 0 && told == 3);
     Ok(())

@@ -1,8 +1,7 @@
-//! Scripts over sharded maps: at random next to one store, and devices that fail.
+//! Scripts over maps of one shard and of two: whole, and between devices that fail.
 ghost use Rattle.std.specs.Prelude.{◌≡◌, ◌<◌, ◌-◌, ◌^◌};
 ghost use Rattle.mst_sharded.specs.Opening.{seats_of};
 
-use super::run_over;
 use crate::failing::{Reader, Writer};
 use mst_devices::{BytesSink, BytesSource, Sink, Source, StdSink, StdSource};
 use mst_key::{Key, Memory};
@@ -11,17 +10,15 @@ use mst_sharded::{AllSeats, Sharded, ShardsFault};
 use mst_sharded_script::{HandleState, run as run_sharded, states_of};
 use mst_store::{Format, Shape};
 use std::alloc::{AllocError, Allocator, Global};
-use std::process::Abort;
-use std::test::Fail;
 
-/// A shard, or the one store, with three passes.
+/// A shard with three passes.
 const SHAPE: Shape = Shape {
     rows: 1024,
     passes: 3,
     format: Format::One,
 };
 
-/// Splits into so many shards, each at a key of two bytes of which the scripts have some.
+/// Splits into so many shards, each at a key of one byte.
 fn splits_of<A: Allocator>(alloc: A, shards: u8) -> Result<Vec<Key, A>, Memory> {
     let mut splits = Vec::new(alloc);
     for shard in 1..shards {
@@ -76,199 +73,75 @@ pub(super) fn run_shards<S: Source, W: Sink, A: Allocator + Copy>(
     run_sharded(lines, source, sink, &mut states)
 }
 
-// ---- random scripts
+/// Lines of all kinds, and their answers.
+const SCRIPT: &str = "1 put 11 31
+2 put 1f 32
+3 put 1f00 -
+1 next -
+2 next 11
+1 range - - 9
+1 batch put 12 33 del 11 put 12 34
+1 pin
+2 del 1f
+2 migrate 2
+1 format
+2 format
+1 range 11 - 9
+2 range 11 - 9
+1 put 11 35
+1 unpin
+1 get 1f
+1 rows
+";
 
-/// The next number of the generator SplitMix64.
-fn number(state: &mut u64) -> u64 {
-    *state = state.wrapping_add(0x9e37_79b9_7f4a_7c15);
-    let first = (*state ^ (*state >> 30)).wrapping_mul(0xbf58_476d_1ce4_e5b9);
-    let second = (first ^ (first >> 27)).wrapping_mul(0x94d0_49bb_1331_11eb);
-    second ^ (second >> 31)
-}
+const SCRIPT_ANSWERS: &str = "none
+none
+none
+pair 11 31
+pair 1f 32
+pairs 3
+pair 11 31
+pair 1f 32
+pair 1f00 -
+done
+pinned
+some 32
+was 1
+format 1
+format 2
+pairs 3
+pair 12 34
+pair 1f 32
+pair 1f00 -
+pairs 2
+pair 12 34
+pair 1f00 -
+fault L6
+unpinned
+none
+fault L7
+";
 
-/// A random key, of 24 or of those with a second byte.
-fn key(alloc: Global, state: &mut u64) -> Result<String, AllocError> {
-    let drawn = number(state);
-    let first = drawn % 24 + 16;
-    if drawn / 24 % 4 == 0 {
-        return format!(in alloc; "{first:02x}00");
-    }
-    format!(in alloc; "{first:02x}")
-}
-
-/// A random edit.
-fn edit(alloc: Global, state: &mut u64) -> Result<String, AllocError> {
-    let key = key(alloc, state)?;
-    let drawn = number(state) % 200;
-    if drawn % 4 == 0 {
-        format!(in alloc; "del {key}")
-    } else {
-        format!(in alloc; "put {key} {drawn:02x}")
-    }
-}
-
-/// A random read of all shards.
-fn look(alloc: Global, state: &mut u64) -> Result<String, AllocError> {
-    let (one, other) = (key(alloc, state)?, key(alloc, state)?);
-    let drawn = number(state);
-    match drawn % 6 {
-        0 => format!(in alloc; "next -"),
-        1 => format!(in alloc; "range - - {}", drawn / 6 % 40),
-        2 => format!(in alloc; "range {one} {other} 9"),
-        3 => format!(in alloc; "range {one} - 7"),
-        4 => format!(in alloc; "format"),
-        _ => format!(in alloc; "next {one}"),
-    }
-}
-
-/// A random command that is no read of all shards.
-fn command(alloc: Global, state: &mut u64) -> Result<String, AllocError> {
-    match number(state) % 12 {
-        0 => {
-            let key = key(alloc, state)?;
-            format!(in alloc; "get {key}")
-        }
-        1 => format!(in alloc; "pin"),
-        2 | 3 => format!(in alloc; "unpin"),
-        4 => format!(in alloc; "migrate {}", number(state) % 2 + 1),
-        5 => format!(in alloc; "batch"),
-        6 | 7 => {
-            let (one, two) = (edit(alloc, state)?, edit(alloc, state)?);
-            let three = edit(alloc, state)?;
-            format!(in alloc; "batch {one} {two} {three}")
-        }
-        _ => edit(alloc, state),
-    }
-}
-
-/// A random script of so many lines.
-fn script(alloc: Global, seed: u64, lines: u32) -> Result<String, AllocError> {
-    let mut state = seed;
-    let mut text = String::new(alloc);
-    for _ in 0..lines {
-        let pass = number(&mut state) % 3 + 1;
-        let asked = if number(&mut state) % 2 == 0 {
-            look(alloc, &mut state)?
-        } else {
-            command(alloc, &mut state)?
-        };
-        let line = format!(in alloc; "{pass} {asked}\n")?;
-        text.push_str(line.as_str())?;
-    }
-    Ok(text)
-}
-
-/// The answers of one store, with no number of a version behind `pinned`.
-fn without_versions(alloc: Global, answers: &[u8]) -> Result<Vec<u8>, AllocError> {
-    let mut kept = Vec::new(alloc);
-    let mut is_version = false;
-    for (place, byte) in answers.iter().enumerate() {
-        if *byte == b' ' && answers[..place].ends_with(b"\npinned") {
-            is_version = true;
-        }
-        if *byte == b'\n' {
-            is_version = false;
-        }
-        if !is_version {
-            kept.push(*byte)?;
-        }
-    }
-    Ok(kept)
-}
-
-/// The answers of one store to a script.
-fn of_store(rt: &impl Abort, alloc: Global, script: &str) -> Result<Vec<u8>, AllocError> {
-    let mut source = BytesSource::new(script.as_bytes());
-    let mut sink = BytesSink::new(alloc, 400_000)?;
-    let ran = run_over(rt, alloc, alloc, SHAPE, &mut source, &mut sink);
-    assert!(rt; ran == Ok(()));
-    without_versions(alloc, sink.bytes())
-}
-
-/// The answers of a map of so many shards to a script.
-fn of_shards(
-    rt: &impl Abort,
-    alloc: Global,
-    shards: u8,
-    script: &str,
-) -> Result<Vec<u8>, AllocError> {
-    let mut source = BytesSource::new(script.as_bytes());
-    let mut sink = BytesSink::new(alloc, 400_000)?;
+/// Whether a map of so many shards answers them so.
+fn is_answered(alloc: Global, shards: u8) -> Result<bool, AllocError> {
+    let mut source = BytesSource::new(SCRIPT.as_bytes());
+    let mut sink = BytesSink::new(alloc, 1_024)?;
     let ran = run_shards(alloc, alloc, shards, SHAPE, &mut source, &mut sink);
-    assert!(rt; ran == Ok(()));
-    sink.bytes().to_vec(alloc)
+    Ok(ran == Ok(()) && sink.bytes() == SCRIPT_ANSWERS.as_bytes())
 }
 
-// Whatever the splits, each line is answered as one store answers it: one, two and seven shards.
+// No words of the program name one shard.
 #[test]
-fn shards_answer_as_one_store(rt: HostRuntime) -> Result<(), Fail> {
-    for seed in 1..7u64 {
-        let script = script(rt.alloc(), seed, 400)?;
-        let wanted = of_store(&rt, rt.alloc(), script.as_str())?;
-        for shards in [1, 2, 7] {
-            let found = of_shards(&rt, rt.alloc(), shards, script.as_str())?;
-            assert!(rt; found == wanted, "{shards} shards, by {seed}");
-        }
+fn one_shard_answers_as_two(rt: HostRuntime) {
+    for shards in [1, 2] {
+        let answered = is_answered(rt.alloc(), shards);
+        assert!(rt; matches!(answered, Ok(true)), "{shards} shards");
     }
-    Ok(())
-}
-
-// ---- the plain list
-
-/// The value of each of 24 keys, and none for 0.
-type Plain = [u8; 24];
-
-/// What a put or a remove answers, and the list after it.
-fn changed(alloc: Global, plain: &mut Plain, at: usize, now: u8) -> Result<String, AllocError> {
-    let old = plain[at % 24];
-    plain[at % 24] = now;
-    if old == 0 {
-        format!(in alloc; "none\n")
-    } else {
-        format!(in alloc; "some {old:02x}\n")
-    }
-}
-
-/// A random script of puts, removes and look-ups, with its answers by the plain list.
-fn plain_script(alloc: Global, seed: u64) -> Result<(String, String), AllocError> {
-    let mut state = seed;
-    let mut plain = [0; 24];
-    let (mut text, mut answers) = (String::new(alloc), String::new(alloc));
-    for _ in 0..500u32 {
-        let drawn = number(&mut state);
-        let (pass, at, kind) = (drawn % 3 + 1, drawn / 3 % 24, drawn / 72 % 5);
-        let now = (drawn / 360 % 255) as u8 + 1;
-        let key = at + 16;
-        let left = plain[at as usize];
-        let (line, now) = match kind {
-            0 => (format!(in alloc; "{pass} del {key:02x}\n")?, 0),
-            1 | 2 => (format!(in alloc; "{pass} get {key:02x}\n")?, left),
-            _ => (format!(in alloc; "{pass} put {key:02x} {now:02x}\n")?, now),
-        };
-        text.push_str(line.as_str())?;
-        answers.push_str(changed(alloc, &mut plain, at as usize, now)?.as_str())?;
-    }
-    Ok((text, answers))
-}
-
-#[test]
-fn shards_answer_as_the_plain_list(rt: HostRuntime) -> Result<(), Fail> {
-    for seed in 1..9u64 {
-        let (script, wanted) = plain_script(rt.alloc(), seed)?;
-        for shards in [1, 2, 7] {
-            let found = of_shards(&rt, rt.alloc(), shards, script.as_str())?;
-            assert!(rt;
-                found.as_slice() == wanted.as_bytes(),
-                "{shards} shards, by {seed}"
-            );
-        }
-    }
-    Ok(())
 }
 
 // ---- devices that fail
 
-/// Lines over two shards, and their answers.
+/// Lines over one shard or two, and their answers.
 const LINES: &[u8] = b"1 put 11 31\n2 put 1f 32\n1 pin\n2 del 11\n1 range - - 9\n1 unpin\n3 get 1f";
 
 const ANSWERS: &[u8] =
@@ -276,7 +149,7 @@ const ANSWERS: &[u8] =
 
 /// How such a run ends, and what it has written, between devices of seven bytes at a time that fail
 /// after so many reads and so many writes.
-fn written(alloc: Global, reads: u64, writes: u64) -> (Result<(), RunFault>, Vec<u8>) {
+fn written(alloc: Global, shards: u8, reads: u64, writes: u64) -> (Result<(), RunFault>, Vec<u8>) {
     let reader = Reader {
         rest: LINES,
         most: 7,
@@ -286,27 +159,32 @@ fn written(alloc: Global, reads: u64, writes: u64) -> (Result<(), RunFault>, Vec
     let ran = {
         let mut source = StdSource::new(reader);
         let mut sink = StdSink::new(&mut out);
-        run_shards(alloc, alloc, 2, SHAPE, &mut source, &mut sink)
+        run_shards(alloc, alloc, shards, SHAPE, &mut source, &mut sink)
     };
     (ran, out.bytes)
 }
 
-// A run that a device ends has written a first part of the answers, and the others all of them.
+/// Whether a run that a device ends has written a first part of the answers, and another all.
+fn ends_so(alloc: Global, shards: u8, reads: u64, writes: u64) -> bool {
+    let (ran, out) = written(alloc, shards, reads, writes);
+    let is_ended = ran == Err(RunFault::Device) || ran == Ok(()) && out.len() == ANSWERS.len();
+    is_ended && ANSWERS.starts_with(out.as_slice())
+}
+
 #[test]
 fn devices_fail_over_shards(rt: HostRuntime) {
-    for count in 0..24u64 {
-        for (reads, writes) in [(count, u64::MAX), (u64::MAX, count)] {
-            let (ran, out) = written(rt.alloc(), reads, writes);
+    for shards in [1, 2] {
+        for count in 0..24u64 {
             assert!(rt;
-                ANSWERS.starts_with(out.as_slice()),
-                "{reads} reads, {writes} writes"
+                ends_so(rt.alloc(), shards, count, u64::MAX),
+                "{count} reads"
             );
             assert!(rt;
-                ran == Err(RunFault::Device) || ran == Ok(()) && out.len() == ANSWERS.len(),
-                "{reads} reads, {writes} writes"
+                ends_so(rt.alloc(), shards, u64::MAX, count),
+                "{count} writes"
             );
         }
+        let (ran, out) = written(rt.alloc(), shards, u64::MAX, u64::MAX);
+        assert!(rt; ran == Ok(()) && out.as_slice() == ANSWERS);
     }
-    let (ran, out) = written(rt.alloc(), u64::MAX, u64::MAX);
-    assert!(rt; ran == Ok(()) && out.as_slice() == ANSWERS);
 }

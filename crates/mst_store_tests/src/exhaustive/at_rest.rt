@@ -4,7 +4,9 @@
 //! A call is one of four of a pass: it pins, or ends its pin; it puts a first or a second value at
 //! the key a; it counts the rows. A fifth one migrates to the other format. A pinned pass leaves
 //! out all but the first.
-use crate::fixtures::{is_value, other, still_gets};
+use crate::answers::still_gets;
+use crate::confirming::confirm_at;
+use crate::fixtures::{is_value, other};
 use crate::stores::{Seat, dealt, opened};
 use mst_key::{Format, Key, Value};
 use mst_store::{MigrateFault, Pass, Pinned, Shape, WriteFault};
@@ -291,7 +293,7 @@ fn is_right(rt: &(impl Abort + AllocGlobal), rows: u32, scripts: Scripts, script
 // All scripts over a store of so many rows.
 fn all_are_right(rt: &(impl Abort + AllocGlobal), rows: u32, scripts: Scripts) {
     for script in 0..scripts.count {
-        assert!(rt; is_right(rt, rows, scripts, script), "script {script}");
+        confirm_at(rt, is_right(rt, rows, scripts, script), script as usize);
     }
 }
 

@@ -1,13 +1,19 @@
 //! Memory that is refused: to the dealing of passes, and to the reads of a pinned pass.
 ghost use Rattle.std.specs.Prelude.{◌≡◌};
 
-use crate::fixtures::{PROOF_OF_BOTH, counts, gets, puts, still_gets};
-use crate::stores::{AMPLE, SMALL, both_passes, fill, heap_of, is_full, opened};
+use crate::answers::{counts, gets, has_version, still_gets};
+use crate::bouts::{Bout, FullBout, play, play_full};
+use crate::confirming::{confirm, confirm_at};
+use crate::fixtures::PROOF_OF_BOTH;
+use crate::stores::{SMALL, heap_of, opened};
+use crate::writes::puts;
 use linked_list_allocator::LocalHeap;
 use mst_key::{Format, Key};
 use mst_store::{Pass, Pinned, Seats, Shape, Store};
-use std::alloc::Global;
+use std::alloc::{Allocator, Global};
 use std::process::Abort;
+use std::sync::Wait;
+use std::thread::Threads;
 
 // Whether each pass reads the empty map.
 fn all_read_nothing(passes: &mut [Pass<'_, Global>]) -> bool {
@@ -33,11 +39,11 @@ fn refused_heaps(
         let heap = heap_of(rt, units * 16);
         match store.deal(&heap, seats) {
             Ok(mut passes) => {
-                assert!(rt; all_read_nothing(&mut passes));
+                confirm(rt, all_read_nothing(&mut passes), "the empty map");
                 return units - 1;
             }
             Err((_, again)) => {
-                assert!(rt; heap.used() == 0, "nothing is kept");
+                confirm(rt, heap.used() == 0, "nothing is kept");
                 seats = again;
             }
         }
@@ -57,7 +63,7 @@ fn each_growth_of_deal_is_refused(rt: HostRuntime) {
         },
     );
     let refused = refused_heaps(&rt, &store, seats);
-    assert!(rt; 16 <= refused, "{refused} heaps were too small");
+    confirm_at(&rt, 16 <= refused, refused);
 }
 
 // Whether a range is right in this heap; none if memory was refused.
@@ -133,26 +139,47 @@ fn reads_pinned<'a>(
     (pinned.unpin(), right)
 }
 
+// Whether the reads of a pinned pass are right or refused while the other pass writes, and the rows
+// that the pin kept are free after it.
+fn reads_and_frees(alloc: Global, first: &mut Pass<Global>, second: Pass<'_, Global>) -> bool {
+    let mut second = second;
+    let put = puts(first, b"a", b"1", None) && puts(&mut second, b"abc", b"x", None);
+    let (mut second, right) = reads_pinned(alloc, second, first);
+    put && right && counts(&mut second, Some(3)) && gets(&mut second, b"a", Some(b"2"))
+}
+
+#[derive(Clone, Copy)]
+struct PinnedReads;
+
+impl Bout for PinnedReads {
+    fn plays<'a, R: Abort + AllocGlobal + Threads + Wait + Sync>(
+        &self,
+        rt: &R,
+        first: Pass<'a, Global>,
+        second: &mut Pass<'a, Global>,
+    ) -> bool {
+        reads_and_frees(rt.alloc(), second, first)
+    }
+}
+
 #[test]
 fn each_growth_of_a_pinned_read_is_refused(rt: HostRuntime) {
-    let (store, seats) = opened(&rt, rt.alloc(), SMALL);
-    let (mut first, mut second) = both_passes(&rt, rt.alloc(), &store, seats);
-    assert!(rt; puts(&mut first, b"a", b"1", None) && puts(&mut second, b"abc", b"x", None));
-    let (mut second, right) = reads_pinned(rt.alloc(), second, &mut first);
-    assert!(rt; right);
-    // the pin is over, and the rows that it kept are free
-    assert!(rt; counts(&mut second, Some(3)) && gets(&mut second, b"a", Some(b"2")));
+    play(&rt, SMALL, &PinnedReads);
 }
 
 // Whether the pinned pass still has its number and its version, of this root.
-fn still_stands(pinned: &mut Pinned<&LocalHeap>, root: [u8; 32]) -> bool {
+fn still_stands<A: Allocator + Copy>(pinned: &mut Pinned<A>, root: [u8; 32]) -> bool {
     let same = pinned.root() == root;
-    same && pinned.version() == 1 && pinned.number() == 2
+    same && pinned.version() == 1 && pinned.number() == 1
 }
 
 // Whether each call of the pinned pass that takes no memory goes on: its version has the key a
 // alone.
-fn all_go_on(pinned: &mut Pinned<&LocalHeap>, root: [u8; 32], heap: &LocalHeap) -> bool {
+fn all_go_on<A: Allocator + Copy>(
+    pinned: &mut Pinned<A>,
+    root: [u8; 32],
+    heap: &LocalHeap,
+) -> bool {
     let found = still_gets(pinned, b"a", Some(b"1"));
     let next = pinned.next(None).is_some();
     let refused = pinned.range(heap, None, None, 10).is_err();
@@ -161,11 +188,11 @@ fn all_go_on(pinned: &mut Pinned<&LocalHeap>, root: [u8; 32], heap: &LocalHeap) 
 
 // Pins a version, and returns whether its calls go on over the full heap while the other pass
 // writes.
-fn goes_on<'a, 'h>(
-    pass: Pass<'a, &'h LocalHeap>,
-    other: &mut Pass<'_, &'h LocalHeap>,
+fn goes_on<'a, A: Allocator + Copy>(
+    pass: Pass<'a, A>,
+    other: &mut Pass<A>,
     heap: &LocalHeap,
-) -> (Pass<'a, &'h LocalHeap>, bool) {
+) -> (Pass<'a, A>, bool) {
     let put = puts(other, b"a", b"1", None);
     let root = other.root();
     let mut pinned = pass.pin();
@@ -174,34 +201,24 @@ fn goes_on<'a, 'h>(
     (pinned.unpin(), put && again && right)
 }
 
-// Whether all that goes on, and the pass then reads the newest version.
-fn serves<'h>(
-    first: Pass<'_, &'h LocalHeap>,
-    second: Pass<'_, &'h LocalHeap>,
-    heap: &LocalHeap,
-) -> bool {
-    let mut first = first;
-    let (mut second, right) = goes_on(second, &mut first, heap);
-    let version = second.version();
-    right && version == 2 && gets(&mut second, b"a", Some(b"2"))
-}
+// All that goes on, and the pass then reads the newest version.
+#[derive(Clone, Copy)]
+struct GoesOn;
 
-// The passes serve over the heap when it is full.
-fn serve_when_full<'h>(
-    rt: &(impl Abort + AllocGlobal),
-    first: Pass<'_, &'h LocalHeap>,
-    second: Pass<'_, &'h LocalHeap>,
-    heap: &'h LocalHeap,
-) {
-    let blocks = fill(rt, heap);
-    assert!(rt; is_full(heap) && !blocks.is_empty());
-    assert!(rt; serves(first, second, heap));
+impl FullBout for GoesOn {
+    fn plays<'a, A: Allocator + Copy, R: Abort + AllocGlobal + Wait>(
+        &self,
+        _rt: &R,
+        heap: &LocalHeap,
+        first: Pass<'a, A>,
+        second: &mut Pass<'a, A>,
+    ) -> bool {
+        let (mut first, right) = goes_on(first, second, heap);
+        right && has_version(&mut first, 2) && gets(&mut first, b"a", Some(b"2"))
+    }
 }
 
 #[test]
 fn a_pinned_pass_goes_on_over_a_full_heap(rt: HostRuntime) {
-    let heap = heap_of(&rt, AMPLE);
-    let (store, seats) = opened(&rt, &heap, SMALL);
-    let (first, second) = both_passes(&rt, &heap, &store, seats);
-    serve_when_full(&rt, first, second, &heap);
+    play_full(&rt, &GoesOn);
 }

@@ -1,6 +1,8 @@
 //! Stores with each number of passes.
-use crate::fixtures::{counts, gets, puts};
+use crate::answers::{counts, gets};
+use crate::confirming::confirm_at;
 use crate::stores::{dealt, opened};
+use crate::writes::puts;
 use mst_store::{Format, Pass, Shape};
 use std::alloc::Global;
 use std::process::Abort;
@@ -52,6 +54,6 @@ fn serves_all(rt: &(impl Abort + AllocGlobal), number: u8) -> bool {
 #[test]
 fn each_number_of_passes(rt: HostRuntime) {
     for number in 1..=32u8 {
-        assert!(rt; serves_all(&rt, number), "{number} passes");
+        confirm_at(&rt, serves_all(&rt, number), usize::from(number));
     }
 }

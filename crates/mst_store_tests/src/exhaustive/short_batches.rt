@@ -1,6 +1,8 @@
 //! All batches of up to three edits of four keys, over the map of each set of these keys, in both
 //! formats, each compared with the plain list of the map that its edits leave.
-use crate::fixtures::{counts, has_root, has_version, key, still_gets, value};
+use crate::answers::{counts, has_root, has_version, still_gets};
+use crate::confirming::confirm_at;
+use crate::fixtures::{key, value};
 use crate::plain_list::PlainList;
 use crate::stores::{both_passes, opened};
 use mst_key::{Edit, Format};
@@ -107,9 +109,7 @@ fn wanted_of(rt: &(impl Abort + AllocGlobal), keys: &Keys, format: Format, map: 
             list = list.with(rt, rt.alloc(), &key(rt, bytes), Some(&value));
         }
     }
-    let Ok(rows) = u32::try_from(list.cost(&list).all) else {
-        panic!(rt; "few rows")
-    };
+    let rows = u32::try_from(list.cost(&list).all).expect(rt, "few rows");
     Wanted {
         root: list.root(rt, rt.alloc()),
         rows,
@@ -206,12 +206,10 @@ fn try_batch<'a>(
     batch: u32,
 ) -> Pass<'a, Global> {
     let edits = edits_of(rt, &maps.keys, batch);
-    assert!(rt; change_to(rt, writer, &maps.keys, start) && maps.stands(writer, start));
+    let begun = change_to(rt, writer, &maps.keys, start) && maps.stands(writer, start);
     let (reader, right) = applies_beside(rt.alloc(), maps, writer, reader, start, &edits);
-    assert!(rt;
-        right && maps.stands(writer, &after(start, batch)),
-        "batch {batch}"
-    );
+    let right = begun && right && maps.stands(writer, &after(start, batch));
+    confirm_at(rt, right, batch as usize);
     reader
 }
 

@@ -1,5 +1,6 @@
 //! Collisions that are not there.
 use super::{THREE_PROOF, TWO_PROOF, collided, collided_with_none};
+use crate::confirming::confirm;
 use crate::pairs::{TWO_PAIRS, bytes_of, key_of, spelt};
 use mst_key::{Format, Key, Value};
 use std::alloc::Global;
@@ -74,7 +75,7 @@ fn ask(rt: &impl Abort, alloc: Global, (format, rows, key, digits): (Format, Pai
         key.as_bytes(),
         proof.as_slice(),
     );
-    assert!(rt; free, "{digits}");
+    confirm(rt, free, digits);
 }
 
 #[test]

@@ -1,5 +1,6 @@
 //! Growths that are refused to a tree, to the text of its node, and to the search for a collision.
 use super::{collided, proof_for, top_in};
+use crate::confirming::{confirm, confirm_at, few};
 use crate::heaps::{heap_of, is_made};
 use crate::pairs::numbered;
 use linked_list_allocator::LocalHeap;
@@ -57,7 +58,7 @@ fn each_growth_of_the_search_is_refused(rt: HostRuntime) {
     let pairs = numbered(&rt, rt.alloc(), 40);
     for (format, number, bytes) in SOUGHT {
         let least = least_bytes(&rt, rt.alloc(), *format, pairs.as_slice(), &[0, 0, *number]);
-        assert!(rt; least == *bytes, "{least} bytes");
+        confirm_at(&rt, least == *bytes, least);
     }
 }
 
@@ -91,10 +92,8 @@ const SOUGHT_KEY: &[u8] = &[0, 3, 7];
 #[test]
 fn a_search_takes_the_texts_of_the_nodes_that_it_meets(rt: HostRuntime) {
     for (format, count, room) in LARGE {
-        assert!(rt;
-            is_small(&rt, rt.alloc(), *format, *count, *room),
-            "{count} numbers"
-        );
+        let small = is_small(&rt, rt.alloc(), *format, *count, *room);
+        confirm_at(&rt, small, *count as usize);
     }
 }
 
@@ -106,7 +105,7 @@ fn text_made(
     pairs: &[(Key, Value)],
     want: &[u8],
 ) -> Option<bool> {
-    assert!(rt; pairs.len() <= 65_535);
+    few(rt, pairs);
     match top_in(heap, format, pairs) {
         Ok(Some(text)) => Some(text.as_slice() == want),
         Ok(None) => Some(false),
@@ -131,7 +130,7 @@ fn are_enough(
 /// The least number of units of 16 bytes that are enough for the tree and its text: 2,048 if each
 /// heap refused it.
 fn least_units(rt: &impl Abort, alloc: Global, format: Format, pairs: &[(Key, Value)]) -> usize {
-    assert!(rt; pairs.len() <= 65_535);
+    few(rt, pairs);
     let text = top_in(alloc, format, pairs).expect(rt, "memory");
     let want = text.expect(rt, "a node");
     for units in 1..2048usize {
@@ -146,6 +145,6 @@ fn least_units(rt: &impl Abort, alloc: Global, format: Format, pairs: &[(Key, Va
 fn each_growth_of_a_text_is_refused(rt: HostRuntime) {
     let pairs = numbered(&rt, rt.alloc(), 40);
     let least = least_units(&rt, rt.alloc(), Format::Two, pairs.as_slice());
-    assert!(rt; least > 16, "refused before");
-    assert!(rt; least < 2048, "refused with ample memory");
+    confirm(&rt, least > 16, "refused before");
+    confirm(&rt, least < 2048, "refused with ample memory");
 }

@@ -1,5 +1,6 @@
 //! The proofs of larger maps.
 use super::{collided, proof_for, proves};
+use crate::confirming::confirm_at;
 use crate::pairs::numbered;
 use mst_key::{Format, Key, Value};
 use std::alloc::Global;
@@ -53,7 +54,7 @@ fn ask(
     step: usize,
 ) {
     for i in (0..count.saturating_add(2)).step_by(step.max(1)) {
-        assert!(rt; is_proved(rt, alloc, format, pairs, i), "{i} of {count}");
+        confirm_at(rt, is_proved(rt, alloc, format, pairs, i), i as usize);
     }
 }
 

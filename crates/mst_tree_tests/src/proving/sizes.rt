@@ -5,6 +5,7 @@ ghost use Rattle.mst_key.specs.Map.{IsMap};
 ghost use Rattle.mst_key.specs.declared.format.Format.TheVariants.{One};
 
 use super::{proof_for, proves};
+use crate::confirming::{confirm, confirm_at, few};
 use crate::nodes::has_root;
 use crate::pairs::{key_of, numbered, pair, roots_agree, text_of};
 use mst_key::{Format, Key, Memory, Value};
@@ -29,14 +30,14 @@ const ABOVE: &[usize] = &[
 /// Compares the roots of the first pairs, up to 300.
 fn compare_up_to_300(rt: &impl Abort, alloc: Global, pairs: &[(Key, Value)]) {
     for count in 0..=300 {
-        assert!(rt; front_agrees(rt, alloc, pairs, count), "{count}");
+        confirm_at(rt, front_agrees(rt, alloc, pairs, count), count);
     }
 }
 
 /// Compares those of the sizes above.
 fn compare_above(rt: &impl Abort, alloc: Global, pairs: &[(Key, Value)]) {
     for count in ABOVE {
-        assert!(rt; front_agrees(rt, alloc, pairs, *count), "{count}");
+        confirm_at(rt, front_agrees(rt, alloc, pairs, *count), *count);
     }
 }
 
@@ -119,7 +120,7 @@ fn middle_is_proved(rt: &impl Abort, alloc: Global, pairs: &[(Key, Value)]) -> b
 
 /// Whether no texts of this proof for the key after all others and of the map's tree collide.
 pub fn is_free(rt: &impl Abort, alloc: Global, pairs: &[(Key, Value)], proof: &[u8]) -> bool {
-    assert!(rt; pairs.len() <= 65_535);
+    few(rt, pairs);
     assert!(rt; is_map(pairs));
     collides(alloc, pairs, &key_of(rt, ABSENT), proof) == Ok(false)
 }
@@ -143,10 +144,10 @@ fn asks_one_node(
     digits: &str,
     step: usize,
 ) {
-    assert!(rt; has_root(rt, alloc, pairs, digits), "the root digest");
-    assert!(rt; text_has_pairs(rt, alloc, pairs, step), "the text");
-    assert!(rt; middle_is_proved(rt, alloc, pairs), "the proofs");
-    assert!(rt; proofs_are_free(rt, alloc, pairs), "the collisions");
+    confirm(rt, has_root(rt, alloc, pairs, digits), "the root digest");
+    confirm(rt, text_has_pairs(rt, alloc, pairs, step), "the text");
+    confirm(rt, middle_is_proved(rt, alloc, pairs), "the proofs");
+    confirm(rt, proofs_are_free(rt, alloc, pairs), "the collisions");
 }
 
 /// The end of the numbers, how many pairs they give, the step in which these are compared, and
@@ -169,7 +170,7 @@ const NODES: &[(u32, usize, usize, &str)] = &[
 /// Asks such a node.
 fn ask(rt: &impl Abort, alloc: Global, (end, count, step, digits): (u32, usize, usize, &str)) {
     let pairs = pairs_of_one_node(rt, alloc, end);
-    assert!(rt; pairs.len() == count);
+    confirm(rt, pairs.len() == count, "as many pairs");
     asks_one_node(rt, alloc, pairs.as_slice(), digits, step);
 }
 

@@ -1,5 +1,6 @@
 //! A map in rows beside the plain list of its pairs.
 use super::standing::StandingMap;
+use crate::confirming::{confirm, confirm_at, few};
 use crate::pairs::{key_of, value_of};
 use mst_key::{Key, Value};
 use mst_node::root_of;
@@ -63,11 +64,11 @@ fn is_changed(
     let free = map.free();
     match map.change(key, value).expect(rt, "a version to come") {
         Ok(old) => {
-            assert!(rt; old.as_ref() == value_in(pairs, key));
+            confirm(rt, old.as_ref() == value_in(pairs, key), "the old value");
             true
         }
         Err(NoRoom) => {
-            assert!(rt; map.free() == free, "no row was taken");
+            confirm(rt, map.free() == free, "no row was taken");
             false
         }
     }
@@ -75,18 +76,19 @@ fn is_changed(
 
 /// Compares the root digest of the map with that of the list, and the value of each key.
 fn agrees(rt: &impl Abort, map: &mut StandingMap, pairs: &[(Key, Value)]) {
-    assert!(rt; pairs.len() <= 65_535);
-    assert!(rt; map.root() == root_of(pairs));
+    few(rt, pairs);
+    confirm(rt, map.root() == root_of(pairs), "the root digest");
     for pair in pairs {
-        assert!(rt; map.has(&pair.0, Some(&pair.1)));
+        confirm(rt, map.has(&pair.0, Some(&pair.1)), "a value");
     }
 }
 
 /// Compares the pair that follows each key with the list, and which pair is the first.
 fn follow(rt: &impl Abort, map: &mut StandingMap, pairs: &[(Key, Value)]) {
-    assert!(rt; map.has_next(None, pairs.first()));
+    confirm(rt, map.has_next(None, pairs.first()), "the first pair");
     for (i, pair) in pairs.iter().enumerate() {
-        assert!(rt; map.has_next(Some(&pair.0), pairs.get(i.wrapping_add(1))));
+        let next = pairs.get(i.wrapping_add(1));
+        confirm_at(rt, map.has_next(Some(&pair.0), next), i);
     }
 }
 

@@ -1,5 +1,6 @@
 //! Puts and removes over rows, each compared with the plain list.
 use super::both::Both;
+use crate::confirming::{confirm, confirm_at};
 use crate::pairs::{THREE_PAIRS, key_of, next_random, numbered_key, spelt, value_of};
 use mst_key::{Key, Value};
 use std::alloc::Global;
@@ -47,10 +48,8 @@ fn remove_beside(rt: &impl Abort, alloc: Global, free: u32) -> (bool, u32) {
 #[test]
 fn a_put_takes_exactly_six_rows(rt: HostRuntime) {
     for free in 0..6 {
-        assert!(rt;
-            put_beside(&rt, rt.alloc(), free) == (false, free),
-            "{free}"
-        );
+        let refused = put_beside(&rt, rt.alloc(), free) == (false, free);
+        confirm_at(&rt, refused, free as usize);
     }
     // the three rows that two pairs took are free again
     assert!(rt; put_beside(&rt, rt.alloc(), 6) == (true, 3));
@@ -59,10 +58,8 @@ fn a_put_takes_exactly_six_rows(rt: HostRuntime) {
 #[test]
 fn a_remove_takes_exactly_three_rows(rt: HostRuntime) {
     for free in 0..3 {
-        assert!(rt;
-            remove_beside(&rt, rt.alloc(), free) == (false, free),
-            "{free}"
-        );
+        let refused = remove_beside(&rt, rt.alloc(), free) == (false, free);
+        confirm_at(&rt, refused, free as usize);
     }
     assert!(rt; remove_beside(&rt, rt.alloc(), 3) == (true, 6));
 }
@@ -80,10 +77,8 @@ const IN_FULL_ROWS: &[(&str, Option<&str>, bool)] = &[
 /// Makes each of these changes of full rows.
 fn change_full(rt: &impl Abort, alloc: Global, both: &mut Both) {
     for (key, value, fits) in IN_FULL_ROWS {
-        assert!(rt;
-            both.change_text(rt, alloc, key, *value) == *fits,
-            "{key} {fits}"
-        );
+        let right = both.change_text(rt, alloc, key, *value) == *fits;
+        confirm(rt, right, key);
     }
 }
 
@@ -124,7 +119,7 @@ fn layered_keys(rt: &impl Abort, alloc: Global) -> Vec<Key> {
     for (layer, numbers) in LAYERED.iter().enumerate() {
         for number in numbers {
             let key = numbered_key(rt, *number);
-            assert!(rt; usize::from(key.layer()) == layer);
+            confirm_at(rt, usize::from(key.layer()) == layer, layer);
             keys.push(key).expect(rt, "memory");
         }
     }
@@ -174,7 +169,7 @@ fn random_changes_in_many_rows(rt: HostRuntime) {
 #[test]
 fn random_changes_in_few_rows(rt: HostRuntime) {
     let refused = random_changes(&rt, rt.alloc(), 70, 2);
-    assert!(rt; 0 < refused && refused < 300, "{refused}");
+    confirm_at(&rt, 0 < refused && refused < 300, refused as usize);
 }
 
 /// Gives each of these keys this value, or none, for which there is room each time.
@@ -186,7 +181,7 @@ fn change_each(
     value: Option<&Value>,
 ) {
     for key in keys {
-        assert!(rt; both.change(rt, alloc, key, value));
+        confirm(rt, both.change(rt, alloc, key, value), "room for a change");
     }
 }
 
@@ -199,8 +194,11 @@ fn the_greatest_layer_goes_first(rt: HostRuntime) {
     change_each(&rt, alloc, &mut both, keys.as_slice(), Some(&value));
     keys.reverse();
     change_each(&rt, alloc, &mut both, keys.as_slice(), None);
-    assert!(rt; both.len() == 0);
-    assert!(rt; both.free() == 300, "no row is left behind");
+    confirm(
+        &rt,
+        both.len() == 0 && both.free() == 300,
+        "no row is left behind",
+    );
 }
 
 /// Eight keys of 32 bytes.
@@ -230,10 +228,14 @@ fn fill_and_empty(rt: &impl Abort, alloc: Global, both: &mut Both, keys: &[Key],
     let twelve = keys.get(..12).expect(rt, "twelve keys");
     let thirteenth = keys.get(12).expect(rt, "one more");
     change_each(rt, alloc, both, twelve, Some(value));
-    assert!(rt; !both.change(rt, alloc, thirteenth, Some(value)));
+    confirm(
+        rt,
+        !both.change(rt, alloc, thirteenth, Some(value)),
+        "a thirteenth",
+    );
     both.agrees_in_order(rt);
     change_each(rt, alloc, both, twelve, None);
-    assert!(rt; both.len() == 0);
+    confirm(rt, both.len() == 0, "no pair is left");
 }
 
 // the node of twelve entries is written beside that of eleven, and takes the last row; so does its
@@ -246,6 +248,6 @@ fn filled_and_emptied_ten_times(rt: HostRuntime) {
     for round in 0..10u8 {
         let value = value_of(&rt, &[round]);
         fill_and_empty(&rt, alloc, &mut both, keys.as_slice(), &value);
-        assert!(rt; both.free() == 25, "round {round}");
+        confirm_at(&rt, both.free() == 25, usize::from(round));
     }
 }

@@ -5,6 +5,7 @@ ghost use Rattle.mst_arena.specs.declared.life.Life.TheVariants.{Free};
 
 use super::standing::StandingMap;
 use super::{entry_is, entry_of, free_after, head_is, row_is};
+use crate::confirming::{confirm, confirm_at, few};
 use crate::heaps::{fill, heap_of, is_full};
 use crate::pairs::{THREE_PAIRS, key_of, pair, spelt, value_of};
 use linked_list_allocator::LocalHeap;
@@ -39,26 +40,23 @@ fn desk_goes_on(rt: &impl Abort, desk: &mut Desk<&LocalHeap>)
     requires new { desk.old
         ≡ record { current = 0; versions = replicate 3 0; lives = replicate 4 Free } }
 {
-    let (Some(a), Some(_)) = (desk.take(), desk.take()) else {
-        panic!(rt; "four rows")
-    };
+    let a = desk.take().expect(rt, "four rows");
+    let _ = desk.take().expect(rt, "four rows");
     desk.advance(1);
-    assert!(rt; desk.version_of(1) == 1);
+    confirm(rt, desk.version_of(1) == 1, "version 1");
     desk.kill(a);
     desk.advance(2);
-    assert!(rt; frees_and_goes_on(desk));
+    confirm(rt, frees_and_goes_on(desk), "rows are free again");
 }
 
 #[test]
 fn a_desk_goes_on_over_a_full_heap(rt: HostRuntime) {
     let heap = heap_of(&rt, rt.alloc(), 2_048);
-    let Ok(mut desk) = Desk::new(&heap, 4, 3, 0) else {
-        panic!(rt; "an ample heap")
-    };
+    let mut desk = Desk::new(&heap, 4, 3, 0).expect(&rt, "an ample heap");
     let blocks = fill(&rt, rt.alloc(), &heap);
-    assert!(rt; is_full(&heap) && !blocks.is_empty());
+    confirm(&rt, is_full(&heap) && !blocks.is_empty(), "full");
     desk_goes_on(&rt, &mut desk);
-    assert!(rt; is_full(&heap));
+    confirm(&rt, is_full(&heap), "still full");
 }
 
 const HEAD: Row = Row::Head {
@@ -93,13 +91,11 @@ fn rows_go_on(rt: &impl Abort, rows: &mut PlainRows<&LocalHeap>) -> bool
 #[test]
 fn plain_rows_go_on_over_a_full_heap(rt: HostRuntime) {
     let heap = heap_of(&rt, rt.alloc(), 2_048);
-    let Ok(mut rows) = PlainRows::new(&heap, 2) else {
-        panic!(rt; "an ample heap")
-    };
+    let mut rows = PlainRows::new(&heap, 2).expect(&rt, "an ample heap");
     let blocks = fill(&rt, rt.alloc(), &heap);
-    assert!(rt; is_full(&heap) && !blocks.is_empty());
-    assert!(rt; rows_go_on(&rt, &mut rows));
-    assert!(rt; is_full(&heap));
+    confirm(&rt, is_full(&heap) && !blocks.is_empty(), "full");
+    confirm(&rt, rows_go_on(&rt, &mut rows), "rows are read and written");
+    confirm(&rt, is_full(&heap), "still full");
 }
 
 /// Whether the map has this value at the key and this pair after it, by its root and by its link.
@@ -109,9 +105,10 @@ fn has_both(
     value: Option<&Value>,
     next: Option<&(Key, Value)>,
 ) -> bool {
-    let (found, behind) = map.get_and_next(key);
-    let below = found.as_ref() == value && behind.as_ref() == next;
-    below && map.has(key, value) && map.has_next(Some(key), next)
+    map.has_below(key, value)
+        && map.has_next_below(key, next)
+        && map.has(key, value)
+        && map.has_next(Some(key), next)
 }
 
 /// The value of this text, if there is one.
@@ -169,20 +166,20 @@ const CHANGES: &[(&str, Option<&str>, Option<&str>)] = &[
 /// Puts and removes, after which the map has only a.
 fn change_each(rt: &impl Abort, map: &mut StandingMap<&LocalHeap>) {
     for (place, (key, value, old)) in CHANGES.iter().enumerate() {
-        assert!(rt; changes(rt, map, key, *value, *old), "change {place}");
+        confirm_at(rt, changes(rt, map, key, *value, *old), place);
     }
 }
 
 /// Reads, puts and removes of the map of 1, 39 and a.
 fn goes_on(rt: &impl Abort, map: &mut StandingMap<&LocalHeap>) {
-    assert!(rt; reads(rt, map, Some("x"), ("39", "y")));
+    confirm(rt, reads(rt, map, Some("x"), ("39", "y")), "reads before");
     change_each(rt, map);
-    assert!(rt; reads(rt, map, None, ("a", "z")));
+    confirm(rt, reads(rt, map, None, ("a", "z")), "reads after");
 }
 
 /// Whether a range finds no memory.
 fn range_is_refused(heap: &LocalHeap, map: &mut StandingMap<&LocalHeap>) -> bool {
-    matches!(map.range(heap, None, None, 1), Err(_))
+    map.range(heap, None, None, 1).is_err()
 }
 
 /// The map of 1, 39 and a that was planted with no byte left goes on.
@@ -192,13 +189,11 @@ fn goes_on_in(
     map: &mut StandingMap<&LocalHeap>,
     pairs: &[(Key, Value)],
 ) {
-    assert!(rt; is_full(heap));
-    assert!(rt; pairs.len() == 3);
-    assert!(rt; map.root() == root_of(pairs));
+    few(rt, pairs);
+    confirm(rt, is_full(heap) && map.root() == root_of(pairs), "planted");
     goes_on(rt, map);
-    assert!(rt; range_is_refused(heap, map));
-    assert!(rt; is_full(heap));
-    assert!(rt; map.free() == 10);
+    let left = range_is_refused(heap, map) && is_full(heap) && map.free() == 10;
+    confirm(rt, left, "still full, and ten rows are free");
 }
 
 /// Whether the map is planted in a heap of so many bytes. In the least that holds the rows and the
@@ -222,5 +217,5 @@ fn a_map_is_planted_and_goes_on_over_a_full_heap(rt: HostRuntime) {
             return;
         }
     }
-    panic!(rt; "no heap was large enough")
+    confirm(&rt, false, "no heap was large enough")
 }

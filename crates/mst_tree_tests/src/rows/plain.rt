@@ -5,6 +5,7 @@ ghost use Rattle.mst_arena.specs.Row.{IsRow, entry_links};
 ghost use Rattle.mst_arena.specs.declared.life.Life.TheVariants.{Free};
 
 use super::{entry_is, entry_of, free_after, head_is, row_is};
+use crate::confirming::{confirm, confirm_at};
 use crate::heaps::{heap_of, is_made};
 use crate::pairs::{key_of, pair, prints};
 use linked_list_allocator::LocalHeap;
@@ -38,20 +39,16 @@ const HEAD_LINKS: HeadLinks = HeadLinks {
 #[test]
 fn plain_rows_are_read_as_written(rt: HostRuntime) {
     let row = entry_of(&rt, 65_535, 0, &[0x6b; 32], &[0x76; 64]);
-    let Ok(mut rows) = PlainRows::new(rt.alloc(), 2) else {
-        panic!(rt; "no memory")
-    };
+    let mut rows = PlainRows::new(rt.alloc(), 2).expect(&rt, "memory");
     rows.write(1, &HEAD);
     rows.write(0, &row);
-    assert!(rt;
-        entry_is(&mut rows, 0, (65_535, 0), &[0x6b; 32], &[0x76; 64])
-            && head_is(&mut rows, 1, &HEAD_LINKS, &[0xd1; 32])
-    );
-    assert!(rt; row_is(&mut rows, 1, &HEAD) && row_is(&mut rows, 0, &row));
-    assert!(rt;
-        comes_back(&HEAD) && comes_back(&row),
-        "rows at their limits"
-    );
+    let parts = entry_is(&mut rows, 0, (65_535, 0), &[0x6b; 32], &[0x76; 64])
+        && head_is(&mut rows, 1, &HEAD_LINKS, &[0xd1; 32]);
+    confirm(&rt, parts, "the parts");
+    let whole = row_is(&mut rows, 1, &HEAD) && row_is(&mut rows, 0, &row);
+    confirm(&rt, whole, "the rows");
+    let limits = comes_back(&HEAD) && comes_back(&row);
+    confirm(&rt, limits, "rows at their limits");
 }
 
 #[test]
@@ -63,16 +60,13 @@ fn copied_entry_has_other_links_alone(rt: HostRuntime) {
         key,
         value,
     };
-    let Ok(mut rows) = PlainRows::new(rt.alloc(), 2) else {
-        panic!(rt; "no memory")
-    };
+    let mut rows = PlainRows::new(rt.alloc(), 2).expect(&rt, "memory");
     rows.write(1, &row);
     rows.copy_entry(1, 0, 65_535, 0);
-    assert!(rt; entry_is(&mut rows, 0, (65_535, 0), &[0x6b; 32], &[0x76; 64]));
-    assert!(rt;
-        row_is(&mut rows, 1, &row),
-        "the entry that was copied stays"
-    );
+    let copied = entry_is(&mut rows, 0, (65_535, 0), &[0x6b; 32], &[0x76; 64]);
+    confirm(&rt, copied, "the copy");
+    let stays = row_is(&mut rows, 1, &row);
+    confirm(&rt, stays, "the entry that was copied stays");
 }
 
 /// Rows that are read and written whole. Their parts are read by the default bodies.
@@ -103,14 +97,14 @@ impl Rows for WholeRows {
 #[test]
 fn parts_by_default_are_those_of_the_row(rt: HostRuntime) {
     let row = entry_of(&rt, 7, 9, b"ab", b"xyz");
-    let Ok(rows) = PlainRows::new(rt.alloc(), 1) else {
-        panic!(rt; "no memory")
-    };
+    let rows = PlainRows::new(rt.alloc(), 1).expect(&rt, "memory");
     let mut rows = WholeRows { rows };
     rows.write(0, &HEAD);
-    assert!(rt; head_is(&mut rows, 0, &HEAD_LINKS, &[0xd1; 32]));
+    let head = head_is(&mut rows, 0, &HEAD_LINKS, &[0xd1; 32]);
+    confirm(&rt, head, "a head");
     rows.write(0, &row);
-    assert!(rt; entry_is(&mut rows, 0, (7, 9), b"ab", b"xyz"));
+    let entry = entry_is(&mut rows, 0, (7, 9), b"ab", b"xyz");
+    confirm(&rt, entry, "an entry");
 }
 
 /// Whether this is the way from the entry at number 0 to a key.
@@ -125,15 +119,15 @@ fn way_is<R: Rows>(rt: &impl Abort, rows: &mut R, key: &[u8], wanted: Way) -> bo
 #[test]
 fn the_way_from_an_entry_is_by_the_order_of_keys(rt: HostRuntime) {
     let row = entry_of(&rt, 7, 9, b"ab\0", b"xyz");
-    let Ok(rows) = PlainRows::new(rt.alloc(), 1) else {
-        panic!(rt; "no memory")
-    };
+    let rows = PlainRows::new(rt.alloc(), 1).expect(&rt, "memory");
     let mut rows = WholeRows { rows };
     rows.write(0, &row);
-    assert!(rt; way_is(&rt, &mut rows, b"ab", Way::Child(7)));
-    assert!(rt; way_is(&rt, &mut rows, b"ab\0", Way::Here));
-    assert!(rt; way_is(&rt, &mut rows, b"ab\0\0", Way::Next(9)));
-    assert!(rt; way_is(&rt, &mut rows.rows, b"ab\0\0", Way::Next(9)));
+    let by_default = way_is(&rt, &mut rows, b"ab", Way::Child(7))
+        && way_is(&rt, &mut rows, b"ab\0", Way::Here)
+        && way_is(&rt, &mut rows, b"ab\0\0", Way::Next(9));
+    confirm(&rt, by_default, "the way by default");
+    let own = way_is(&rt, &mut rows.rows, b"ab\0\0", Way::Next(9));
+    confirm(&rt, own, "the way of plain rows");
 }
 
 /// Lets two rows of a new desk die between two pins, one after the other.
@@ -151,12 +145,13 @@ fn two_rows_die(rt: &impl Abort, desk: &mut Desk<Global>)
     let c = desk.take();
     assert!(rt; c == Some(2));
     desk.advance(2);
-    assert!(rt; desk.free() == 1);
     // in any order, and more of them than the desk has records
-    assert!(rt; free_after(desk, &[1, 2]) == 1);
-    assert!(rt; free_after(desk, &[2, 1]) == 1);
-    assert!(rt; free_after(desk, &[9, 2, 8, 1, 7]) == 1);
-    assert!(rt; free_after(desk, &[2]) == 2);
+    let free = desk.free() == 1
+        && free_after(desk, &[1, 2]) == 1
+        && free_after(desk, &[2, 1]) == 1
+        && free_after(desk, &[9, 2, 8, 1, 7]) == 1
+        && free_after(desk, &[2]) == 2;
+    confirm(rt, free, "the rows that two versions leave free");
     desk.kill(b);
     desk.advance(0);
 }
@@ -164,31 +159,30 @@ fn two_rows_die(rt: &impl Abort, desk: &mut Desk<Global>)
 // The worked example of the desk.
 #[test]
 fn rows_between_two_live_versions_stay(rt: HostRuntime) {
-    let Ok(mut desk) = Desk::new(rt.alloc(), 4, 3, 0) else {
-        panic!(rt; "no memory")
-    };
+    let mut desk = Desk::new(rt.alloc(), 4, 3, 0).expect(&rt, "memory");
     two_rows_die(&rt, &mut desk);
-    for (live, free) in [([1], 2), ([2], 2), ([3], 3)] {
-        assert!(rt; free_after(&mut desk, &live) == free, "{live:?}");
+    for (live, free) in [(1, 2), (2, 2), (3, 3)] {
+        let right = free_after(&mut desk, &[live]) == free;
+        confirm_at(&rt, right, live as usize);
     }
-    assert!(rt; desk.current() == (0, 3));
+    confirm(&rt, desk.current() == (0, 3), "version 3");
 }
 
 /// The version that follows this one.
 fn next_from(rt: &impl Abort, alloc: Global, first: u64) -> Result<u64, VersionsSpent> {
     assert!(rt; first <= 9_223_372_036_854_775_807);
-    let Ok(desk) = Desk::new(alloc, 4, 3, first) else {
-        panic!(rt; "no memory")
-    };
+    let desk = Desk::new(alloc, 4, 3, first).expect(rt, "memory");
     desk.next_version()
 }
 
 #[test]
 fn versions_at_the_limit(rt: HostRuntime) {
     let last = 9_223_372_036_854_775_807;
-    assert!(rt; next_from(&rt, rt.alloc(), last) == Err(VersionsSpent));
-    assert!(rt; next_from(&rt, rt.alloc(), last - 1) == Ok(last));
-    assert!(rt; prints(&rt, rt.alloc(), &VersionsSpent, "version numbers are spent"));
+    let next = next_from(&rt, rt.alloc(), last) == Err(VersionsSpent)
+        && next_from(&rt, rt.alloc(), last - 1) == Ok(last);
+    confirm(&rt, next, "the last version");
+    let text = prints(&rt, rt.alloc(), &VersionsSpent, "version numbers are spent");
+    confirm(&rt, text, "the text");
 }
 
 // Whether sweeps take no memory, also with more live versions than the desk has records.
@@ -236,20 +230,20 @@ fn each_growth_is_refused_in_turn(rt: HostRuntime) {
     let mut refused = 0u32;
     for step in 1..300usize {
         if !desk_fits(&rt, rt.alloc(), step * 16) {
-            assert!(rt;
-                refused as usize == step - 1,
-                "once made, a larger heap serves too"
-            );
+            // once made, a larger heap serves too
+            confirm_at(&rt, refused as usize == step - 1, step);
             refused = step as u32;
         }
     }
-    assert!(rt; 200 <= refused && refused < 299);
-    assert!(rt; !rows_fit(&rt, rt.alloc(), 64) && rows_fit(&rt, rt.alloc(), 1024));
+    confirm_at(&rt, 200 <= refused && refused < 299, refused as usize);
+    let rows = !rows_fit(&rt, rt.alloc(), 64) && rows_fit(&rt, rt.alloc(), 1024);
+    confirm(&rt, rows, "rows");
 }
 
 #[test]
 fn each_number_of_records(rt: HostRuntime) {
     for records in 2..=34u32 {
-        assert!(rt; Desk::new(rt.alloc(), 100, records, 0).is_ok(), "{records}");
+        let made = Desk::new(rt.alloc(), 100, records, 0).is_ok();
+        confirm_at(&rt, made, records as usize);
     }
 }

@@ -1,6 +1,7 @@
 //! Planted maps, read back row by row.
 ghost use Rattle.std.specs.Prelude.{◌≡◌, IfOk, length};
 
+use crate::confirming::{confirm, confirm_at, few};
 use crate::pairs::{THREE_PAIRS, numbered, prints, spelt};
 use mst_arena::{Desk, EntryLinks, HeadLinks, Root, Row, Rows};
 use mst_key::{Format, Key, Memory, Value};
@@ -88,7 +89,7 @@ fn head_at(rt: &impl Abort, places: &[Option<Row>], link: u32) -> HeadLinks {
             first: *first,
             tail: *tail,
         },
-        _ => panic!(rt; "no head"),
+        _ => rt.panic("no head"),
     }
 }
 
@@ -110,7 +111,7 @@ fn entry_at(rt: &impl Abort, places: &[Option<Row>], link: u32) -> (EntryLinks, 
             };
             (links, value.copy())
         }
-        _ => panic!(rt; "no entry"),
+        _ => rt.panic("no entry"),
     }
 }
 
@@ -134,7 +135,7 @@ fn walk(
         pairs.push((entry.key, value)).expect(rt, "memory");
         link = entry.next;
     }
-    assert!(rt; link == 0, "too many entries");
+    confirm(rt, link == 0, "too many entries");
     walk(rt, places, head.tail, depth - 1, pairs);
 }
 
@@ -154,7 +155,7 @@ fn planted(
     pairs: &[(Key, Value)],
     size: u32,
 ) -> Result<Outcome, Memory> {
-    assert!(rt; pairs.len() <= 65_535);
+    few(rt, pairs);
     assert!(rt; 0 < size && size <= 65_535);
     let tree = build(alloc, pairs)?;
     let mut desk = Desk::new(alloc, size, 2, 0)?;
@@ -198,12 +199,10 @@ fn are_planted(rt: &impl Abort, alloc: Global, size: u32, fits: bool, free: u32)
 
 #[test]
 fn three_pairs_take_six_rows(rt: HostRuntime) {
-    assert!(rt; prints(&rt, rt.alloc(), &NoRoom, "no room"));
+    confirm(&rt, prints(&rt, rt.alloc(), &NoRoom, "no room"), "the text");
     for (size, fits, free) in ROOMS {
-        assert!(rt;
-            are_planted(&rt, rt.alloc(), *size, *fits, *free),
-            "{size} rows"
-        );
+        let right = are_planted(&rt, rt.alloc(), *size, *fits, *free);
+        confirm_at(&rt, right, *size as usize);
     }
 }
 
@@ -219,10 +218,14 @@ fn reads_back(rt: &impl Abort, alloc: Global, count: u32) {
     let pairs = numbered(rt, alloc, count);
     let outcome = planted(rt, alloc, pairs.as_slice(), 2_000).expect(rt, "memory");
     let root = outcome.root.expect(rt, "room");
-    assert!(rt; pairs.len() <= 65_535);
-    assert!(rt; root.digest == root_of(pairs.as_slice()));
+    few(rt, pairs.as_slice());
+    confirm(
+        rt,
+        root.digest == root_of(pairs.as_slice()),
+        "the root digest",
+    );
     let found = pairs_at(rt, alloc, &outcome.rows, root);
-    assert!(rt; found.as_slice() == pairs.as_slice());
+    confirm(rt, found.as_slice() == pairs.as_slice(), "the pairs");
 }
 
 #[test]

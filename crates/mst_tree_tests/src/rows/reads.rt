@@ -4,6 +4,7 @@ mod proofs;
 mod sizes;
 
 use super::standing::StandingMap;
+use crate::confirming::{confirm, confirm_at, few};
 use crate::heaps::{heap_of, is_made};
 use crate::pairs::{key_of, next_random, value_of};
 use linked_list_allocator::LocalHeap;
@@ -70,9 +71,11 @@ fn reads_at(
     pair: &(Key, Value),
     following: Option<&(Key, Value)>,
 ) {
-    assert!(rt; reads_key(rt, alloc, planted, (&pair.0, Some(&pair.1)), following));
+    let held = reads_key(rt, alloc, planted, (&pair.0, Some(&pair.1)), following);
+    confirm(rt, held, "the key");
     let above = just_above(rt, alloc, &pair.0);
-    assert!(rt; reads_key(rt, alloc, planted, (&above, None), following));
+    let none = reads_key(rt, alloc, planted, (&above, None), following);
+    confirm(rt, none, "the key above");
 }
 
 /// Whether the proof of the key's answer is accepted with this value, or with none.
@@ -157,17 +160,9 @@ fn ranges_at(
     let wanted = part(rt, pairs, places, limit);
     let from = key_at(rt, alloc, pairs, places.0);
     let to = key_at(rt, alloc, pairs, places.1);
-    assert!(rt;
-        range_is(
-            rt,
-            alloc,
-            planted,
-            (from.as_ref(), to.as_ref()),
-            limit,
-            wanted
-        ),
-        "{places:?} {limit}"
-    );
+    let bounds = (from.as_ref(), to.as_ref());
+    let right = range_is(rt, alloc, planted, bounds, limit, wanted);
+    confirm_at(rt, right, places.0.unwrap_or(limit));
 }
 
 /// No bound, and every so-many-th of the places of a list.
@@ -220,10 +215,10 @@ fn all_reads(
 fn reads_a_map(rt: &impl Abort, alloc: Global, count: u32, keys_apart: usize, places_apart: usize) {
     let pairs = generated(rt, alloc, count, 1 + u64::from(count));
     let pairs = pairs.as_slice();
-    assert!(rt; pairs.len() <= 65_535);
+    few(rt, pairs);
     let mut planted = StandingMap::new(rt, alloc, pairs, 30_000);
-    assert!(rt; planted.root() == root_of(pairs));
-    assert!(rt; planted.has_next(None, pairs.first()));
+    let rooted = planted.root() == root_of(pairs) && planted.has_next(None, pairs.first());
+    confirm(rt, rooted, "the root digest and the first pair");
     all_reads(rt, alloc, &mut planted, pairs, keys_apart);
     all_ranges(rt, alloc, &mut planted, pairs, places_apart);
 }
@@ -272,10 +267,8 @@ fn range_fits(
     let found = range_in(&heap, planted, pairs);
     let fits = is_made(rt, &heap, found);
     let three = first_of(rt, pairs);
-    assert!(rt;
-        fits || range_is(rt, alloc, planted, (None, None), 3, three),
-        "the rows are as they were"
-    );
+    let same = fits || range_is(rt, alloc, planted, (None, None), 3, three);
+    confirm(rt, same, "the rows are as they were");
     fits
 }
 
@@ -301,6 +294,6 @@ fn each_growth_of_a_range_is_refused(rt: HostRuntime) {
     let pairs = generated(&rt, alloc, 200, 7);
     let mut planted = StandingMap::new(&rt, alloc, pairs.as_slice(), 1_000);
     let units = units_of_range(&rt, alloc, &mut planted, pairs.as_slice());
-    assert!(rt; units > 16, "refused before");
-    assert!(rt; units < 256, "refused with ample memory");
+    confirm(&rt, units > 16, "refused before");
+    confirm(&rt, units < 256, "refused with ample memory");
 }

@@ -7,6 +7,7 @@ ghost use Rattle.mst_path.specs.Planting.{tree_at, IsTreeOf};
 ghost use Rattle.mst_tree_tests.specs.Ready.{IsPublished};
 
 use super::counted::{CountedRows, Reads};
+use crate::confirming::few;
 use mst_arena::{Desk, Root, VersionsSpent};
 use mst_key::{Format, Key, Memory, Value};
 use mst_node::{Node, build, is_map};
@@ -85,7 +86,7 @@ impl<A: Allocator + Copy> StandingMap<A> {
         size: u32,
     ) -> Result<StandingMap<A>, Memory> {
         assert!(rt; is_map(pairs));
-        assert!(rt; pairs.len() <= 65_535);
+        few(rt, pairs);
         assert!(rt; 0 < size && size <= 65_535);
         let tree = build(trees, pairs)?;
         StandingMap::planted(rt, alloc, tree.as_deref(), size)
@@ -93,10 +94,7 @@ impl<A: Allocator + Copy> StandingMap<A> {
 
     /// The map of these pairs, planted in so many rows.
     pub fn new(rt: &impl Abort, alloc: A, pairs: &[(Key, Value)], size: u32) -> StandingMap<A> {
-        let Ok(map) = StandingMap::new_beside(rt, alloc, alloc, pairs, size) else {
-            panic!(rt; "no memory")
-        };
-        map
+        StandingMap::new_beside(rt, alloc, alloc, pairs, size).expect(rt, "memory")
     }
 
     /// How many rows are free.
@@ -187,13 +185,14 @@ impl<A: Allocator + Copy> StandingMap<A> {
         self.next(after).as_ref() == pair
     }
 
-    /// The value of a key, and the pair of the next key, by only the link of the root.
-    pub fn get_and_next(&mut self, key: &Key) -> (Option<Value>, Option<(Key, Value)>) {
-        let found = mst_read::get_below(&mut self.rows, self.root.link, key);
-        (
-            found,
-            mst_read::next_below(&mut self.rows, self.root.link, Some(key)),
-        )
+    /// Whether a key has this value, or none, by only the link of the root.
+    pub fn has_below(&mut self, key: &Key, value: Option<&Value>) -> bool {
+        mst_read::get_below(&mut self.rows, self.root.link, key).as_ref() == value
+    }
+
+    /// Whether this pair is the next one, or none is, by only the link of the root.
+    pub fn has_next_below(&mut self, key: &Key, pair: Option<&(Key, Value)>) -> bool {
+        mst_read::next_below(&mut self.rows, self.root.link, Some(key)).as_ref() == pair
     }
 
     /// The pairs between two bounds, at most so many.

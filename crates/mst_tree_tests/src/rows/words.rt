@@ -1,5 +1,6 @@
 //! Worked words: of an entry, of a head, of their parts, and words that are of no row.
 use super::entry_of;
+use crate::confirming::{confirm, confirm_at};
 use crate::pairs::pair;
 use mst_arena::{EntryLinks, HeadLinks, Row};
 use std::process::Abort;
@@ -64,8 +65,9 @@ fn are_of(words: &[u64; 16], row: &Row) -> bool {
 
 #[test]
 fn words_by_hand(rt: HostRuntime) {
-    assert!(rt; are_of(&ENTRY_WORDS, &entry_of(&rt, 7, 9, b"ab", b"xyz")));
-    assert!(rt; are_of(&HEAD_WORDS, &HEAD));
+    let entry = entry_of(&rt, 7, 9, b"ab", b"xyz");
+    confirm(&rt, are_of(&ENTRY_WORDS, &entry), "an entry");
+    confirm(&rt, are_of(&HEAD_WORDS, &HEAD), "a head");
 }
 
 /// The words of a row, the index of one of them, and a word that makes them of no row.
@@ -102,7 +104,7 @@ fn are_of_none(good: &[u64; 16], index: usize, word: u64) -> bool {
 #[test]
 fn words_with_a_fault_are_no_row(rt: HostRuntime) {
     for (good, index, word) in FAULTS {
-        assert!(rt; are_of_none(good, *index, *word), "word {index} is {word}");
+        confirm_at(&rt, are_of_none(good, *index, *word), *index);
     }
 }
 
@@ -137,9 +139,13 @@ const DIGEST_WORDS: [u64; 4] = [
 
 #[test]
 fn parts_by_hand(rt: HostRuntime) {
-    assert!(rt; entry_is_read(&rt));
-    assert!(rt; HeadLinks::read(&[3, 1, 5, 0]) == Some(HEAD_LINKS));
-    assert!(rt; Row::read_digest(&DIGEST_WORDS) == DIGEST);
+    confirm(&rt, entry_is_read(&rt), "an entry");
+    confirm(
+        &rt,
+        HeadLinks::read(&[3, 1, 5, 0]) == Some(HEAD_LINKS),
+        "a head",
+    );
+    confirm(&rt, Row::read_digest(&DIGEST_WORDS) == DIGEST, "a digest");
 }
 
 /// Words of no entry, and what is wrong with them.
@@ -157,14 +163,10 @@ fn is_no_entry(words: &[u64; 7]) -> bool {
 #[test]
 fn words_of_no_part(rt: HostRuntime) {
     for (words, what) in NO_ENTRIES {
-        assert!(rt; is_no_entry(words), "{what}");
+        confirm(&rt, is_no_entry(words), what);
     }
-    assert!(rt;
-        Row::read_value(1 + 256 * 65, &[0; 8]).is_none(),
-        "a value of 65 bytes"
-    );
-    assert!(rt;
-        HeadLinks::read(&[256, 1, 5, 0]).is_none(),
-        "a layer past all layers"
-    );
+    let no_value = Row::read_value(1 + 256 * 65, &[0; 8]).is_none();
+    confirm(&rt, no_value, "a value of 65 bytes");
+    let no_head = HeadLinks::read(&[256, 1, 5, 0]).is_none();
+    confirm(&rt, no_head, "a layer past all layers");
 }

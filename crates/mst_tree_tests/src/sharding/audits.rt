@@ -1,5 +1,6 @@
 //! The audit of a directory.
 use super::ROOT_ONE;
+use crate::confirming::confirm_at;
 use crate::pairs::{bytes_of, pair, prints};
 use mst_key::{Format, Key, Value};
 use mst_sharded_proof::audit_directory;
@@ -95,7 +96,7 @@ const QUESTIONS: &[Question] = &[
 
 #[test]
 fn audits_say_what_is_wrong_and_where(rt: HostRuntime) {
-    for question in QUESTIONS {
-        assert!(rt; holds(&rt, rt.alloc(), *question));
+    for (place, question) in QUESTIONS.iter().enumerate() {
+        confirm_at(&rt, holds(&rt, rt.alloc(), *question), place);
     }
 }

@@ -1,5 +1,6 @@
 //! Proofs that planted rows give, judged by the verifier.
 use super::{generated, just_above, proves};
+use crate::confirming::{confirm, confirm_at};
 use crate::heaps::{heap_of, is_made};
 use crate::pairs::key_of;
 use crate::rows::standing::StandingMap;
@@ -40,8 +41,8 @@ fn proves_around(
 
 /// Each pair is proved, and so is that no key stands just beside it.
 fn proves_all(rt: &impl Abort, alloc: Global, planted: &mut StandingMap, pairs: &[(Key, Value)]) {
-    for (key, value) in pairs {
-        assert!(rt; proves_around(rt, alloc, planted, key, value));
+    for (place, (key, value)) in pairs.iter().enumerate() {
+        confirm_at(rt, proves_around(rt, alloc, planted, key, value), place);
     }
 }
 
@@ -59,9 +60,9 @@ fn ten_thousand_pairs(rt: HostRuntime) {
     let pairs = pairs.as_slice();
     assert!(rt; pairs.len() == 10_000);
     let mut planted = StandingMap::new(&rt, alloc, pairs, 20_000);
-    assert!(rt; planted.root() == root_of(pairs));
+    confirm(&rt, planted.root() == root_of(pairs), "the root digest");
     proves_all(&rt, alloc, &mut planted, pairs);
-    assert!(rt; proves_ends(&rt, alloc, &mut planted));
+    confirm(&rt, proves_ends(&rt, alloc, &mut planted), "the ends");
 }
 
 /// Whether the proof for the key that is made in this heap is the wanted one; `None` if memory is
@@ -105,6 +106,6 @@ fn each_growth_of_a_proof_is_refused(rt: HostRuntime) {
     let mut planted = StandingMap::new(&rt, alloc, pairs.as_slice(), 1_000);
     let key = key_of(&rt, b"no key of the map");
     let units = units_of_proof(&rt, alloc, &mut planted, &key);
-    assert!(rt; units > 4, "refused before");
-    assert!(rt; units < 256, "refused with ample memory");
+    confirm(&rt, units > 4, "refused before");
+    confirm(&rt, units < 256, "refused with ample memory");
 }

@@ -1,5 +1,6 @@
 //! Maps of many sizes, in ample memory: no call may return that memory was refused.
 use super::{generated, proves, ranges_at};
+use crate::confirming::confirm;
 use crate::pairs::key_of;
 use crate::proving::sizes::{ABSENT, is_free, pairs_of_one_node};
 use crate::rows::standing::StandingMap;
@@ -41,8 +42,12 @@ fn absence_is_free(
 /// key in its middle and for one that it lacks, and whether that one collides with its tree.
 fn asks_all(rt: &impl Abort, alloc: Global, pairs: &[(Key, Value)], rows: u32) {
     let mut map = StandingMap::new(rt, alloc, pairs, rows);
-    assert!(rt; finds_all(rt, alloc, &mut map, pairs));
-    assert!(rt; absence_is_free(rt, alloc, &mut map, pairs));
+    confirm(rt, finds_all(rt, alloc, &mut map, pairs), "all that it has");
+    confirm(
+        rt,
+        absence_is_free(rt, alloc, &mut map, pairs),
+        "what it lacks",
+    );
 }
 
 #[test]

@@ -1,0 +1,211 @@
+"""Cases whose texts are computed: by other programs for nodes and proofs (vectors/nodes.py, the
+verifier in Python), at random, or from what an earlier run has answered."""
+import hashlib
+import itertools
+import os
+import random
+import re
+import sys
+
+from transcript import Case
+
+HERE = os.path.dirname(os.path.abspath(__file__))
+sys.path += [os.path.join(HERE, "..", "..", it) for it in ("vectors", "verifiers/python")]
+import mst_verifier
+import nodes
+
+JOINTS = " ="
+
+
+def case(title, line, given, out, is_read=True, status=0):
+    """A case with the words in a line, and the other texts as strings."""
+    place = f"computed.py: {title}: {line}"
+    return Case(place, line.encode().split(b" "), given.encode(), is_read, status, out.encode())
+
+
+# ---- options
+
+
+def spelt(options):
+    """The words of these options in each order and spelling."""
+    for joints in itertools.product(JOINTS, repeat=len(options)):
+        words = [f" --{name}{joint}{number}" for joint, (name, number) in zip(joints, options)]
+        yield from map("".join, itertools.permutations(words))
+
+
+# Numbers of rows, each with how many keys of one node have room in so many rows, and numbers of
+# passes; that which a script has without the option is the last one.
+ROWS = [("5", 2), ("7", 3), ("9", 4), ("+11", 5), ("0013", 6), (None, 9)]
+PASSES = [("3", 3), ("6", 6), ("8", 8), ("+10", 10), ("012", 12), (None, 4)]
+
+
+def options_of_a_script():
+    """Each number of rows beside each number of passes: what a script is answered tells both."""
+    script = "".join(f"1 put {key} -\n" for key in range(61, 70))
+    script += "".join(f"{number} get 7a\n" for number in range(1, 14))
+    for (rows, keys), (passes, count) in itertools.product(ROWS, PASSES):
+        answers = "none\n" * keys + "noroom\n" * (9 - keys)
+        answers += "none\n" * count + "fault L2\n" * (13 - count)
+        options = [(name, it) for name, it in (("rows", rows), ("passes", passes)) if it]
+        for words in spelt(options):
+            yield case("room and passes", "mst run" + words, script, answers)
+
+
+LOADS = [(2, 3, 5), (2, 5, 3), (3, 2, 5), (3, 5, 2), (5, 2, 3), (5, 3, 2), (1, 8, 40), (24, 1, 99)]
+
+
+def options_of_a_load():
+    """The report on a load tells how many writers it had, and how many calls each of them made."""
+    for number, (readers, writers, calls) in enumerate(LOADS):
+        last = {(writer, call % 32): call for writer in range(1, writers + 1)
+                for call in range(1, calls + 1)}
+        pairs = sorted((bytes(key), call.to_bytes(4, "big")) for key, call in last.items())
+        root = nodes.build(pairs)[1].hex()
+        report = f"events {writers * calls}\nfalls 0\nroot {root}\nbuilt {root}\n"
+        options = [("readers", readers), ("writers", writers), ("calls", calls)]
+        for words in itertools.islice(spelt(options), 48 if number == 0 else 1):
+            yield case("loads", "mst load" + words, "x", report, is_read=False)
+
+
+# ---- whole scripts
+
+
+def all_passes_pin():
+    """Each pass puts its number and pins what it put; then the last one writes on."""
+    script, answers, before = "", "", "none"
+    for number in range(1, 33):
+        script += f"{number} put 61 {number:02x}\n{number} pin\n"
+        answers += f"{before}\npinned {number}\n"
+        before = f"some {number:02x}"
+    script += "32 unpin\n32 put 61 21\n1 get 61\n31 get 61\n32 get 61"
+    answers += "unpinned\nsome 20\nsome 01\nsome 1f\nsome 21\n"
+    yield case("all passes pin versions", "mst run --passes 32", script, answers)
+
+
+def a_large_node():
+    """A map of one node, whose text and whose proofs have more than 65,535 bytes."""
+    keys = [number.to_bytes(2, "big") for number in range(1 << 16)]
+    keys = [key for key in keys if nodes.layer_of(key) == 0][:1000]
+    values = [key[1:] * 64 for key in keys]
+    text = nodes.Node(0, keys, values, [None] * 1001).text()
+    assert len(text) > 65_535
+    root, proof = hashlib.sha256(text).hexdigest(), nodes.framed([text]).hex()
+    pairs = [f"{key.hex()} {value.hex()}\n" for key, value in zip(keys, values)]
+    script = "".join(f"1 put {pair}" for pair in pairs)
+    script += "1 node\n1 prove ffff\n1 range - - 65535\n1 rows\n"
+    answers = "none\n" * 1000 + f"{text.hex()}\n{proof}\npairs 1000\n"
+    answers += "".join(f"pair {pair}" for pair in pairs) + "rows 1001\n"
+    title = "a node of a thousand keys"
+    yield case(title, "mst run --rows 2100 --passes 1", script, answers)
+    yield case(title, f"mst verify {root} ffff", proof, "absent\n")
+    yield case(title, f"mst verify {root} 0000", proof, f"present {'00' * 64}\n")
+
+
+# ---- proofs
+
+
+def each_byte_counts():
+    """A proof of two nodes that is cut before each byte, that has a bit of each byte changed, and
+    that is longer by a byte: the verifier in Python says what is wrong."""
+    pairs = [(b"1", b"x"), (b"39", b"y"), (b"a", b"z")]
+    made, root = nodes.build(pairs)
+    proof = nodes.proof_for(made, root, b"1")
+    spoilt = [proof[:place] for place in range(len(proof))] + [proof + b"\0"]
+    for place, byte in enumerate(proof):
+        spoilt.append(proof[:place] + bytes([byte ^ 1]) + proof[place + 1 :])
+    for other in spoilt:
+        said = mst_verifier.line_for(1, root, b"1", other)
+        assert said.startswith("P")
+        line = f"mst verify {root.hex()} 31"
+        yield case("each byte of a proof counts", line, other.hex(), said + "\n", status=1)
+
+
+# ---- sharded maps
+
+SHARDED = "1 put 61 31\n1 put 63 -\n1 put 62 32\n2 root\n3 prove {}\n"
+
+# Keys right at a split, beside one, not there, and in a shard with no key.
+PROVED = {"61": "present 31", "62": "present 32", "6200": "absent", "63": "present -",
+          "01": "absent", "ff": "absent"}
+
+
+def proofs_of_shards(run):
+    """What a script over a sharded map answers as a proof shows this of the key."""
+    for number, (key, said) in itertools.product((1, 2), PROVED.items()):
+        words = f"mst run --splits 62,64 --format {number}".split()
+        answers = run(words, SHARDED.format(key).encode()).decode().split("\n")
+        line = f"mst verify --sharded --format {number} {answers[3]} {key}"
+        yield case("proofs of a sharded map", line, answers[4], said + "\n")
+
+
+def splits(shards):
+    """The words of a map of so many shards, each with some of 24 keys of a byte."""
+    keys = ",".join(f"{shard * 24 // shards + 16:02x}" for shard in range(1, shards))
+    return f"mst run --passes 3 --splits {keys}"
+
+
+def random_key(draw):
+    return f"{draw.randrange(16, 40):02x}" + draw.choice(["", "", "", "00"])
+
+
+def random_edit(draw):
+    key = random_key(draw)
+    return draw.choice([f"del {key}"] + [f"put {key} {draw.randrange(256):02x}"] * 3)
+
+
+def random_read(draw):
+    """A read of all shards."""
+    one, other = random_key(draw), random_key(draw)
+    return draw.choice(["next -", f"range - - {draw.randrange(40)}", f"range {one} {other} 9",
+                        f"range {one} - 7", "format", f"next {one}"])
+
+
+def random_command(draw):
+    """A command that is no read of all shards."""
+    edits = " ".join(random_edit(draw) for _ in range(3))
+    return draw.choice([f"get {random_key(draw)}", "pin", "unpin", "unpin", "batch",
+                        f"migrate {draw.randrange(1, 3)}", f"batch {edits}", f"batch {edits}",
+                        *(random_edit(draw) for _ in range(4))])
+
+
+def shards_next_to_a_store(run):
+    """Whatever the splits, each line is answered as one store answers it, which also says what
+    version it pins."""
+    for seed in range(1, 9):
+        draw = random.Random(seed)
+        lines = (draw.choice([random_read, random_command])(draw) for _ in range(400))
+        script = "".join(f"{draw.randrange(1, 4)} {line}\n" for line in lines)
+        answers = run("mst run --passes 3".split(), script.encode()).decode()
+        wanted = re.sub(r"(?m)^pinned \d+$", "pinned", answers)
+        for shards in (2, 7, 24):
+            yield case(f"shards next to a store, by {seed}", splits(shards), script, wanted)
+
+
+def shards_next_to_a_list():
+    """Puts, removes and gets, next to the plain list of what is held."""
+    for seed in range(1, 9):
+        draw, held, script, answers = random.Random(seed), {}, "", ""
+        for _ in range(500):
+            key, value = f"{draw.randrange(16, 40):02x}", f"{draw.randrange(256):02x}"
+            asked = draw.choice(["del", "get", "get", "put", "put"])
+            fields = f"{key} {value}" if asked == "put" else key
+            script += f"{draw.randrange(1, 4)} {asked} {fields}\n"
+            answers += f"some {held[key]}\n" if key in held else "none\n"
+            if asked == "put":
+                held[key] = value
+            elif asked == "del":
+                held.pop(key, None)
+        for shards in (2, 7, 24):
+            yield case(f"shards next to a list, by {seed}", splits(shards), script, answers)
+
+
+def cases(run):
+    """All of these cases. `run` gives what the program writes for words and an input."""
+    yield from options_of_a_script()
+    yield from options_of_a_load()
+    yield from all_passes_pin()
+    yield from a_large_node()
+    yield from each_byte_counts()
+    yield from proofs_of_shards(run)
+    yield from shards_next_to_a_store(run)
+    yield from shards_next_to_a_list()
