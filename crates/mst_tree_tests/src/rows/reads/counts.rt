@@ -7,7 +7,8 @@
 //! pair of the answer. An entry whose way was asked for is read once more if its key or its links
 //! are needed: the entry of a next pair and that of the bound, and of a range that has a lower
 //! bound the first entry that is not below it in each node on the way whose pairs are added. A range
-//! that has an upper bound asks each of its pairs, and the one that ends it, for their way to it.
+//! that has an upper bound asks each of its pairs, and in each node on the way the one that ends it,
+//! for their way to it.
 use crate::confirming::confirm_at;
 use crate::pairs::{key_of, numbered, numbered_key};
 use crate::rows::counted::Reads;
@@ -108,9 +109,9 @@ const RANGES: &[Case] = &[
     (Ask::Range(Some(100), None, 2), 3, 28, 2),
     (Ask::Range(Some(100), None, 10), 4, 37, 10),
     (Ask::Range(Some(17), Some(19), 1), 3, 22, 1),
-    (Ask::Range(Some(17), Some(19), 10), 3, 28, 2),
+    (Ask::Range(Some(17), Some(19), 10), 3, 30, 2),
     (Ask::Range(Some(150), Some(160), 2), 3, 16, 2),
-    (Ask::Range(Some(150), Some(160), 300), 3, 36, 10),
+    (Ask::Range(Some(150), Some(160), 300), 3, 38, 10),
 ];
 
 #[test]
