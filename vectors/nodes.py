@@ -1,9 +1,11 @@
 """Nodes and proofs as bytes, for making vectors (docs/FORMAT.md)."""
+from functools import cache
 from hashlib import sha256
 
 EMPTY = sha256(b"").digest()
 
 
+@cache
 def layer_of(key, format=1):
     """How many digits are 0 at the front of the key's SHA-256: of base 16 in format 1, of base 4 in
     format 2."""

@@ -1,5 +1,6 @@
 """Cases whose texts are computed: by other programs for nodes and proofs (vectors/nodes.py, the
-verifier in Python), at random, or from what an earlier run has answered."""
+verifier in Python), at random, from what an earlier run has answered, or by a plain model of a store
+(modelled.py, longer.py)."""
 import hashlib
 import itertools
 import os
@@ -7,6 +8,8 @@ import random
 import re
 import sys
 
+import longer
+import modelled
 from transcript import Case
 
 HERE = os.path.dirname(os.path.abspath(__file__))
@@ -209,3 +212,5 @@ def cases(run):
     yield from proofs_of_shards(run)
     yield from shards_next_to_a_store(run)
     yield from shards_next_to_a_list()
+    yield from modelled.cases()
+    yield from longer.cases()
