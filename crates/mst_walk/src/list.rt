@@ -1,5 +1,5 @@
 //! The map as a plain sorted list.
-ghost use Rattle.std.specs.Prelude.{vec_len};
+ghost use Rattle.std.specs.Prelude.{◌<◌, ◌≤◌, vec_len};
 ghost use Rattle.std.specs.List.Sorted.{IsSearchInRange};
 
 use mst_key::{Edit, Format, Key, Value};
@@ -76,21 +76,37 @@ impl List {
         Some(value.copy())
     }
 
-    // Gives the key the value or, if none is given, takes it out.
-    fn set(&mut self, key: &Key, new: Option<&Value>) -> Result<(), AllocError> {
-        match (self.find(key), new) {
-            (Ok(place), Some(value)) => {
-                if let Some(pair) = self.pairs.get_mut(place) {
-                    pair.1 = value.copy();
-                }
-            }
-            (Err(place), Some(value)) => self.pairs.insert(place, (key.copy(), value.copy()))?,
-            (Ok(place), None) => {
+    // Gives the key at this place the value or, if none is given, takes it out.
+    fn set_at(&mut self, place: usize, new: Option<&Value>)
+        requires there { place < vec_len self.old.pairs }
+    {
+        match new {
+            Some(value) => self.pairs[place].1 = value.copy(),
+            None => {
                 let _ = self.pairs.remove(place);
             }
-            (Err(_), None) => {}
+        }
+    }
+
+    // Gives the key, which has none, the value at this place, if one is given.
+    fn insert(&mut self, place: usize, key: &Key, new: Option<&Value>) -> Result<(), AllocError>
+        requires inside { place ≤ vec_len self.old.pairs }
+    {
+        if let Some(value) = new {
+            self.pairs.insert(place, (key.copy(), value.copy()))?;
         }
         Ok(())
+    }
+
+    // Gives the key the value or, if none is given, takes it out.
+    fn set(&mut self, key: &Key, new: Option<&Value>) -> Result<(), AllocError> {
+        match self.find(key) {
+            Ok(place) => {
+                self.set_at(place, new);
+                Ok(())
+            }
+            Err(place) => self.insert(place, key, new),
+        }
     }
 
     /// Gives the key the value or, if none is given, takes it out, which is one change.
@@ -100,13 +116,18 @@ impl List {
         Ok(())
     }
 
+    // Makes an edit.
+    fn edit(&mut self, edit: &Edit) -> Result<(), AllocError> {
+        match edit {
+            Edit::Put(key, value) => self.set(key, Some(value)),
+            Edit::Remove(key) => self.set(key, None),
+        }
+    }
+
     /// Makes the edits, one after another, which is one change.
     pub fn apply(&mut self, edits: &[Edit]) -> Result<(), AllocError> {
         for edit in edits {
-            match edit {
-                Edit::Put(key, value) => self.set(key, Some(value))?,
-                Edit::Remove(key) => self.set(key, None)?,
-            }
+            self.edit(edit)?;
         }
         self.changes = self.changes.saturating_add(1);
         Ok(())
@@ -122,16 +143,20 @@ impl List {
         }
     }
 
-    /// Whether this is the pair of the least key above the bound.
-    pub fn is_next(&self, after: Option<&Key>, found: Option<&(Key, Value)>) -> bool {
-        let place = match after {
+    // The place of the first key above the bound.
+    fn start_above(&self, after: Option<&Key>) -> usize {
+        match after {
             Some(key) => match self.find(key) {
                 Ok(place) => place.saturating_add(1),
                 Err(place) => place,
             },
             None => 0,
-        };
-        self.pairs.get(place) == found
+        }
+    }
+
+    /// Whether this is the pair of the least key above the bound.
+    pub fn is_next(&self, after: Option<&Key>, found: Option<&(Key, Value)>) -> bool {
+        self.pairs.get(self.start_above(after)) == found
     }
 
     /// Whether these are the first pairs, at most `limit`, of the keys between the bounds.

@@ -12,7 +12,7 @@
 //! executable is then `out/mst_walk`.
 #![tactic(auto)]
 
-ghost use Rattle.std.specs.Prelude.{◌<◌};
+ghost use Rattle.std.specs.Prelude.{◌≡◌, ◌<◌, IfOk};
 
 mod chance;
 mod list;
@@ -20,9 +20,10 @@ mod pairs;
 mod reads;
 mod tally;
 mod walk;
+mod writes;
 
 use list::List;
-use mst_store::{Format, OpenFault, Pass, Shape, Store};
+use mst_store::{Format, OpenFault, Pass, Seats, Shape, Store};
 use std::alloc::Global;
 use std::{env, io};
 use walk::{PASSES, Walk};
@@ -54,56 +55,97 @@ fn asked_operations(rt: &HostRuntime) -> io::Result<Option<u64>> {
     }
 }
 
+// Makes the call with this number, before some of which the root digests are compared.
+fn make_call(walk: &mut Walk<'_>, operation: u64) -> io::Result<()> {
+    if operation % BETWEEN_ROOTS == 0 {
+        walk.compare_roots()?;
+    }
+    walk.step()
+}
+
 // Makes the calls, and compares the root digests.
 fn make_calls(walk: &mut Walk<'_>, operations: u64) -> io::Result<()> {
     for operation in 0..operations {
-        if operation % BETWEEN_ROOTS == 0 {
-            walk.compare_roots()?;
-        }
-        walk.step()?;
+        make_call(walk, operation)?;
     }
     walk.compare_roots()
+}
+
+// Prints the root digest of the list.
+fn tell_root(rt: &HostRuntime, list: &List) -> io::Result<()> {
+    let digits = hex::encode(rt.alloc(), list.root()?.as_slice())?;
+    println!(rt; "root {digits}")
 }
 
 // Prints how many keys the list has, and its root digest.
 fn tell_list(rt: &HostRuntime, list: &List) -> io::Result<()> {
     let keys = list.len();
-    let root = list.root()?;
-    let digits = hex::encode(rt.alloc(), root.as_slice())?;
     println!(rt; "keys {keys}")?;
-    println!(rt; "root {digits}")
+    tell_root(rt, list)
 }
 
-// Prints the result of the walk; an error if an answer was not the list's.
+// Prints the result of the walk.
 fn report(rt: &HostRuntime, walk: &Walk<'_>, operations: u64) -> io::Result<()> {
     println!(rt; "operations {operations}")?;
     walk.tally().print(rt)?;
-    tell_list(rt, walk.list())?;
+    tell_list(rt, walk.list())
+}
+
+// An error if an answer was not the list's.
+fn judge(walk: &Walk<'_>) -> io::Result<()> {
     if walk.tally().differences() > 0 {
         return Err(io::ErrorKind::InvalidData.into());
     }
     Ok(())
 }
 
+// Makes the calls of a walk, and prints its result.
+fn go(rt: &HostRuntime, walk: &mut Walk<'_>, operations: u64) -> io::Result<()> {
+    make_calls(walk, operations)?;
+    report(rt, walk, operations)?;
+    judge(walk)
+}
+
 // Walks by these passes.
 fn run(rt: &HostRuntime, passes: Vec<Pass<'_, Global>>, operations: u64) -> io::Result<()> {
     let mut walk = Walk::new(rt.alloc(), passes);
-    make_calls(&mut walk, operations)?;
-    report(rt, &walk, operations)
+    go(rt, &mut walk, operations)
+}
+
+// A store of the walk's shape.
+fn opened(alloc: Global) -> io::Result<(Store<Global>, Seats<Global>)>
+    ensures own { IfOk result (λ opened. opened.1 ≡ opened.0) }
+{
+    match Store::open(alloc, SHAPE) {
+        Ok(opened) => Ok(opened),
+        Err(OpenFault::Memory(refused)) => Err(refused.into()),
+        Err(OpenFault::Shape) => Err(io::ErrorKind::InvalidInput.into()),
+    }
+}
+
+// Its passes.
+fn dealt<'a>(
+    alloc: Global,
+    store: &'a Store<Global>,
+    seats: Seats<Global>,
+) -> io::Result<Vec<Pass<'a, Global>>>
+    requires own { seats ≡ store.now }
+{
+    match store.deal(alloc, seats) {
+        Ok(passes) => Ok(passes),
+        Err((refused, _)) => Err(refused.into()),
+    }
+}
+
+// Walks by the passes of a new store.
+fn run_anew(rt: &HostRuntime, operations: u64) -> io::Result<()> {
+    let (store, seats) = opened(rt.alloc())?;
+    run(rt, dealt(rt.alloc(), &store, seats)?, operations)
 }
 
 fn main(rt: HostRuntime) -> io::Result<()> {
-    let Some(operations) = asked_operations(&rt)? else {
-        return println!(rt; "mst_walk [OPERATIONS]: makes so many random calls");
-    };
-    let (store, seats) = match Store::open(rt.alloc(), SHAPE) {
-        Ok(opened) => opened,
-        Err(OpenFault::Memory(refused)) => return Err(refused.into()),
-        Err(OpenFault::Shape) => return Err(io::ErrorKind::InvalidInput.into()),
-    };
-    let passes = match store.deal(rt.alloc(), seats) {
-        Ok(passes) => passes,
-        Err((refused, _)) => return Err(refused.into()),
-    };
-    run(&rt, passes, operations)
+    match asked_operations(&rt)? {
+        Some(operations) => run_anew(&rt, operations),
+        None => println!(rt; "mst_walk [OPERATIONS]: makes so many random calls"),
+    }
 }

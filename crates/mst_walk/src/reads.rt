@@ -2,7 +2,7 @@
 use crate::chance::Chance;
 use crate::list::List;
 use crate::pairs::{some_bound, some_key};
-use crate::tally::{Call, Tally};
+use crate::tally::{Call, Counted, Tally};
 use mst_key::{Format, Key, Memory, Value};
 use mst_proof::verify_in;
 use mst_store::{Pass, Pinned};
@@ -107,64 +107,69 @@ impl<'a> Reads for Pinned<'a, Global> {
     }
 }
 
-// Whether a value is the list's.
-fn get<R: Reads>(reader: &mut R, list: &List, chance: &mut Chance) -> bool {
+// Gets a value.
+fn get<R: Reads>(reader: &mut R, list: &List, chance: &mut Chance) -> Counted {
     let key = some_key(chance);
-    reader.value_of(&key) == list.get(&key)
+    (Call::Get, reader.value_of(&key) == list.get(&key))
 }
 
-// Whether a next pair is the list's.
-fn next<R: Reads>(reader: &mut R, list: &List, chance: &mut Chance) -> bool {
+// Asks for a next pair.
+fn next<R: Reads>(reader: &mut R, list: &List, chance: &mut Chance) -> Counted {
     let after = some_bound(chance);
     let found = reader.next_pair(after.as_ref());
-    list.is_next(after.as_ref(), found.as_ref())
+    (Call::Next, list.is_next(after.as_ref(), found.as_ref()))
 }
 
-// Whether a range is the list's.
+// Asks for a range.
 fn range<R: Reads>(
     alloc: Global,
     reader: &mut R,
     list: &List,
     chance: &mut Chance,
-) -> io::Result<bool> {
+) -> io::Result<Counted> {
     let (from, to) = (some_bound(chance), some_bound(chance));
     let limit = chance.below(MOST_PAIRS + 1);
     let found = reader.pairs(alloc, from.as_ref(), to.as_ref(), limit)?;
-    Ok(list.is_range(from.as_ref(), to.as_ref(), limit, found.as_slice()))
+    let is_same = list.is_range(from.as_ref(), to.as_ref(), limit, found.as_slice());
+    Ok((Call::Range, is_same))
 }
 
-// Whether the answer that a proof shows against the reader's root digest is the list's.
+// Whether the proof shows the list's value of the key against this root digest.
+fn is_proof(list: &List, root: &[u8; 32], key: &Key, proof: &[u8]) -> bool {
+    match verify_in(list.format(), root, key, proof) {
+        Ok(answer) => answer == list.get(key),
+        Err(_) => false,
+    }
+}
+
+// Asks for a proof, and verifies it against the reader's root digest.
 fn prove<R: Reads>(
     alloc: Global,
     reader: &mut R,
     list: &List,
     chance: &mut Chance,
-) -> io::Result<bool> {
+) -> io::Result<Counted> {
     let key = some_key(chance);
     let proof = reader.proof_of(alloc, &key)?;
-    match verify_in(list.format(), &reader.root_digest(), &key, proof.as_slice()) {
-        Ok(answer) => Ok(answer == list.get(&key)),
-        Err(_) => Ok(false),
-    }
+    let root = reader.root_digest();
+    Ok((Call::Prove, is_proof(list, &root, &key, proof.as_slice())))
 }
 
-/// Makes one read, and counts whether its answer is the list's.
+/// Makes one read, and says whether its answer is the list's.
 pub fn read<R: Reads>(
     alloc: Global,
     reader: &mut R,
     list: &List,
     chance: &mut Chance,
-    tally: &mut Tally,
-) -> io::Result<()> {
+) -> io::Result<Counted> {
     match chance.below(64) {
-        0 => tally.add(Call::Range, range(alloc, reader, list, chance)?),
-        1 => tally.add(Call::Prove, prove(alloc, reader, list, chance)?),
-        2 => tally.add(Call::Version, reader.version_number() == list.changes()),
-        3 => tally.add(Call::Format, reader.tree_format() == list.format()),
-        choice if choice < 24 => tally.add(Call::Next, next(reader, list, chance)),
-        _ => tally.add(Call::Get, get(reader, list, chance)),
+        0 => range(alloc, reader, list, chance),
+        1 => prove(alloc, reader, list, chance),
+        2 => Ok((Call::Version, reader.version_number() == list.changes())),
+        3 => Ok((Call::Format, reader.tree_format() == list.format())),
+        choice if choice < 24 => Ok(next(reader, list, chance)),
+        _ => Ok(get(reader, list, chance)),
     }
-    Ok(())
 }
 
 /// Counts whether the reader's root digest is this.

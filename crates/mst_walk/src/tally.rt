@@ -71,11 +71,19 @@ impl Call {
     }
 }
 
+/// A call, and whether its answer was the list's.
+pub type Counted = (Call, bool);
+
 /// The counts of one walk.
 #[derive(Drop)]
 pub struct Tally {
     counts: [u64; KINDS],
     differences: u64,
+}
+
+// Prints the line of a kind of call.
+fn tell(rt: &HostRuntime, name: &str, count: u64) -> io::Result<()> {
+    println!(rt; "{name} {count}")
 }
 
 impl Tally {
@@ -97,17 +105,29 @@ impl Tally {
         }
     }
 
+    /// Counts a call, if it had memory.
+    pub fn count(&mut self, counted: io::Result<Counted>) -> io::Result<()> {
+        let (call, is_same) = counted?;
+        self.add(call, is_same);
+        Ok(())
+    }
+
     /// How many answers were not the list's.
     pub fn differences(&self) -> u64 {
         self.differences
     }
 
+    // Prints a line for each kind of call, the writes that found no room among them.
+    fn print_calls(&self, rt: &HostRuntime) -> io::Result<()> {
+        for (name, count) in NAMES.iter().zip(self.counts.iter()) {
+            tell(rt, name, *count)?;
+        }
+        Ok(())
+    }
+
     /// Prints a line for each kind of call, the writes that found no room, and the differences.
     pub fn print(&self, rt: &HostRuntime) -> io::Result<()> {
-        for (name, count) in NAMES.iter().zip(self.counts.iter()) {
-            println!(rt; "{name} {count}")?;
-        }
-        let differences = self.differences;
-        println!(rt; "differences {differences}")
+        self.print_calls(rt)?;
+        tell(rt, "differences", self.differences)
     }
 }

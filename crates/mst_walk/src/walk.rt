@@ -3,19 +3,15 @@ ghost use Rattle.std.specs.Prelude.{◌<◌, vec_len};
 
 use crate::chance::Chance;
 use crate::list::List;
-use crate::pairs::{some_edits, some_key, some_value};
 use crate::reads::{compare_root, read};
 use crate::tally::{Call, Tally};
-use mst_key::{Edit, Format, Key, Value};
-use mst_store::{ApplyFault, MigrateFault, Pass, Pinned, WriteFault};
+use crate::writes;
+use mst_store::{Pass, Pinned};
 use std::alloc::Global;
 use std::io;
 
 /// How many passes the store has.
 pub const PASSES: usize = 8;
-
-/// Of how many chances of a migration one is taken, since it makes the whole tree anew.
-const BETWEEN_MOVES: usize = 16;
 
 /// The number that all choices follow from.
 const SEED: u64 = 2_019;
@@ -37,113 +33,6 @@ pub struct Walk<'a> {
     list: List,
     chance: Chance,
     tally: Tally,
-}
-
-// Puts the value at the key or, if none is given, removes the key.
-fn change(
-    pass: &mut Pass<'_, Global>,
-    key: &Key,
-    new: Option<&Value>,
-) -> Result<Option<Value>, WriteFault> {
-    match new {
-        Some(value) => pass.try_put(key, value),
-        None => pass.try_remove(key),
-    }
-}
-
-// Writes by a free pass, and compares the old value with the list's. If there is no room, which
-// happens only beside a pinned version, both stay.
-fn write(
-    pass: &mut Pass<'_, Global>,
-    list: &mut List,
-    chance: &mut Chance,
-    tally: &mut Tally,
-    call: Call,
-    is_pinned: bool,
-) -> io::Result<()> {
-    let key = some_key(chance);
-    let new = match call {
-        Call::Put => Some(some_value(chance)),
-        _ => None,
-    };
-    match change(pass, &key, new.as_ref()) {
-        Ok(old) => {
-            tally.add(call, old == list.get(&key));
-            list.change(&key, new.as_ref())?;
-        }
-        Err(WriteFault::NoRoom) => tally.add(Call::Refused, is_pinned),
-        Err(_) => tally.add(call, false),
-    }
-    Ok(())
-}
-
-// Whether the keys of the edits have the list's values.
-fn has_values(pass: &mut Pass<'_, Global>, list: &List, edits: &[Edit]) -> bool {
-    for edit in edits {
-        if pass.get(edit.key()) != list.get(edit.key()) {
-            return false;
-        }
-    }
-    true
-}
-
-// Makes a batch by a free pass, and compares what its keys then have with the list's values.
-fn apply(
-    alloc: Global,
-    pass: &mut Pass<'_, Global>,
-    list: &mut List,
-    chance: &mut Chance,
-    tally: &mut Tally,
-    is_pinned: bool,
-) -> io::Result<()> {
-    let edits = some_edits(alloc, chance)?;
-    match pass.try_apply(alloc, edits.as_slice()) {
-        Ok(()) => {
-            list.apply(edits.as_slice())?;
-            tally.add(Call::Batch, has_values(pass, list, edits.as_slice()));
-        }
-        Err(ApplyFault::NoRoom) => tally.add(Call::Refused, is_pinned),
-        Err(ApplyFault::Memory(refused)) => return Err(refused.into()),
-        Err(_) => tally.add(Call::Batch, false),
-    }
-    Ok(())
-}
-
-// Turns the tree to one of the formats by a free pass, and compares the format before with the
-// list's.
-fn migrate(
-    alloc: Global,
-    pass: &mut Pass<'_, Global>,
-    list: &mut List,
-    chance: &mut Chance,
-    tally: &mut Tally,
-    is_pinned: bool,
-) -> io::Result<()> {
-    let to = if chance.below(2) == 0 {
-        Format::One
-    } else {
-        Format::Two
-    };
-    match pass.try_migrate(alloc, to) {
-        Ok(was) => {
-            tally.add(Call::Migrate, was == list.format());
-            list.migrate(to);
-        }
-        Err(MigrateFault::NoRoom) => tally.add(Call::Refused, is_pinned),
-        Err(MigrateFault::Memory(refused)) => return Err(refused.into()),
-        Err(_) => tally.add(Call::Migrate, false),
-    }
-    Ok(())
-}
-
-// Whether the rows are counted exactly if no version is pinned, and are then no fewer than the
-// pairs.
-fn counts_rows(pass: &mut Pass<'_, Global>, list: &List, is_pinned: bool) -> bool {
-    match pass.rows() {
-        Ok(Some(rows)) => !is_pinned && rows as usize >= list.len(),
-        Ok(None) => is_pinned,
-        Err(_) => false,
-    }
 }
 
 impl<'a> Walk<'a> {
@@ -181,28 +70,38 @@ impl<'a> Walk<'a> {
         Ok(())
     }
 
+    // The call of the free pass at this place that the choice stands for.
+    fn make(&mut self, place: usize, choice: usize) -> io::Result<()>
+        requires there { place < vec_len self.old.free }
+    {
+        let counted = writes::make(
+            self.alloc,
+            &mut self.free[place],
+            &mut self.list,
+            &mut self.chance,
+            choice,
+            !self.held.is_empty(),
+        );
+        self.tally.count(counted)
+    }
+
     // One call of the free pass at this place.
     fn step_free(&mut self, place: usize) -> io::Result<()>
         requires there { place < vec_len self.old.free }
     {
-        let choice = self.chance.below(64);
-        if choice == 0 {
-            return self.pin(place);
+        match self.chance.below(64) {
+            0 => self.pin(place),
+            choice => self.make(place, choice),
         }
-        let is_pinned = !self.held.is_empty();
-        let pass = &mut self.free[place];
-        let (list, chance, tally) = (&mut self.list, &mut self.chance, &mut self.tally);
-        match choice {
-            1 => tally.add(Call::Rows, counts_rows(pass, list, is_pinned)),
-            2..=26 => write(pass, list, chance, tally, Call::Put, is_pinned)?,
-            27..=39 => write(pass, list, chance, tally, Call::Remove, is_pinned)?,
-            40 if chance.below(BETWEEN_MOVES) == 0 => {
-                migrate(self.alloc, pass, list, chance, tally, is_pinned)?
-            }
-            41 => apply(self.alloc, pass, list, chance, tally, is_pinned)?,
-            _ => read(self.alloc, pass, list, chance, tally)?,
-        }
-        Ok(())
+    }
+
+    // A read of the pinned pass at this place.
+    fn read(&mut self, place: usize) -> io::Result<()>
+        requires there { place < vec_len self.old.held }
+    {
+        let held = &mut self.held[place];
+        let counted = read(self.alloc, &mut held.pinned, &held.list, &mut self.chance);
+        self.tally.count(counted)
     }
 
     // One call of the pinned pass at this place.
@@ -210,16 +109,10 @@ impl<'a> Walk<'a> {
         requires there { place < vec_len self.old.held }
     {
         if self.chance.below(32) == 0 {
-            return self.unpin(place);
+            self.unpin(place)
+        } else {
+            self.read(place)
         }
-        let held = &mut self.held[place];
-        read(
-            self.alloc,
-            &mut held.pinned,
-            &held.list,
-            &mut self.chance,
-            &mut self.tally,
-        )
     }
 
     /// Makes one call by one of the passes.
@@ -244,13 +137,19 @@ impl<'a> Walk<'a> {
         Ok(())
     }
 
+    // Compares that of each pinned pass with that of its list.
+    fn compare_held(&mut self) -> io::Result<()> {
+        for held in self.held.iter_mut() {
+            let root = held.list.root()?;
+            compare_root(&mut held.pinned, &root, &mut self.tally);
+        }
+        Ok(())
+    }
+
     /// Compares the root digest of each pass with that of the list that it reads.
     pub fn compare_roots(&mut self) -> io::Result<()> {
         self.compare_free()?;
-        for held in self.held.iter_mut() {
-            compare_root(&mut held.pinned, &held.list.root()?, &mut self.tally);
-        }
-        Ok(())
+        self.compare_held()
     }
 
     /// The list.
