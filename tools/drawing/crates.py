@@ -10,9 +10,11 @@ LAYERS = [
     (("executable",), {"mst": 880}),
     (("command line",), {"mst_program": 880}),
     (("exports for C;", "its tasks"), {"mst_exports": 350, "mst_command": 880}),
-    (("for C; scripts over", "sharded maps"), {"mst_c": 350, "mst_sharded_script": 670}),
-    (("scripts, loads;", "sharded maps"), {
-        "mst_load": 770, "mst_script": 1030, "mst_sharded": 350,
+    (("sharded maps for C;", "scripts over them"), {
+        "mst_c_sharded": 350, "mst_sharded_script": 670,
+    }),
+    (("for C; scripts, loads;", "sharded maps"), {
+        "mst_load": 770, "mst_script": 1030, "mst_sharded": 350, "mst_c": 540,
     }),
     (("the store",), {"mst_store": 690}),
     (("the shared table;", "batches; replays"), {
@@ -36,7 +38,7 @@ TESTS = {
     "mst_program_tests",
 }
 NOT_DRAWN = {"mst_audit", "mst_bench", "mst_cookbook", "mst_walk", *TESTS}
-FOR_C = {"mst_verifier", "mst_c", "mst_exports"}
+FOR_C = {"mst_verifier", "mst_c", "mst_c_sharded", "mst_exports"}
 BENT = {("mst_command", "mst_report")}
 BOX, HIGH, FIRST, APART = 140, 36, 30, 82
 
@@ -116,7 +118,7 @@ def picture():
         canvas.text(444, top + 218 + 20 * number, line, 15, bold=True)
     draw_arrows(canvas, crates, where)
     for name, (x, y) in where.items():
-        size = 17 if width(name) == BOX else 15
+        size = 17 if len(name) < 13 else 15
         canvas.box(x - width(name) / 2, y, width(name), HIGH, "thick" if name in FOR_C else "thin")
         canvas.text(x, y + 24, name, size, "middle", code=True, within=width(name) - 6)
     low = FIRST + len(LAYERS) * APART + 8

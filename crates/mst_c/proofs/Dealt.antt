@@ -26,6 +26,10 @@ first_at s (suc n) k d below =
     let inside : k < length ps = omega (arith, low, e) in get_or-append ps (p ∷ []) d k inside
     ∙ first_at s n k d low)
 
+-- there are as many as the store has
+pub dealt_length : (s : StoreId) → length (new_passes s) ≡ s.passes
+dealt_length s = first_length s s.passes
+
 -- each pass that was dealt is of the store
 pub dealt_own : (s : StoreId) (ps : List Known) (k : ℕ) (d : Known) → ps ≡ new_passes s
     → k < s.passes → (get_or ps k d).store ≡ s

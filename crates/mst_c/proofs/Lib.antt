@@ -4,10 +4,6 @@ pub mod Listing
 pub mod Packed
 pub mod PartsSteps
 pub mod Readings
-pub mod ShardedBox
-pub mod ShardedDealt
-pub mod ShardedPacking
-pub mod ShardedValues
 pub mod Unpacked
 pub mod Values
 pub mod WorkedEdits

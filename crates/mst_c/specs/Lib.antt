@@ -7,13 +7,3 @@ pub mod Knowing
 pub mod Ranges
 pub mod Batches
 pub mod Opened
-pub mod ShardedStates
-pub mod ShardedHolding
-pub mod ShardedOwning
-pub mod ShardedSplits
-pub mod ShardedTold
-pub mod ShardedOpened
-pub mod ShardedProving
-pub mod ShardedReading
-pub mod ShardedMigrating
-pub mod ShardedBatches

@@ -10,7 +10,7 @@ use mst_store::ApplyFault;
 use std::alloc::Global;
 
 /// The code of what stands in a buffer and is no edit.
-pub(crate) fn fault_code(fault: EditFault) -> i32
+pub fn fault_code(fault: EditFault) -> i32
     ensures code { result ≡ code_of_fault fault }
 {
     match fault {

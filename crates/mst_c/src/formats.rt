@@ -10,7 +10,7 @@ use mst_store::MigrateFault;
 use std::alloc::Global;
 
 /// The format that has this number.
-pub(crate) fn format_named(number: u32) -> Option<Format>
+pub fn format_named(number: u32) -> Option<Format>
     ensures format { result ≡ named number }
 {
     match number {
@@ -21,7 +21,7 @@ pub(crate) fn format_named(number: u32) -> Option<Format>
 }
 
 /// The number of a format.
-pub(crate) fn number_of(format: Format) -> i32
+pub fn number_of(format: Format) -> i32
     ensures number { result ≡ format_code format }
 {
     match format {

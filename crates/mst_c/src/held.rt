@@ -57,7 +57,7 @@ impl Model for Held {
 }
 
 /// Why nothing was written.
-pub(crate) enum Unwritten {
+pub enum Unwritten {
     /// The pass pins a version.
     Pins,
     /// The store refused it.

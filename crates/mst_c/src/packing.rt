@@ -11,7 +11,7 @@ use std::marker::Model;
 
 /// Why what stands in a buffer is no edit.
 #[derive(Clone, Copy)]
-pub(crate) enum EditFault {
+pub enum EditFault {
     /// A key has 1 to 32 bytes.
     KeySize,
     /// A value has 0 to 64 bytes.
@@ -22,9 +22,9 @@ pub(crate) enum EditFault {
 
 /// The first edit of a buffer that is none, by the number of those before it.
 #[derive(Clone, Copy)]
-pub(crate) struct BadEdit {
-    pub(crate) place: usize,
-    pub(crate) fault: EditFault,
+pub struct BadEdit {
+    pub place: usize,
+    pub fault: EditFault,
 }
 
 /// The kind, the key and the value of the first edit, and the bytes after it.
@@ -129,7 +129,7 @@ fn list_edits(alloc: Global, packed: &[u8], count: usize) -> Result<Vec<Edit, Gl
 
 /// A buffer that has no bad edit.
 #[derive(Drop)]
-pub(crate) struct Packed<'a> {
+pub struct Packed<'a> {
     bytes: &'a [u8],
     count: usize,
 }
@@ -150,7 +150,7 @@ impl<'a> Model for Packed<'a> {
 
 impl<'a> Packed<'a> {
     /// The edits of the buffer, or its first bad one. It takes no memory.
-    pub(crate) fn of(bytes: &'a [u8]) -> Result<Packed<'a>, BadEdit>
+    pub fn of(bytes: &'a [u8]) -> Result<Packed<'a>, BadEdit>
         ensures edits { result ≡ edits_in bytes.now }
     {
         match count_edits(bytes) {
@@ -160,7 +160,7 @@ impl<'a> Packed<'a> {
     }
 
     /// The list of the edits.
-    pub(crate) fn edits(&self, alloc: Global) -> Result<Vec<Edit, Global>, Memory>
+    pub fn edits(&self, alloc: Global) -> Result<Vec<Edit, Global>, Memory>
         ensures edits { IfOk result (λ list. list.items ≡ self.now) }
         ensures memory { OnErr result (0 < length self.now) }
     {

@@ -5,9 +5,9 @@ ghost use Rattle.std.specs.Box.Ownership.{box_owns};
 use std::alloc::Allocator;
 use std::marker::Model;
 
-pub(crate) struct Parts<T, A: Allocator> {
-    pub(crate) ptr: *mut T,
-    pub(crate) alloc: A,
+pub struct Parts<T, A: Allocator> {
+    pub ptr: *mut T,
+    pub alloc: A,
     pub ghost value: { T },
 }
 
@@ -16,7 +16,7 @@ impl<T, A: Allocator> Model for Parts<T, A> {
 }
 
 impl<T, A: Allocator> Parts<T, A> {
-    pub(crate) fn of(b: Box<T, A>) -> Parts<T, A>
+    pub fn of(b: Box<T, A>) -> Parts<T, A>
     where
         T: Drop,
         ensures { result.value ≡ b.value }
@@ -25,7 +25,7 @@ impl<T, A: Allocator> Parts<T, A> {
         Parts { ptr, alloc }
     }
 
-    pub(crate) fn into_box(self) -> Box<T, A>
+    pub fn into_box(self) -> Box<T, A>
         ensures { result.value ≡ self.value }
     {
         let Parts { ptr, alloc } = self;

@@ -71,7 +71,7 @@ fn put_pairs(room: &mut [u8], pairs: &[(Key, Value)])
 
 /// Sets `count` to the number of pairs and `size` to the number of their bytes. They then stand
 /// first in the room, if they fit.
-pub(crate) fn tell_pairs(
+pub fn tell_pairs(
     pairs: &[(Key, Value)],
     room: &mut [u8],
     count: &mut usize,

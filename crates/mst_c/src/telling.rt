@@ -8,28 +8,28 @@ use mst_key::{Key, KeySize, Value};
 use mst_store::WriteFault;
 use std::alloc::Global;
 
-pub(crate) const ABSENT: i32 = -1;
+pub const ABSENT: i32 = -1;
 
-pub(crate) const SHORT_ROOM: i32 = -2;
+pub const SHORT_ROOM: i32 = -2;
 
-pub(crate) const UNKNOWN_FORMAT: i32 = -3;
+pub const UNKNOWN_FORMAT: i32 = -3;
 
-pub(crate) const BAD_KEY: i32 = -5;
+pub const BAD_KEY: i32 = -5;
 
-pub(crate) const BAD_VALUE: i32 = -6;
+pub const BAD_VALUE: i32 = -6;
 
-pub(crate) const NO_HAND: i32 = -7;
+pub const NO_HAND: i32 = -7;
 
-pub(crate) const WRONG_STATE: i32 = -8;
+pub const WRONG_STATE: i32 = -8;
 
-pub(crate) const MEMORY: i32 = -9;
+pub const MEMORY: i32 = -9;
 
-pub(crate) const BAD_SHAPE: i32 = -10;
+pub const BAD_SHAPE: i32 = -10;
 
 pub(crate) const BAD_BATCH: i32 = -25;
 
 /// Puts bytes first, and keeps those after them.
-pub(crate) fn put(room: &mut [u8], bytes: &[u8])
+pub fn put(room: &mut [u8], bytes: &[u8])
     requires fits { length bytes.now ≤ length room.old }
     ensures room { room.new ≡ bytes.now ++ drop (length bytes.now) room.old }
 {
@@ -37,7 +37,7 @@ pub(crate) fn put(room: &mut [u8], bytes: &[u8])
 }
 
 /// The code of a value or of absence. The value stands first in the room then, if it fits.
-pub(crate) fn tell(value: &Option<Value>, room: &mut [u8]) -> i32
+pub fn tell(value: &Option<Value>, room: &mut [u8]) -> i32
     ensures code { result ≡ value_code (length room.old) value.now }
     ensures room { room.new ≡ room_after room.old value.now }
 {
@@ -55,7 +55,7 @@ pub(crate) fn tell(value: &Option<Value>, room: &mut [u8]) -> i32
 }
 
 /// Sets `size` to the length of the proof. The proof then stands first in the room, if it fits.
-pub(crate) fn tell_proof(proof: &[u8], room: &mut [u8], size: &mut usize) -> i32
+pub fn tell_proof(proof: &[u8], room: &mut [u8], size: &mut usize) -> i32
     ensures code { result ≡ bytes_code (length room.old) (Some proof.now) }
     ensures room { room.new ≡ room_after room.old (Some proof.now) }
     ensures size { size.new ≡ length proof.now }
@@ -68,7 +68,7 @@ pub(crate) fn tell_proof(proof: &[u8], room: &mut [u8], size: &mut usize) -> i32
     0
 }
 
-pub(crate) fn unwritten_code(fault: Unwritten) -> i32
+pub fn unwritten_code(fault: Unwritten) -> i32
     ensures code { result ≡ code_of_unwritten fault }
 {
     match fault {
@@ -95,7 +95,7 @@ fn tell_rows(rows: Result<Option<u32>, Uncounted>, count: &mut u32) -> i32
     }
 }
 
-pub(crate) fn done(done: bool) -> i32
+pub fn done(done: bool) -> i32
     ensures code { result ≡ done_code done }
 {
     if done { 0 } else { WRONG_STATE }
@@ -257,7 +257,7 @@ pub fn rows(alloc: Global, hand: &mut Hand, count: &mut u32) -> i32
 }
 
 /// The bound that these bytes are. No bytes bind nothing.
-pub(crate) fn bound(bytes: &[u8]) -> Result<Option<Key>, KeySize>
+pub fn bound(bytes: &[u8]) -> Result<Option<Key>, KeySize>
     ensures ok { IfOk result (λ bound. bound ≡ bound_of bytes.now) }
     ensures when { IsOk result ↔ IsBound bytes.now }
 {
@@ -271,7 +271,7 @@ pub(crate) fn bound(bytes: &[u8]) -> Result<Option<Key>, KeySize>
 }
 
 /// The code of a pair or of absence. Key and value stand first in their rooms then, if both fit.
-pub(crate) fn tell_pair(
+pub fn tell_pair(
     pair: Option<(Key, Value)>,
     key_room: &mut [u8],
     size: &mut usize,

@@ -1,7 +1,7 @@
 //! The store for C, and for every language that calls C: a static library.
 //!
-//! Each export is a call of `mst_c`, which lists the numbers that calls return, and repeats its
-//! contract. `include/mst_store.h` declares them.
+//! Each export is a call of `mst_c`, which lists the numbers that calls return, or of
+//! `mst_c_sharded`, and repeats its contract. `include/mst_store.h` declares them.
 #![tactic(auto)]
 
 ghost use Rattle.std.specs.Prelude.{◌≡◌, ◌≢◌, ◌↔◌, ◌⊎◌, pos, negsuc, length as count, None, IsSome};

@@ -3,19 +3,16 @@
 ghost use Rattle.std.specs.Prelude.{◌≡◌, ◌≢◌, ◌↔◌, ◌⊎◌, ℕ, List, pos, negsuc, length as count, None, IsSome};
 ghost use Rattle.mst_c.specs.Formats.{format_named};
 ghost use Rattle.mst_c.specs.Opened.{IsSize};
-ghost use Rattle.mst_c.specs.ShardedBatches.{ApplyTold};
-ghost use Rattle.mst_c.specs.ShardedMigrating.{MigrateTold};
-ghost use Rattle.mst_c.specs.ShardedOpened.{ShardsOpened, NoneHeld};
-ghost use Rattle.mst_c.specs.ShardedProving.{RootTold, ProveTold, DirectoryTold};
-ghost use Rattle.mst_c.specs.ShardedReading.{NextTold, RangeTold, VersionTold, FormatTold};
-ghost use Rattle.mst_c.specs.ShardedSplits.{PacksSplits};
-ghost use Rattle.mst_c.specs.ShardedTold.{GetTold, PutTold, RemoveTold, ShardsTold, SnapshotTold, ReleaseTold, CloseTold};
+ghost use Rattle.mst_c_sharded.specs.ShardedBatches.{ApplyTold};
+ghost use Rattle.mst_c_sharded.specs.ShardedMigrating.{MigrateTold};
+ghost use Rattle.mst_c_sharded.specs.ShardedOpened.{ShardsOpened, NoneHeld};
+ghost use Rattle.mst_c_sharded.specs.ShardedProving.{RootTold, ProveTold, DirectoryTold};
+ghost use Rattle.mst_c_sharded.specs.ShardedReading.{NextTold, RangeTold, VersionTold, FormatTold};
+ghost use Rattle.mst_c_sharded.specs.ShardedSplits.{PacksSplits};
+ghost use Rattle.mst_c_sharded.specs.ShardedTold.{GetTold, PutTold, RemoveTold, ShardsTold, SnapshotTold, ReleaseTold, CloseTold};
 
-use mst_c::sharded_hand::{PaddedShardedHand, ShardedHand};
-use mst_c::{
-    sharded_batches, sharded_migrating, sharded_opening, sharded_proving, sharded_reading,
-    sharded_telling,
-};
+use mst_c_sharded::hand::{PaddedShardedHand, ShardedHand};
+use mst_c_sharded::{batches, migrating, opening, proving, reading, telling};
 use std::alloc::Global;
 
 /// Opens a sharded map of the empty map in format 1 or 2, each shard with `rows` rows, and puts a
@@ -43,7 +40,7 @@ pub extern "C" fn mst_sharded_open(
     ensures range { (result ≡ pos 0) ⊎ (result ≡ negsuc 2) ⊎ (result ≡ negsuc 25)
         ⊎ (result ≡ negsuc 9) ⊎ (result ≡ negsuc 8) }
 {
-    sharded_opening::open(alloc, format, rows, splits, hands)
+    opening::open(alloc, format, rows, splits, hands)
 }
 
 /// Closes the handle or the snapshot, whose pins end first. Returns 0 or -7. The map is freed with
@@ -52,7 +49,7 @@ pub extern "C" fn mst_sharded_open(
 pub extern "C" fn mst_sharded_close(alloc: Global, hand: &mut ShardedHand) -> i32
     ensures told { CloseTold hand.old.held result hand.new.held }
 {
-    sharded_telling::close(alloc, hand)
+    telling::close(alloc, hand)
 }
 
 /// Returns how many shards the map has, 1 to 1,024; or -7.
@@ -60,7 +57,7 @@ pub extern "C" fn mst_sharded_close(alloc: Global, hand: &mut ShardedHand) -> i3
 pub extern "C" fn mst_sharded_shards(alloc: Global, hand: &mut ShardedHand) -> i32
     ensures told { ShardsTold hand.old.held result hand.new.held }
 {
-    sharded_telling::shards(alloc, hand)
+    telling::shards(alloc, hand)
 }
 
 /// As `mst_get`: of a handle from the current version of the key's shard, of a snapshot from the
@@ -74,7 +71,7 @@ pub extern "C" fn mst_sharded_get(
 ) -> i32
     ensures told { GetTold hand.old.held key.now room.old result room.new hand.new.held }
 {
-    sharded_telling::get(alloc, hand, key, room)
+    telling::get(alloc, hand, key, room)
 }
 
 /// As `mst_try_put`, in the shard of the key. Returns -7, -5, -6, -8 for a snapshot, -21, -22, -23:
@@ -90,7 +87,7 @@ pub extern "C" fn mst_sharded_try_put(
     ensures told { PutTold hand.old.held key.now value.now room.old result room.new
         hand.new.held }
 {
-    sharded_telling::try_put(alloc, hand, key, value, room)
+    telling::try_put(alloc, hand, key, value, room)
 }
 
 /// As `mst_try_remove`, in the shard of the key. Returns what `mst_sharded_try_put` returns,
@@ -105,7 +102,7 @@ pub extern "C" fn mst_sharded_try_remove(
     ensures told { RemoveTold hand.old.held key.now room.old result room.new
         hand.new.held }
 {
-    sharded_telling::try_remove(alloc, hand, key, room)
+    telling::try_remove(alloc, hand, key, room)
 }
 
 /// Turns the handle into a snapshot, which pins the current version of each shard, one after the
@@ -114,7 +111,7 @@ pub extern "C" fn mst_sharded_try_remove(
 pub extern "C" fn mst_sharded_snapshot(alloc: Global, hand: &mut ShardedHand) -> i32
     ensures told { SnapshotTold hand.old.held result hand.new.held }
 {
-    sharded_telling::snapshot(alloc, hand)
+    telling::snapshot(alloc, hand)
 }
 
 /// Turns the snapshot into a handle: its pins end. Returns 0; -7; -8 for a handle.
@@ -122,7 +119,7 @@ pub extern "C" fn mst_sharded_snapshot(alloc: Global, hand: &mut ShardedHand) ->
 pub extern "C" fn mst_sharded_release(alloc: Global, hand: &mut ShardedHand) -> i32
     ensures told { ReleaseTold hand.old.held result hand.new.held }
 {
-    sharded_telling::release(alloc, hand)
+    telling::release(alloc, hand)
 }
 
 /// Returns 32, the length of the root digest of all shards, and its bytes stand first in the room.
@@ -131,7 +128,7 @@ pub extern "C" fn mst_sharded_release(alloc: Global, hand: &mut ShardedHand) -> 
 pub extern "C" fn mst_sharded_root(alloc: Global, hand: &mut ShardedHand, root: &mut [u8]) -> i32
     ensures told { RootTold hand.old.held root.old result root.new hand.new.held }
 {
-    sharded_proving::root(alloc, hand, root)
+    proving::root(alloc, hand, root)
 }
 
 /// Makes the proof of the key's answer against the root digest of the same snapshot. Returns 0: its
@@ -148,7 +145,7 @@ pub extern "C" fn mst_sharded_prove(
     ensures told { ProveTold hand.old.held key.now room.old length.old result
         room.new length.new hand.new.held }
 {
-    sharded_proving::prove(alloc, hand, key, room, length)
+    proving::prove(alloc, hand, key, room, length)
 }
 
 /// As `mst_next`, in the map of all shards, of a snapshot. Returns -7; -5 for a bound of more than
@@ -166,7 +163,7 @@ pub extern "C" fn mst_sharded_next(
     ensures told { NextTold hand.old.held key.now key_room.old length.old room.old result
         key_room.new length.new room.new hand.new.held }
 {
-    sharded_reading::next(alloc, hand, key, key_room, length, room)
+    reading::next(alloc, hand, key, key_room, length, room)
 }
 
 /// As `mst_range`, in the map of all shards, of a snapshot. Returns 0 or -2. Returns -7, -5 for a
@@ -185,7 +182,7 @@ pub extern "C" fn mst_sharded_range(
     ensures told { RangeTold hand.old.held from.now to.now limit room.old count.old
         length.old result room.new count.new length.new hand.new.held }
 {
-    sharded_reading::range(alloc, hand, from, to, limit, room, count, length)
+    reading::range(alloc, hand, from, to, limit, room, count, length)
 }
 
 /// Sets `number` to the number of the version that a snapshot pins of a shard, from 0. Returns 0;
@@ -200,7 +197,7 @@ pub extern "C" fn mst_sharded_version_at(
     ensures told { VersionTold hand.old.held shard number.old result number.new
         hand.new.held }
 {
-    sharded_reading::version_at(alloc, hand, shard, number)
+    reading::version_at(alloc, hand, shard, number)
 }
 
 /// Returns the number of the format of a snapshot's versions, 1 or 2; -7; -8 for a handle; -27 if
@@ -209,7 +206,7 @@ pub extern "C" fn mst_sharded_version_at(
 pub extern "C" fn mst_sharded_format(alloc: Global, hand: &mut ShardedHand) -> i32
     ensures told { FormatTold hand.old.held result hand.new.held }
 {
-    sharded_reading::format(alloc, hand)
+    reading::format(alloc, hand)
 }
 
 /// Lists the directory of a snapshot as `mst_range` lists pairs: of each shard its lower bound,
@@ -226,7 +223,7 @@ pub extern "C" fn mst_sharded_directory(
     ensures told { DirectoryTold hand.old.held room.old count.old length.old result
         room.new count.new length.new hand.new.held }
 {
-    sharded_reading::directory(alloc, hand, room, count, length)
+    reading::directory(alloc, hand, room, count, length)
 }
 
 /// Turns each shard to format 1 or 2, one after the other. Returns 0. Returns -21, -22, -9, -23 if
@@ -243,7 +240,7 @@ pub extern "C" fn mst_sharded_try_migrate(
     ensures told { MigrateTold hand.old.held format place.old result place.new
         hand.new.held }
 {
-    sharded_migrating::try_migrate(alloc, hand, format, place)
+    migrating::try_migrate(alloc, hand, format, place)
 }
 
 /// Makes the edits of a buffer, which is as that of `mst_try_apply`: those of each shard as one
@@ -266,5 +263,5 @@ pub extern "C" fn mst_sharded_try_apply(
     ensures told { ApplyTold hand.old.held edits.now place.old shard.old result place.new
         shard.new hand.new.held }
 {
-    sharded_batches::try_apply(alloc, hand, edits, place, shard)
+    batches::try_apply(alloc, hand, edits, place, shard)
 }

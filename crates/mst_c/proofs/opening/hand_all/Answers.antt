@@ -1,9 +1,8 @@
-use Rattle.std.proofs.Common.{rules, arith, ◌≡◌, ◌<◌, ◌+◌, ℕ, true, get_or, length, Some, slice_set, sym, ap, ◌∙◌, below_more}
+use Rattle.std.proofs.Common.{rules, arith, ◌≡◌, ◌<◌, ◌+◌, ℕ, get_or, length, Some, slice_set, sym, ap, ◌∙◌, below_more}
 use Rattle.std.proofs.lemmas.List.{get_or-set_same, get_or-set_other, length-set}
 use Rattle.mst_store.specs.Passes.{Known}
 use Rattle.mst_c.specs.declared.held.State.TheVariants.{Free}
 use Rattle.mst_c.specs.declared.hand.PaddedHand.{PaddedHand}
-use Rattle.mst_c.proofs.opening.hand_all.Goals.{then-all, else-all}
 use Rattle.mst_c.proofs.opening.hand_all.Goals as goal
 
 -- the pass that is handed out next stands first among the rest, and its hand is the next
@@ -11,88 +10,23 @@ pub loop-pass-preserved : goal.loop-pass-preserved
 loop-pass-preserved c =
     let was = c.loop-pass.invariant in let at : ℕ = c.loop-pass.at in
     let first : (d : Known) → get_or c.args.passes.items at d ≡ c.in-Some.pass =
-    (λ d. let h = was.1 0 d in grind rules) in (
+    (λ d. let h = was.1 0 d in grind rules) in
+    let put : PaddedHand = c.hand_next-all.new.hand in
+    let within : at < length c.loop-pass.hands = search rules in (
       search rules,
       (λ k d below. let h = was.1 (k + 1) d in grind rules),
-      elim c.if-all.branch [
-        | then-all w ↦
-            let set : c.if-all.hands ≡ slice_set c.loop-pass.hands at
-            w.hand_out_padded-all.new.hand =
-            search rules in
-            let within : at < length c.loop-pass.hands = search rules in
-            (λ yes k d h below.
-            let given : w.hand_out_padded-all.new.hand.hand.held ≡ Some (Free c.in-Some.pass) =
-            search rules in
-            let all : c.loop-pass.all ≡ true = search rules in
-            below_more (λ i. (get_or c.if-all.hands i h).hand.held ≡ Some
-            (Free (get_or c.args.passes.items i d))) at
-            (λ i low. ap (λ (hs : _). (get_or hs i h).hand.held) set
-            ∙ ap (λ (x : PaddedHand). x.hand.held)
-            (get_or-set_other c.loop-pass.hands at i w.hand_out_padded-all.new.hand h
-            (λ z. omega (arith, z, low))) ∙ was.2 all i d h low)
-            (ap (λ (hs : _). (get_or hs at h).hand.held) set ∙ ap (λ (x : PaddedHand). x.hand.held)
-            (get_or-set_same c.loop-pass.hands at w.hand_out_padded-all.new.hand h within) ∙ given
-            ∙ ap (λ (p : Known). Some (Free p)) (sym (first d)))
-            k below)
-        | else-all w ↦ (λ yes k d h below. search rules)
-      ],
-      elim c.if-all.branch [
-        | then-all w ↦
-            let set : c.if-all.hands ≡ slice_set c.loop-pass.hands at
-            w.hand_out_padded-all.new.hand =
-            search rules in
-            let long : length c.if-all.hands ≡ length c.loop-pass.hands =
-            ap length set ∙ length-set c.loop-pass.hands at w.hand_out_padded-all.new.hand in
-            (λ k h from below. ap (λ (hs : _). (get_or hs k h).hand.held) set
-            ∙ ap (λ (x : PaddedHand). x.hand.held)
-            (get_or-set_other c.loop-pass.hands at k w.hand_out_padded-all.new.hand h
-            (λ z. omega (arith, z, from)))
-            ∙ was.3 k h (omega (arith, from)) (omega (arith, below, long)))
-        | else-all w ↦ (λ k h from below. search rules)
-      ],
-    )
-
-pub loop-pass-preserved-then-if-drop : goal.loop-pass-preserved-then-if-drop
-loop-pass-preserved-then-if-drop c =
-    let was = c.loop-pass.invariant in let at : ℕ = c.loop-pass.at in
-    let first : (d : Known) → get_or c.args.passes.items at d ≡ c.in-Some.pass =
-    (λ d. let h = was.1 0 d in grind rules) in (
-      search rules,
-      (λ k d below. let h = was.1 (k + 1) d in grind rules),
-      elim c.if-all.branch [
-        | then-all w ↦
-            let set : c.if-all.hands ≡ slice_set c.loop-pass.hands at
-            w.hand_out_padded-all.new.hand =
-            search rules in
-            let within : at < length c.loop-pass.hands = search rules in
-            (λ yes k d h below.
-            let given : w.hand_out_padded-all.new.hand.hand.held ≡ Some (Free c.in-Some.pass) =
-            search rules in
-            let all : c.loop-pass.all ≡ true = search rules in
-            below_more (λ i. (get_or c.if-all.hands i h).hand.held ≡ Some
-            (Free (get_or c.args.passes.items i d))) at
-            (λ i low. ap (λ (hs : _). (get_or hs i h).hand.held) set
-            ∙ ap (λ (x : PaddedHand). x.hand.held)
-            (get_or-set_other c.loop-pass.hands at i w.hand_out_padded-all.new.hand h
-            (λ z. omega (arith, z, low))) ∙ was.2 all i d h low)
-            (ap (λ (hs : _). (get_or hs at h).hand.held) set ∙ ap (λ (x : PaddedHand). x.hand.held)
-            (get_or-set_same c.loop-pass.hands at w.hand_out_padded-all.new.hand h within) ∙ given
-            ∙ ap (λ (p : Known). Some (Free p)) (sym (first d)))
-            k below)
-        | else-all w ↦ (λ yes k d h below. search rules)
-      ],
-      elim c.if-all.branch [
-        | then-all w ↦
-            let set : c.if-all.hands ≡ slice_set c.loop-pass.hands at
-            w.hand_out_padded-all.new.hand =
-            search rules in
-            let long : length c.if-all.hands ≡ length c.loop-pass.hands =
-            ap length set ∙ length-set c.loop-pass.hands at w.hand_out_padded-all.new.hand in
-            (λ k h from below. ap (λ (hs : _). (get_or hs k h).hand.held) set
-            ∙ ap (λ (x : PaddedHand). x.hand.held)
-            (get_or-set_other c.loop-pass.hands at k w.hand_out_padded-all.new.hand h
-            (λ z. omega (arith, z, from)))
-            ∙ was.3 k h (omega (arith, from)) (omega (arith, below, long)))
-        | else-all w ↦ (λ k h from below. search rules)
-      ],
+      (λ yes k d h below.
+          below_more (λ i. (get_or (slice_set c.loop-pass.hands at put) i h).hand.held ≡ Some
+          (Free (get_or c.args.passes.items i d))) at
+          (λ i low. ap (λ (x : PaddedHand). x.hand.held)
+          (get_or-set_other c.loop-pass.hands at i put h (λ z. omega (arith, z, low)))
+          ∙ was.2 (c.hand_next-all.ensures.all yes) i d h low)
+          (ap (λ (x : PaddedHand). x.hand.held) (get_or-set_same c.loop-pass.hands at put h within)
+          ∙ c.hand_next-all.ensures.held yes ∙ ap (λ (p : Known). Some (Free p)) (sym (first d)))
+          k below),
+      (λ k h from below.
+          let long = length-set c.loop-pass.hands at put in
+          ap (λ (x : PaddedHand). x.hand.held)
+          (get_or-set_other c.loop-pass.hands at k put h (λ z. omega (arith, z, from)))
+          ∙ was.3 k h (omega (arith, from)) (omega (arith, below, long))),
     )

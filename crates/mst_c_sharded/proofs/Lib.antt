@@ -1,0 +1,4 @@
+pub mod ShardedBox
+pub mod ShardedDealt
+pub mod ShardedPacking
+pub mod ShardedValues

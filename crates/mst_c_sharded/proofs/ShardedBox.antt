@@ -1,0 +1,34 @@
+-- The parts of a box of a sharded map own what the box owns.
+use mir.Syntax.{impl, tnil, dnil}
+use mathlib.Core.List.{[]}
+use denote.Signature.{Slot, plain}
+use Rattle.std_alloc.proofs.BoxSteps.Form.{Bx}
+use Rattle.std_heap.specs.contracts.Global as Heap
+use Rattle.std_heap.specs.contracts.GlobalAllocator.TheImpl.{ghosts, dict}
+use Rattle.std_heap.proofs.Global.TheLaws as heap
+use Rattle.mst_c_sharded.specs.contracts.held.ShardedHeld as Held
+use Rattle.mst_c_sharded.proofs.held.ShardedHeld.TheLaws as held
+use Rattle.mst_c.specs.contracts.parts.Parts as Parts
+use Rattle.mst_c_sharded.specs.contracts.hand.ShardedHand as Hand
+
+abbrev pub E : Bx
+E =
+    record {
+      row = Held.the_row;
+      laws = held.the_row_laws;
+      al =
+          record {
+            row = Heap.the_row;
+            laws = heap.the_row_laws;
+            g = ghosts;
+            d = dict;
+            drops =
+                impl [] tnil dnil;
+          };
+    }
+
+abbrev pub FromParts : Slot 0
+FromParts = plain (λ _. Parts.the_row Held.the_row Heap.the_row ghosts)
+
+abbrev pub FromHand : Slot 0
+FromHand = plain (λ _. Hand.the_row)

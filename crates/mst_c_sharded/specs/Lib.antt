@@ -1,0 +1,10 @@
+pub mod ShardedStates
+pub mod ShardedHolding
+pub mod ShardedOwning
+pub mod ShardedSplits
+pub mod ShardedTold
+pub mod ShardedOpened
+pub mod ShardedProving
+pub mod ShardedReading
+pub mod ShardedMigrating
+pub mod ShardedBatches

@@ -1,0 +1,144 @@
+//! What C holds of a sharded map: a pointer to a box, or null. And the only ways to take the box
+//! out, to put one in, and to let one go. As `hand.rt` of `mst_c` has them for a pass.
+ghost use Rattle.std.specs.Prelude.{◌≡◌, Option, Some, None};
+ghost use Rattle.std.specs.Option.{MatchOption};
+ghost use Rattle.mst_c_sharded.specs.ShardedOwning.{HeldNow, hand_coded};
+ghost use Rattle.mst_c_sharded.specs.ShardedStates.{PinsNone};
+
+use crate::held::ShardedHeld;
+use mst_c::parts::Parts;
+use std::alloc::Global;
+use std::marker::Model;
+use std::mem::replace;
+use std::ptr::null_mut;
+
+/// A hand of a sharded map. It is no `Drop`, since a derived one would forget the box.
+#[repr(C)]
+pub struct ShardedHand {
+    ptr: *mut u8,
+    alloc: Global,
+    pub ghost held: { HeldNow } by { hand_coded },
+}
+
+/// A hand of a sharded map as C has it, of 256 bytes as that of a pass.
+#[repr(C)]
+pub struct PaddedShardedHand {
+    pub(crate) hand: ShardedHand,
+    padding: [u64; 31],
+}
+
+impl Model for ShardedHand {
+    ghost use Rattle.mst_c_sharded.specs.ShardedOwning.{hand_owns};
+
+    ghost also_owns = { λ s. hand_owns s.alloc s.ptr s.held };
+}
+
+// It may go to another thread, as its box may.
+unsafe impl Send for ShardedHand {}
+
+impl ShardedHand {
+    fn empty(alloc: Global) -> ShardedHand
+        ensures { result.held ≡ None }
+    {
+        ShardedHand {
+            ptr: null_mut(),
+            alloc,
+        }
+    }
+
+    fn of_parts(parts: Parts<ShardedHeld, Global>) -> ShardedHand
+        ensures { result.held ≡ Some parts.value }
+    {
+        let Parts { ptr, alloc } = parts;
+        ShardedHand {
+            ptr: ptr as *mut u8,
+            alloc,
+        }
+    }
+
+    fn into_parts(self) -> Option<Parts<ShardedHeld, Global>>
+        ensures { MatchOption result (self.held ≡ None) (λ p. self.held ≡ Some p.value) }
+    {
+        let ShardedHand { ptr, alloc } = self;
+        if ptr.is_null() {
+            None
+        } else {
+            Some(Parts {
+                ptr: ptr as *mut ShardedHeld,
+                alloc,
+            })
+        }
+    }
+
+    fn of_box(held: Box<ShardedHeld, Global>) -> ShardedHand
+        ensures { result.held ≡ Some held.value }
+    {
+        ShardedHand::of_parts(Parts::of(held))
+    }
+
+    fn into_box(self) -> Option<Box<ShardedHeld, Global>>
+        ensures { MatchOption result (self.held ≡ None) (λ b. self.held ≡ Some b.value) }
+    {
+        match self.into_parts() {
+            Some(parts) => Some(parts.into_box()),
+            None => None,
+        }
+    }
+}
+
+/// What is owed to a handle or a snapshot that was taken out of a hand: it goes back into one, or
+/// is let go.
+struct Due;
+
+/// What was taken out of a hand. It is no `Drop`, and only this module takes it apart.
+pub(crate) struct ShardedTaken {
+    pub(crate) held: Box<ShardedHeld, Global>,
+    due: Due,
+}
+
+impl ShardedTaken {
+    pub(crate) fn of(held: Box<ShardedHeld, Global>) -> ShardedTaken
+        ensures { result.held.value ≡ held.value }
+    {
+        ShardedTaken { held, due: Due }
+    }
+
+    fn into_box(self) -> Box<ShardedHeld, Global>
+        ensures { result.value ≡ self.held.value }
+    {
+        let ShardedTaken { held, due } = self;
+        let Due = due;
+        held
+    }
+
+    /// Lets the handle go, with its share of the map. The pins of a snapshot would last as long as
+    /// the map, so they have to have ended.
+    pub(crate) fn let_go(self)
+        requires free { PinsNone self.held.value }
+    {
+        let _gone = self.into_box();
+    }
+}
+
+/// What the hand holds. The hand is then empty.
+pub(crate) fn take(alloc: Global, hand: &mut ShardedHand) -> Option<ShardedTaken>
+    ensures empty { hand.new.held ≡ None }
+    ensures taken { MatchOption result (hand.old.held ≡ None)
+        (λ t. hand.old.held ≡ Some t.held.value) }
+{
+    match replace(hand, ShardedHand::empty(alloc)).into_box() {
+        Some(held) => Some(ShardedTaken::of(held)),
+        None => None,
+    }
+}
+
+/// Lets an empty hand hold this.
+pub(crate) fn give(hand: &mut ShardedHand, taken: ShardedTaken)
+    requires empty { hand.old.held ≡ None }
+    ensures held { hand.new.held ≡ Some taken.held.value }
+{
+    match replace(hand, ShardedHand::of_box(taken.into_box())).into_box() {
+        Some(_) => unreachable!(),
+        None => {}
+    }
+}

@@ -1,0 +1,225 @@
+//! Opening a sharded map for C.
+ghost use Rattle.std.specs.Prelude.{◌≡◌, ◌≢◌, ◌↔◌, ◌⊎◌, ◌<◌, ◌≤◌, ℕ, List, true, pos, negsuc, length, get_or, vec_len, Some, None, IsSome, IfOk, OnOk, IsErrOf};
+ghost use Rattle.mst_store.specs.Passes.{IsShape};
+ghost use Rattle.mst_sharded.specs.Sharding.{Sharding, IsSplits};
+ghost use Rattle.mst_sharded.specs.Opening.{Shards, HasShards, new_handles, seats_of};
+ghost use Rattle.mst_c_sharded.specs.declared.held.Sharing.TheVariants.{Handle};
+ghost use Rattle.mst_c_sharded.specs.declared.hand.PaddedShardedHand.{PaddedShardedHand};
+ghost use Rattle.mst_c.specs.Formats.{format_named as named};
+ghost use Rattle.mst_c.specs.Opened.{IsSize};
+ghost use Rattle.mst_c_sharded.specs.ShardedOpened.{HandsOpened, ShardsOpened, NoneHeld, fault_code as code_of_fault};
+ghost use Rattle.mst_c_sharded.specs.ShardedSplits.{splits_bytes, PacksSplits};
+
+use crate::hand::PaddedShardedHand;
+use crate::held::hand_out_padded;
+use crate::splits::list_splits;
+use crate::telling::{BAD_SPLITS, close};
+use mst_c::formats::format_named;
+use mst_c::telling::{BAD_SHAPE, MEMORY, UNKNOWN_FORMAT};
+use mst_key::{Format, Key, Memory};
+use mst_sharded::{AllSeats, Sharded, ShardsFault, SharedHandle};
+use mst_store::Shape;
+use std::alloc::Global;
+use std::sync::Arc;
+
+/// The handle goes into the hand, if all before it went into theirs.
+fn hand_next(
+    alloc: Global,
+    handle: SharedHandle<Global>,
+    hand: &mut PaddedShardedHand,
+    all: bool,
+) -> bool
+    requires empty { hand.old.hand.held ≡ None }
+    ensures all { result ≡ true → all ≡ true }
+    ensures held { result ≡ true → hand.new.hand.held ≡ Some (Handle handle) }
+{
+    all && hand_out_padded(alloc, handle, hand)
+}
+
+/// Each of the handles goes into the next hand. All hands are empty before.
+fn hand_all(
+    alloc: Global,
+    handles: Vec<SharedHandle<Global>, Global>,
+    hands: &mut [PaddedShardedHand],
+) -> bool
+    requires count { vec_len handles ≤ length hands.old }
+    requires empty { NoneHeld hands.old }
+    ensures all { result ≡ true → (k : ℕ) (d : Sharding) (h : PaddedShardedHand)
+        → k < vec_len handles
+        → (get_or hands.new k h).hand.held ≡ Some (Handle (get_or handles.items k d)) }
+{
+    let mut all = true;
+    let mut at = 0;
+    for handle in handles {
+        all = hand_next(alloc, handle, &mut hands[at], all);
+        at += 1;
+    }
+    all
+}
+
+/// No hand holds a handle then.
+fn close_all(alloc: Global, hands: &mut [PaddedShardedHand])
+    ensures empty { NoneHeld hands.new }
+{
+    for padded in hands.iter_mut() {
+        let _code = close(alloc, &mut padded.hand);
+    }
+}
+
+/// The passes of a shard that has one for each hand. Of more than 32 hands it is 33, which no store
+/// has.
+fn passes_for(hands: usize) -> u32
+    ensures same { hands ≤ 32 → result ≡ hands }
+    ensures fits { result ≤ 32 → result ≡ hands }
+{
+    if hands > 32 {
+        return 33;
+    }
+    hands as u32
+}
+
+/// The handles of a map that was opened with these seats.
+fn share(
+    alloc: Global,
+    map: Sharded<Global>,
+    seats: AllSeats<Global>,
+) -> Result<Vec<SharedHandle<Global>, Global>, Memory>
+    requires own { seats ≡ seats_of map }
+    ensures handles { IfOk result (λ handles. handles.items ≡ new_handles map) }
+{
+    let map = Arc::new(alloc, map)?;
+    Sharded::share(&map, alloc, seats)
+}
+
+/// Opens a sharded map, and returns its handles.
+fn open_map(
+    alloc: Global,
+    splits: Vec<Key, Global>,
+    shape: Shape,
+) -> Result<Vec<SharedHandle<Global>, Global>, ShardsFault>
+    ensures handles { IfOk result (λ handles. (s : Shards) × HasShards splits.items shape s
+        × (handles.items ≡ new_handles s)) }
+    ensures limits { OnOk result (IsSplits splits.items × IsShape shape) }
+    ensures splits { IsErrOf result ShardsFault.Splits → ¬ (IsSplits splits.items) }
+    ensures shape { IsErrOf result ShardsFault.Shape
+        → IsSplits splits.items × ¬ (IsShape shape) }
+{
+    let (map, seats) = Sharded::open(alloc, splits, shape)?;
+    match share(alloc, map, seats) {
+        Ok(handles) => Ok(handles),
+        Err(refused) => Err(ShardsFault::Memory(refused)),
+    }
+}
+
+/// Hands all handles of a map out. If a growth is refused, all hands are empty.
+fn hand_handles(
+    alloc: Global,
+    handles: Vec<SharedHandle<Global>, Global>,
+    hands: &mut [PaddedShardedHand],
+) -> i32
+    requires count { vec_len handles ≡ length hands.old }
+    requires empty { NoneHeld hands.old }
+    ensures all { result ≡ pos 0 → (k : ℕ) (d : Sharding) (h : PaddedShardedHand)
+        → k < length hands.new
+        → (get_or hands.new k h).hand.held ≡ Some (Handle (get_or handles.items k d)) }
+    ensures empty { result ≢ pos 0 → NoneHeld hands.new }
+    ensures range { (result ≡ pos 0) ⊎ (result ≡ negsuc 8) }
+{
+    if hand_all(alloc, handles, hands) {
+        return 0;
+    }
+    close_all(alloc, hands);
+    MEMORY
+}
+
+fn open_code(fault: ShardsFault) -> i32
+    ensures code { result ≡ code_of_fault fault }
+{
+    match fault {
+        ShardsFault::Splits => BAD_SPLITS,
+        ShardsFault::Shape => BAD_SHAPE,
+        ShardsFault::Memory(_) => MEMORY,
+    }
+}
+
+/// Opens a sharded map of these splits, and hands its handles out.
+fn open_of(
+    alloc: Global,
+    splits: Vec<Key, Global>,
+    shape: Shape,
+    hands: &mut [PaddedShardedHand],
+) -> i32
+    requires passes { IsShape shape → shape.passes ≡ length hands.old }
+    requires empty { NoneHeld hands.old }
+    ensures opened { result ≡ pos 0 → HandsOpened splits.items shape hands.new }
+    ensures empty { result ≢ pos 0 → NoneHeld hands.new }
+    ensures splits { result ≡ negsuc 25 → ¬ (IsSplits splits.items) }
+    ensures shape { result ≡ negsuc 9 → IsSplits splits.items × ¬ (IsShape shape) }
+    ensures range { (result ≡ pos 0) ⊎ (result ≡ negsuc 25) ⊎ (result ≡ negsuc 9)
+        ⊎ (result ≡ negsuc 8) }
+{
+    match open_map(alloc, splits, shape) {
+        Ok(handles) => hand_handles(alloc, handles, hands),
+        Err(fault) => open_code(fault),
+    }
+}
+
+/// Opens a sharded map in a format. All hands are empty before.
+fn open_in(
+    alloc: Global,
+    format: Format,
+    rows: u32,
+    packed: &[u8],
+    hands: &mut [PaddedShardedHand],
+) -> i32
+    requires empty { NoneHeld hands.old }
+    ensures opened { result ≡ pos 0 → (ss : List (List ℕ)) × (packed.now ≡ splits_bytes ss)
+        × HandsOpened ss (record { rows = rows; passes = length hands.new; format = format })
+        hands.new }
+    ensures empty { result ≢ pos 0 → NoneHeld hands.new }
+    ensures splits { result ≡ negsuc 25
+        → (ss : List (List ℕ)) → PacksSplits packed.now ss → ⊥ }
+    ensures size { result ≡ negsuc 9 → ((ss : List (List ℕ)) × PacksSplits packed.now ss)
+        × ¬ (IsSize rows (length hands.old)) }
+    ensures range { (result ≡ pos 0) ⊎ (result ≡ negsuc 25) ⊎ (result ≡ negsuc 9)
+        ⊎ (result ≡ negsuc 8) }
+{
+    let splits = match list_splits(alloc, packed) {
+        Ok(Some(splits)) => splits,
+        Ok(None) => return BAD_SPLITS,
+        Err(_) => return MEMORY,
+    };
+    let passes = passes_for(hands.len());
+    let shape = Shape {
+        rows,
+        passes,
+        format,
+    };
+    open_of(alloc, splits, shape, hands)
+}
+
+/// As `mst_sharded_open` of `mst_exports` says.
+pub fn open(
+    alloc: Global,
+    format: u32,
+    rows: u32,
+    packed: &[u8],
+    hands: &mut [PaddedShardedHand],
+) -> i32
+    ensures opened { result ≡ pos 0 → ShardsOpened format rows packed.now hands.new }
+    ensures empty { result ≢ pos 0 → NoneHeld hands.new }
+    ensures format { result ≡ negsuc 2 ↔ (named format ≡ None) }
+    ensures splits { result ≡ negsuc 25
+        → IsSome (named format) × ((ss : List (List ℕ)) → PacksSplits packed.now ss → ⊥) }
+    ensures size { result ≡ negsuc 9 → IsSome (named format)
+        × ((ss : List (List ℕ)) × PacksSplits packed.now ss)
+        × ¬ (IsSize rows (length hands.old)) }
+    ensures range { (result ≡ pos 0) ⊎ (result ≡ negsuc 2) ⊎ (result ≡ negsuc 25)
+        ⊎ (result ≡ negsuc 9) ⊎ (result ≡ negsuc 8) }
+{
+    close_all(alloc, hands);
+    match format_named(format) {
+        Some(format) => open_in(alloc, format, rows, packed, hands),
+        None => UNKNOWN_FORMAT,
+    }
+}
