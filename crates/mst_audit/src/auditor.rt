@@ -11,6 +11,25 @@ pub fn shortened(alloc: Global, digest: &[u8; 32]) -> Result<String> {
     Ok(hex::encode(alloc, [first, second, third, fourth])?)
 }
 
+// Prints a price that is shown under the root digest with these digits.
+fn tell_price(rt: &HostRuntime, digits: &str, fruit: &str, value: &Value) -> Result<()> {
+    let price = str::from_utf8(value.bytes())?;
+    println!(rt; "auditor: under {digits}.. the price of {fruit} is {price}")?;
+    Ok(())
+}
+
+// Prints that there is no price.
+fn tell_none(rt: &HostRuntime, digits: &str, fruit: &str) -> Result<()> {
+    println!(rt; "auditor: under {digits}.. {fruit} has no price")?;
+    Ok(())
+}
+
+// Prints that a proof is refused.
+fn tell_refused(rt: &HostRuntime, digits: &str, fruit: &str, fault: &ProofFault) -> Result<()> {
+    println!(rt; "auditor: under {digits}.. the proof for {fruit} is refused, {fault:?}")?;
+    Ok(())
+}
+
 // Prints what the auditor found of the price of a fruit, under the root digest with these digits.
 fn tell(
     rt: &HostRuntime,
@@ -19,22 +38,16 @@ fn tell(
     found: &Result<Option<Value>, ProofFault>,
 ) -> Result<()> {
     match found {
-        Ok(Some(value)) => {
-            let price = str::from_utf8(value.bytes())?;
-            println!(rt; "auditor: under {digits}.. the price of {fruit} is {price}")?;
-        }
-        Ok(None) => println!(rt; "auditor: under {digits}.. {fruit} has no price")?,
-        Err(fault) => {
-            println!(rt; "auditor: under {digits}.. the proof for {fruit} is refused, {fault:?}")?;
-        }
+        Ok(Some(value)) => tell_price(rt, digits, fruit, value),
+        Ok(None) => tell_none(rt, digits, fruit),
+        Err(fault) => tell_refused(rt, digits, fruit, fault),
     }
-    Ok(())
 }
 
 /// Prints what the proof shows of the price of a fruit in the map with this root digest. A proof
 /// that is refused shows nothing.
 pub fn audit(rt: &HostRuntime, root: &[u8; 32], fruit: &str, proof: &[u8]) -> Result<()> {
-    let found = verify(root, &Key::new(fruit.as_bytes())?, proof);
     let digits = shortened(rt.alloc(), root)?;
-    tell(rt, &digits, fruit, &found)
+    let key = Key::new(fruit.as_bytes())?;
+    tell(rt, &digits, fruit, &verify(root, &key, proof))
 }

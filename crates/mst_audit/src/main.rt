@@ -15,12 +15,14 @@
 //! `rt run` in this folder proves it and runs it; `rt try` runs it unproved, in seconds.
 #![tactic(auto)]
 
+ghost use Rattle.std.specs.Prelude.{◌≡◌};
+
 mod auditor;
 
 use anyhow::{Error, Result};
 use auditor::{audit, shortened};
 use mst_key::{Format, Key, Value};
-use mst_store::{Pass, Pinned, Shape, Store, WriteFault};
+use mst_store::{Pass, Pinned, Seats, Shape, Store};
 use std::alloc::Global;
 
 /// Room for a few fruits, and for the older versions that are pinned. One pass writes, the other
@@ -31,19 +33,16 @@ const SHAPE: Shape = Shape {
     format: Format::One,
 };
 
-// Writes a pair, and returns only whether that went through.
-fn write(writer: &mut Pass<'_, Global>, key: &Key, value: &Value) -> Result<(), WriteFault> {
-    match writer.try_put(key, value) {
-        Ok(_) => Ok(()),
-        Err(fault) => Err(fault),
-    }
+// Writes the price of a fruit.
+fn write(writer: &mut Pass<'_, Global>, fruit: &str, price: &str) -> Result<()> {
+    let (key, value) = (Key::new(fruit.as_bytes())?, Value::new(price.as_bytes())?);
+    writer.try_put(&key, &value)?;
+    Ok(())
 }
 
 // Gives the fruit a price.
 fn put(rt: &HostRuntime, writer: &mut Pass<'_, Global>, fruit: &str, price: &str) -> Result<()> {
-    let key = Key::new(fruit.as_bytes())?;
-    let value = Value::new(price.as_bytes())?;
-    write(writer, &key, &value)?;
+    write(writer, fruit, price)?;
     println!(rt; "writer: the price of {fruit} is {price}")?;
     Ok(())
 }
@@ -78,25 +77,31 @@ fn prove_pinned(rt: &HostRuntime, reader: &mut Pinned<'_, Global>, fruit: &str) 
     Ok(proof)
 }
 
-// The last byte but one of a proof, which is the last digit of a price, made 1.
-fn change(proof: &mut [u8]) {
+// The reader makes the last byte but one of a proof, which is the last digit of a price, 1.
+fn change(rt: &HostRuntime, proof: &mut [u8]) -> Result<()> {
     let place = proof.len().saturating_sub(2);
     if let Some(digit) = proof.get_mut(place) {
         *digit = b'1';
     }
+    println!(rt; "reader: the same proof, with the price made 31")?;
+    Ok(())
 }
 
-// A price that is there, and a proof in which the reader changed the price.
+// A proof of a price that is there, and one in which the reader changed the price.
+fn audit_changed(rt: &HostRuntime, root: &[u8; 32], proof: &mut [u8]) -> Result<()> {
+    audit(rt, root, "apple", proof)?;
+    change(rt, proof)?;
+    audit(rt, root, "apple", proof)
+}
+
+// A price that is there.
 fn price_that_is_there(
     rt: &HostRuntime,
     root: &[u8; 32],
     reader: &mut Pass<'_, Global>,
 ) -> Result<()> {
     let mut proof = prove(rt, reader, "apple")?;
-    audit(rt, root, "apple", &proof)?;
-    change(&mut proof);
-    println!(rt; "reader: the same proof, with the price made 31")?;
-    audit(rt, root, "apple", &proof)
+    audit_changed(rt, root, &mut proof)
 }
 
 // A price that is not there.
@@ -116,18 +121,11 @@ fn tell_pinned_root(rt: &HostRuntime, pinned: &mut Pinned<'_, Global>) -> Result
     Ok(())
 }
 
-// The writer goes on beside the pinned version. The newer root digest.
-fn go_on(
-    rt: &HostRuntime,
-    writer: &mut Pass<'_, Global>,
-    pinned: &mut Pinned<'_, Global>,
-) -> Result<[u8; 32]> {
-    let version = pinned.version();
+// The writer goes on beside the pinned version, which has this number. The newer root digest.
+fn go_on(rt: &HostRuntime, writer: &mut Pass<'_, Global>, version: u64) -> Result<[u8; 32]> {
     println!(rt; "reader: version {version} is pinned")?;
     put(rt, writer, "apple", "35")?;
-    let new = hand_out(rt, writer)?;
-    tell_pinned_root(rt, pinned)?;
-    Ok(new)
+    hand_out(rt, writer)
 }
 
 // The proof of an answer for apple, against the older root digest and the newer one.
@@ -143,6 +141,7 @@ fn audit_pinned(
     new: &[u8; 32],
     pinned: &mut Pinned<'_, Global>,
 ) -> Result<()> {
+    tell_pinned_root(rt, pinned)?;
     let proof = prove_pinned(rt, pinned, "apple")?;
     audit_both(rt, old, new, &proof)
 }
@@ -167,7 +166,7 @@ fn two_versions(
     reader: Pass<'_, Global>,
 ) -> Result<()> {
     let mut pinned = reader.pin();
-    let new = go_on(rt, writer, &mut pinned)?;
+    let new = go_on(rt, writer, pinned.version())?;
     audit_pinned(rt, old, &new, &mut pinned)?;
     audit_current(rt, old, &new, &mut pinned.unpin())
 }
@@ -183,6 +182,12 @@ fn begin(rt: &HostRuntime, writer: &mut Pass<'_, Global>) -> Result<[u8; 32]> {
     hand_out(rt, writer)
 }
 
+// Prices of the current version.
+fn show_prices(rt: &HostRuntime, root: &[u8; 32], reader: &mut Pass<'_, Global>) -> Result<()> {
+    price_that_is_not(rt, root, reader)?;
+    price_that_is_there(rt, root, reader)
+}
+
 // What the two passes of a store show.
 fn show(
     rt: &HostRuntime,
@@ -190,18 +195,41 @@ fn show(
     mut reader: Pass<'_, Global>,
 ) -> Result<()> {
     let root = begin(rt, writer)?;
-    price_that_is_not(rt, &root, &mut reader)?;
-    price_that_is_there(rt, &root, &mut reader)?;
+    show_prices(rt, &root, &mut reader)?;
     two_versions(rt, &root, writer, reader)
+}
+
+// The passes of a store.
+fn dealt<'a>(
+    alloc: Global,
+    store: &'a Store<Global>,
+    seats: Seats<Global>,
+) -> Result<Vec<Pass<'a, Global>>>
+    requires own { seats ≡ store.now }
+{
+    match store.deal(alloc, seats) {
+        Ok(passes) => Ok(passes),
+        Err(_) => Err(Error::msg("no memory")),
+    }
+}
+
+// Two passes of a store.
+fn two_passes<'a>(
+    alloc: Global,
+    store: &'a Store<Global>,
+    seats: Seats<Global>,
+) -> Result<(Pass<'a, Global>, Pass<'a, Global>)>
+    requires own { seats ≡ store.now }
+{
+    let mut passes = dealt(alloc, store, seats)?;
+    match (passes.pop(), passes.pop()) {
+        (Some(one), Some(other)) => Ok((one, other)),
+        _ => Err(Error::msg("a store of two passes")),
+    }
 }
 
 fn main(rt: HostRuntime) -> Result<()> {
     let (store, seats) = Store::open(rt.alloc(), SHAPE)?;
-    let Ok(mut passes) = store.deal(rt.alloc(), seats) else {
-        return Err(Error::msg("no memory"));
-    };
-    let (Some(reader), Some(mut writer)) = (passes.pop(), passes.pop()) else {
-        return Err(Error::msg("a store of two passes"));
-    };
+    let (reader, mut writer) = two_passes(rt.alloc(), &store, seats)?;
     show(&rt, &mut writer, reader)
 }
