@@ -1,10 +1,8 @@
 -- Bytes pack one list of keys at most, which is read off from the front.
-use Rattle.std.proofs.Common.{◌≡◌, ℕ, ◌+◌, ◌<◌, ◌≤◌, List, [], ◌∷◌, ◌++◌, length, take, drop, refl, sym, ap, ◌∙◌, subst, arith, append_assoc, append-nil}
-use Rattle.std.proofs.lemmas.List.{append_cancel_left, length-append}
+use Rattle.std.proofs.Common.{◌≡◌, ℕ, ◌<◌, List, [], ◌∷◌, ◌++◌, length, take, drop, refl, sym, ap, ◌∙◌, subst, arith, append_assoc, append-nil}
 use Rattle.std.proofs.Math.Seq.{drop-append_seam, take-append_seam}
 use Rattle.mst_key.specs.Bytes.{IsKey}
 use Rattle.mst_sharded_proof.specs.Shards.{least, AreSplits}
-use Rattle.mst_sharded.specs.Sharding.{IsSplits}
 use Rattle.mst_c_sharded.specs.ShardedSplits.{splits_bytes, PacksSplits}
 
 -- the first number of a list, and the rest

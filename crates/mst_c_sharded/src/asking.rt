@@ -118,7 +118,7 @@ pub(crate) fn next_of(
 }
 
 /// The first pairs, at most `limit`, of the keys that are at least `from` and below `to`.
-#[tactic(auto, using(crate::proofs::Listing::range_few))]
+#[tactic(auto, using(mst_c::proofs::Listing::range_few))]
 pub(crate) fn range_of(
     sharing: Sharing,
     alloc: Global,

@@ -1,4 +1,4 @@
-use Rattle.std.proofs.Common.{rules, arith, ◌≡◌, ◌<◌, ℕ, length, sym, ap, ◌∙◌, pos, SFits, w32, to_z-of_z}
+use Rattle.std.proofs.Common.{rules, arith, ◌≡◌, length, sym, ap, ◌∙◌, pos, SFits, w32, to_z-of_z}
 use Rattle.std.specs.Prelude.{vec_len, Some}
 use Rattle.mst_sharded.specs.Sharding.{Sharding}
 use Rattle.mst_sharded.specs.Opening.{new_handle, new_handles}

@@ -1,4 +1,4 @@
-use Rattle.std.proofs.Common.{rules, ◌≡◌, List, ℕ, refl, sym, subst, to_z, of_z, w32}
+use Rattle.std.proofs.Common.{rules, ◌≡◌, refl, sym, subst, to_z, of_z, w32}
 use Rattle.std.specs.Prelude.{length, Option, Some, Result, Ok, Err}
 use Rattle.mst_key.specs.Map.{Pair, map_next}
 use Rattle.mst_c_sharded.specs.declared.held.Sharing.{Sharing}

@@ -1,4 +1,4 @@
-use Rattle.std.proofs.Common.{rules, ◌≡◌, ◌<◌, ◌∷◌, ◌++◌, [], List, ℕ, length, sym, subst, ap, ◌∙◌}
+use Rattle.std.proofs.Common.{rules, ◌≡◌, ◌<◌, ◌++◌, List, ℕ, length, sym, subst, ap, ◌∙◌}
 use Rattle.mst_c_sharded.specs.ShardedSplits.{splits_bytes}
 use Rattle.mst_c_sharded.proofs.ShardedPacking.{packs_none, packs_more}
 use Rattle.mst_c_sharded.proofs.splits.list_splits.Goals as goal
