@@ -5,7 +5,7 @@ use Rattle.mst_key.specs.History.{after, had}
 use Rattle.mst_key.specs.Map.{Pair}
 use Rattle.mst_key.specs.declared.history.Change.{Change}
 use Rattle.mst_store.specs.Passes.{Known, format_seen, Answers, Looks, Wrote, FindsBusy, Refuses, made_by, having_asked}
-use Rattle.mst_store.specs.Writes.{rows_of}
+use Rattle.mst_versions.specs.Writes.{rows_of}
 use Rattle.mst_c.specs.declared.held.State.{State}
 use Rattle.mst_c.specs.declared.held.State.TheVariants.{Away, Free, Pinned}
 use Rattle.mst_c.specs.declared.held.Unwritten.{Unwritten}

@@ -3,7 +3,7 @@
 use Rattle.std.specs.Prelude.{◌≡◌, ℕ, ℤ, pos, negsuc, ◌+◌, [], Option, Some, None, Result, Ok, Err}
 use Rattle.mst_key.specs.History.{after}
 use Rattle.mst_store.specs.Passes.{Known, format_seen, Looks, FindsBusy, AreFree}
-use Rattle.mst_store.specs.Writes.{rows_of, AreFound}
+use Rattle.mst_versions.specs.Writes.{rows_of, AreFound}
 use Rattle.mst_c.specs.declared.held.State.{State}
 use Rattle.mst_c.specs.declared.held.State.TheVariants.{Away, Free, Pinned}
 use Rattle.mst_c.specs.declared.held.Uncounted.{Uncounted}

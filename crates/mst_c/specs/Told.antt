@@ -5,7 +5,7 @@ use Rattle.mst_key.specs.Map.{Pair, map_get, map_next}
 use Rattle.mst_key.specs.declared.history.Change.TheVariants.{Put, Remove}
 use Rattle.mst_node.specs.Text.{root}
 use Rattle.mst_node.specs.Trail.{proof_text}
-use Rattle.mst_store.specs.declared.faults.WriteFault.TheVariants.{Busy, VersionsSpent, NoRoom}
+use Rattle.mst_versions.specs.declared.faults.WriteFault.TheVariants.{Busy, VersionsSpent, NoRoom}
 use Rattle.mst_c.specs.declared.held.State.{State}
 use Rattle.mst_c.specs.declared.held.Unwritten.{Unwritten}
 use Rattle.mst_c.specs.declared.held.Unwritten.TheVariants.{Pins, Store}

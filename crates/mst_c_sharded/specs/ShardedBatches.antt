@@ -4,8 +4,8 @@ use Rattle.mst_key.specs.declared.history.Edit.{Edit}
 use Rattle.mst_sharded.specs.Applying.{edits_behind, AppliesAll, RefusesEdits}
 use Rattle.mst_sharded.specs.Sharding.{Sharding}
 use Rattle.mst_sharded.specs.declared.faults.SpreadFault.TheVariants.{Memory, Shard}
-use Rattle.mst_store.specs.declared.faults.ApplyFault.{ApplyFault}
-use Rattle.mst_store.specs.declared.faults.ApplyFault.TheVariants as apply
+use Rattle.mst_versions.specs.declared.faults.ApplyFault.{ApplyFault}
+use Rattle.mst_versions.specs.declared.faults.ApplyFault.TheVariants as apply
 use Rattle.mst_c.specs.Batches.{edits_in, fault_code}
 use Rattle.mst_c.specs.declared.packing.BadEdit.{BadEdit}
 use Rattle.mst_c_sharded.specs.declared.batches.Unspread.{Unspread}

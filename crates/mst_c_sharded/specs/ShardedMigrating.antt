@@ -5,8 +5,8 @@ use Rattle.mst_sharded.specs.Applying.{MigratesAll}
 use Rattle.mst_sharded.specs.Shared.{RefusesMoves}
 use Rattle.mst_sharded.specs.Sharding.{Sharding}
 use Rattle.mst_sharded.specs.declared.faults.MoveFault.TheVariants.{Memory, Shard}
-use Rattle.mst_store.specs.declared.faults.MigrateFault.{MigrateFault}
-use Rattle.mst_store.specs.declared.faults.MigrateFault.TheVariants as migrate
+use Rattle.mst_versions.specs.declared.faults.MigrateFault.{MigrateFault}
+use Rattle.mst_versions.specs.declared.faults.MigrateFault.TheVariants as migrate
 use Rattle.mst_c_sharded.specs.declared.held.Sharing.{Sharing}
 use Rattle.mst_c_sharded.specs.declared.held.Sharing.TheVariants.{Away, Handle, Snapshot}
 use Rattle.mst_c_sharded.specs.declared.migrating.Unmigrated.{Unmigrated}

@@ -17,7 +17,7 @@ use Rattle.mst_store.specs.declared.faults.ChangeFault.{ChangeFault}
 use Rattle.mst_store.specs.declared.faults.ChangeFault.TheVariants.{VersionsSpent, NoRoom}
 use Rattle.mst_store.specs.Passes.{StoreId, Known, IsSamePass, new_pass}
 use Rattle.mst_store.specs.Waiting.{RefusesAfter}
-use Rattle.mst_store.specs.Writes.{LacksKept}
+use Rattle.mst_versions.specs.Writes.{LacksKept}
 use Rattle.mst_load.specs.Calls.{change_of, event_of}
 use Rattle.mst_load.specs.Reports.{HasSettled}
 use Rattle.mst_load.specs.Workers.{HasPut, MadePuts, HasWorked, HasAllCalls}

@@ -9,14 +9,14 @@ use Rattle.mst_key.specs.declared.format.Format.{Format}
 use Rattle.mst_key.specs.declared.history.Change.TheVariants.{Migrate, Batch}
 use Rattle.mst_key.specs.History.{History, after, format_after, Reply, had, was, done}
 use Rattle.mst_key.proofs.HistoryLaws.{IsPrefix-itself}
-use Rattle.mst_store.specs.declared.faults.WriteFault.{WriteFault}
-use Rattle.mst_store.specs.declared.faults.WriteFault.TheVariants as write
-use Rattle.mst_store.specs.declared.faults.MigrateFault.{MigrateFault}
-use Rattle.mst_store.specs.declared.faults.MigrateFault.TheVariants as migrate
-use Rattle.mst_store.specs.declared.faults.ApplyFault.{ApplyFault}
-use Rattle.mst_store.specs.declared.faults.ApplyFault.TheVariants as apply
+use Rattle.mst_versions.specs.declared.faults.WriteFault.{WriteFault}
+use Rattle.mst_versions.specs.declared.faults.WriteFault.TheVariants as write
+use Rattle.mst_versions.specs.declared.faults.MigrateFault.{MigrateFault}
+use Rattle.mst_versions.specs.declared.faults.MigrateFault.TheVariants as migrate
+use Rattle.mst_versions.specs.declared.faults.ApplyFault.{ApplyFault}
+use Rattle.mst_versions.specs.declared.faults.ApplyFault.TheVariants as apply
 use Rattle.mst_store.specs.Applying.{RefusesBatch}
-use Rattle.mst_store.specs.Writes.{rows_of}
+use Rattle.mst_versions.specs.Writes.{rows_of}
 use Rattle.mst_store.specs.Migrating.{RefusesMigration}
 use Rattle.mst_store.specs.Passes.{StoreId, Known, format_seen, having_asked, having_missed, LacksRoom, made_by, Looks, Answers, Wrote, Refuses, FindsBusy}
 use Rattle.mst_requests.specs.declared.answer.Answer.{Answer}

@@ -11,7 +11,7 @@ use Rattle.mst_key.specs.Map.{Pair, map_get}
 use Rattle.mst_key.proofs.HistoryLaws.{map_get-after_last_put, after-push}
 use Rattle.mst_key.proofs.Batches.{map_get-batched}
 use Rattle.mst_store.specs.Passes.{StoreId}
-use Rattle.mst_store.specs.Writes.{rows_of}
+use Rattle.mst_versions.specs.Writes.{rows_of}
 use Rattle.mst_requests.specs.declared.request.Command.TheVariants.{Put, Batch, Get}
 use Rattle.mst_requests.specs.declared.request.Fault.{Fault}
 use Rattle.mst_requests.specs.declared.request.Request.{Request}

@@ -1,11 +1,11 @@
 -- What the calls of a pass return, as answers to lines.
 use Rattle.std.specs.Prelude.{ℕ, List, Option, Result, Ok, Err}
-use Rattle.mst_store.specs.declared.faults.WriteFault.{WriteFault}
-use Rattle.mst_store.specs.declared.faults.WriteFault.TheVariants as write
-use Rattle.mst_store.specs.declared.faults.MigrateFault.{MigrateFault}
-use Rattle.mst_store.specs.declared.faults.MigrateFault.TheVariants as migrate
-use Rattle.mst_store.specs.declared.faults.ApplyFault.{ApplyFault}
-use Rattle.mst_store.specs.declared.faults.ApplyFault.TheVariants as apply
+use Rattle.mst_versions.specs.declared.faults.WriteFault.{WriteFault}
+use Rattle.mst_versions.specs.declared.faults.WriteFault.TheVariants as write
+use Rattle.mst_versions.specs.declared.faults.MigrateFault.{MigrateFault}
+use Rattle.mst_versions.specs.declared.faults.MigrateFault.TheVariants as migrate
+use Rattle.mst_versions.specs.declared.faults.ApplyFault.{ApplyFault}
+use Rattle.mst_versions.specs.declared.faults.ApplyFault.TheVariants as apply
 use Rattle.mst_key.specs.declared.format.Format.{Format}
 use Rattle.mst_requests.specs.declared.answer.Answer.{Answer}
 use Rattle.mst_requests.specs.declared.answer.Answer.TheVariants.{Value, Rows, Was, Done, Busy, Spent, NoRoom, Memory}

@@ -14,7 +14,7 @@ use Rattle.mst_node.specs.Text.{root, text as text_of_node}
 use Rattle.mst_node.specs.Tree.{Tree, empty, node, tree}
 use Rattle.mst_node.specs.Trail.{proof_text}
 use Rattle.mst_arena.specs.Lives.{last_version}
-use Rattle.mst_store.specs.Writes.{rows_of, LacksKept}
+use Rattle.mst_versions.specs.Writes.{rows_of, LacksKept}
 use Rattle.mst_store.specs.Passes.{StoreId, HasRoom, LacksRoom}
 use Rattle.mst_requests.specs.declared.request.Fault.{Fault}
 use Rattle.mst_requests.specs.declared.request.Fault.TheVariants.{Pinning}

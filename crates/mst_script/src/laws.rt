@@ -6,7 +6,7 @@ ghost use Rattle.mst_key.specs.declared.history.Edit.{Edit};
 ghost use Rattle.mst_key.specs.History.{History, after, format_after, value_after};
 ghost use Rattle.mst_key.specs.Map.{map_get};
 ghost use Rattle.mst_store.specs.Passes.{StoreId};
-ghost use Rattle.mst_store.specs.Writes.{rows_of};
+ghost use Rattle.mst_versions.specs.Writes.{rows_of};
 ghost use Rattle.mst_requests.specs.declared.request.Command.TheVariants.{Put, Batch, Get};
 ghost use Rattle.mst_requests.specs.declared.request.Fault.{Fault};
 ghost use Rattle.mst_requests.specs.Grammar.{asked};

@@ -6,8 +6,8 @@ use Rattle.mst_key.specs.History.{key_of}
 use Rattle.mst_store.specs.Passes.{Known}
 use Rattle.mst_store.specs.Applying.{RefusesBatch}
 use Rattle.mst_store.specs.Migrating.{RefusesMigration}
-use Rattle.mst_store.specs.declared.faults.ApplyFault.{ApplyFault}
-use Rattle.mst_store.specs.declared.faults.MigrateFault.{MigrateFault}
+use Rattle.mst_versions.specs.declared.faults.ApplyFault.{ApplyFault}
+use Rattle.mst_versions.specs.declared.faults.MigrateFault.{MigrateFault}
 use Rattle.mst_sharded.specs.Sharding.{sharding, place, AllStep, SeesMore}
 use Rattle.mst_sharded.specs.Applying.{edits_at, picked, AppliesPart, Migrates, StepsFrom, StopsAt, AppliesAll, StopsApplying, MigratesAll}
 use Rattle.mst_sharded.proofs.Spreading.{picked_is, steps_weaker, all_see_more, parts_see, refused_sees, stopped_sees, migrated_sees, stays_sees}

@@ -9,7 +9,7 @@ use Rattle.mst_node.specs.Cost.{subtrees, entries_subtrees, is_subtree, new_rows
 use Rattle.mst_node.proofs.HeldLaws.{weigh, weigh_is, weigh-append}
 use Rattle.mst_node.proofs.UniqueTree.{pairs_tree, tree_mst}
 use Rattle.mst_path.proofs.lemmas.trees.Nodes.{nodes_le}
-use Rattle.mst_store.specs.Writes.{rows_of, rows_taken}
+use Rattle.mst_versions.specs.Writes.{rows_of, rows_taken}
 
 some_rows : (b : Bool) (n : ℕ) → cond b n 0 ≤ n
 some_rows true n = omega arith

@@ -9,8 +9,8 @@ use Rattle.mst_key.specs.History.{Reply, had, IsPrefix}
 use Rattle.mst_key.specs.Map.{Pair}
 use Rattle.mst_store.specs.Passes.{Known, Looks, Answers, Wrote, Refuses, made_by, having_missed}
 use Rattle.mst_store.specs.Waiting.{WroteAfter, RefusesAfter, as_tried}
-use Rattle.mst_store.specs.declared.faults.WriteFault.{WriteFault}
-use Rattle.mst_store.specs.declared.faults.WriteFault.TheVariants.{Busy, VersionsSpent, NoRoom}
+use Rattle.mst_versions.specs.declared.faults.WriteFault.{WriteFault}
+use Rattle.mst_versions.specs.declared.faults.WriteFault.TheVariants.{Busy, VersionsSpent, NoRoom}
 use Rattle.mst_store.specs.declared.faults.ChangeFault.{ChangeFault}
 use Rattle.mst_sharded_proof.specs.Shards.{Shard, shards as shards_at}
 use Rattle.mst_sharded.specs.Sharding.{AllStep, SeesMore, sharding, IsSharding, place}

@@ -11,7 +11,7 @@ use Rattle.mst_key.specs.History.{History, Reply, after, batched, changed, chang
 use Rattle.mst_key.proofs.HistoryLaws.{after-push, format_after-push}
 use Rattle.mst_words.specs.Notes.{IsOfPasses}
 use Rattle.mst_store.specs.Passes.{Known, StoreId, Looks, Wrote, made_by, format_seen, LacksRoom}
-use Rattle.mst_store.specs.Writes.{rows_of, rows_taken}
+use Rattle.mst_versions.specs.Writes.{rows_of, rows_taken}
 use Rattle.mst_sharded.specs.Listing.{IsOnly}
 use Rattle.mst_sharded.specs.Entries.{Stays, Becomes, HasRowsBeside}
 use Rattle.mst_sharded.proofs.FewRows.{few_rows}

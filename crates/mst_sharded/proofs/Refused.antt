@@ -4,8 +4,8 @@ use Rattle.mst_key.specs.declared.format.Format.{Format}
 use Rattle.mst_key.specs.declared.history.Edit.{Edit}
 use Rattle.mst_key.specs.declared.memory.Memory.{Memory as Refused}
 use Rattle.mst_key.specs.History.{after, batched}
-use Rattle.mst_store.specs.declared.faults.ApplyFault.TheVariants as apply
-use Rattle.mst_store.specs.declared.faults.MigrateFault.TheVariants as move
+use Rattle.mst_versions.specs.declared.faults.ApplyFault.TheVariants as apply
+use Rattle.mst_versions.specs.declared.faults.MigrateFault.TheVariants as move
 use Rattle.mst_store.specs.Applying.{RefusesBatch}
 use Rattle.mst_store.specs.Migrating.{RefusesMigration}
 use Rattle.mst_store.specs.Passes.{Known, having_asked}

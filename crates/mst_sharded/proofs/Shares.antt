@@ -6,20 +6,20 @@ use Rattle.std.proofs.lemmas.List.{length-map, get_or-map, map-set, set-get_or}
 use Rattle.std.proofs.lemmas.Bool.{cases_order}
 use Rattle.mst_key.specs.declared.history.Change.{Change}
 use Rattle.mst_store.specs.Migrating.{RefusesMigration}
-use Rattle.mst_store.specs.declared.faults.MigrateFault.{MigrateFault}
-use Rattle.mst_store.specs.declared.faults.MigrateFault.TheVariants as migrate
+use Rattle.mst_versions.specs.declared.faults.MigrateFault.{MigrateFault}
+use Rattle.mst_versions.specs.declared.faults.MigrateFault.TheVariants as migrate
 use Rattle.mst_key.specs.declared.history.Edit.{Edit}
 use Rattle.mst_store.specs.Applying.{RefusesBatch}
-use Rattle.mst_store.specs.declared.faults.ApplyFault.{ApplyFault}
-use Rattle.mst_store.specs.declared.faults.ApplyFault.TheVariants as apply
+use Rattle.mst_versions.specs.declared.faults.ApplyFault.{ApplyFault}
+use Rattle.mst_versions.specs.declared.faults.ApplyFault.TheVariants as apply
 use Rattle.mst_sharded.specs.declared.faults.StoppedMigration.{StoppedMigration}
 use Rattle.mst_sharded.specs.declared.faults.SpreadFault.{SpreadFault}
 use Rattle.mst_sharded.specs.declared.faults.SpreadFault.TheVariants as spread
 use Rattle.mst_sharded.specs.Applying.{edits_at, AppliesPart, Migrates, StepsFrom, StopsAt, AppliesAll, RefusesEdits}
 use Rattle.mst_key.specs.History.{had, after}
 use Rattle.mst_store.specs.Passes.{StoreId, Known, HasShape, Wrote, Refuses, made_by, new_pass}
-use Rattle.mst_store.specs.declared.faults.WriteFault.{WriteFault}
-use Rattle.mst_store.specs.declared.faults.WriteFault.TheVariants.{Busy, VersionsSpent, NoRoom}
+use Rattle.mst_versions.specs.declared.faults.WriteFault.{WriteFault}
+use Rattle.mst_versions.specs.declared.faults.WriteFault.TheVariants.{Busy, VersionsSpent, NoRoom}
 use Rattle.mst_sharded.specs.Listing.{Listing, HasListed}
 use Rattle.std.specs.List.{AllByRecursion}
 use Rattle.mst_key.specs.declared.format.Format.{Format}

@@ -10,10 +10,10 @@ use Rattle.mst_key.specs.History.{History, Reply, IsPrefix}
 use Rattle.mst_store.specs.Passes.{Known, Wrote, having_missed}
 use Rattle.mst_store.specs.Applying.{RefusesBatch}
 use Rattle.mst_store.specs.Migrating.{RefusesMigration}
-use Rattle.mst_store.specs.declared.faults.ApplyFault.{ApplyFault}
-use Rattle.mst_store.specs.declared.faults.ApplyFault.TheVariants as apply
-use Rattle.mst_store.specs.declared.faults.MigrateFault.{MigrateFault}
-use Rattle.mst_store.specs.declared.faults.MigrateFault.TheVariants as move
+use Rattle.mst_versions.specs.declared.faults.ApplyFault.{ApplyFault}
+use Rattle.mst_versions.specs.declared.faults.ApplyFault.TheVariants as apply
+use Rattle.mst_versions.specs.declared.faults.MigrateFault.{MigrateFault}
+use Rattle.mst_versions.specs.declared.faults.MigrateFault.TheVariants as move
 use Rattle.mst_sharded.specs.Sharding.{AllStep, SeesMore}
 use Rattle.mst_sharded.specs.Applying.{picked, AppliesPart, Migrates, StepsFrom, StopsAt}
 

@@ -8,8 +8,8 @@ use Rattle.mst_key.specs.Map.{map_get}
 use Rattle.mst_store.specs.Passes.{Known, Wrote, made_by}
 use Rattle.mst_store.specs.Applying.{RefusesBatch}
 use Rattle.mst_store.specs.Migrating.{RefusesMigration}
-use Rattle.mst_store.specs.declared.faults.ApplyFault.{ApplyFault}
-use Rattle.mst_store.specs.declared.faults.MigrateFault.{MigrateFault}
+use Rattle.mst_versions.specs.declared.faults.ApplyFault.{ApplyFault}
+use Rattle.mst_versions.specs.declared.faults.MigrateFault.{MigrateFault}
 use Rattle.mst_sharded.specs.Sharding.{Sharding, place}
 use Rattle.mst_sharded.specs.declared.faults.SpreadFault.{SpreadFault}
 use Rattle.mst_sharded.specs.declared.faults.SpreadFault.TheVariants.{Memory, Shard}

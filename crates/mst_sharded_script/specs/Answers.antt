@@ -1,12 +1,12 @@
 -- Answers to the lines of a script over a sharded map, and their text.
 use Rattle.std.specs.Prelude.{ℕ, List, ◌++◌, Option, Some, None, Result, Ok, Err, codes, decimal}
 use Rattle.mst_key.specs.declared.format.Format.{Format}
-use Rattle.mst_store.specs.declared.faults.WriteFault.{WriteFault}
-use Rattle.mst_store.specs.declared.faults.WriteFault.TheVariants as write
-use Rattle.mst_store.specs.declared.faults.ApplyFault.{ApplyFault}
-use Rattle.mst_store.specs.declared.faults.ApplyFault.TheVariants as apply
-use Rattle.mst_store.specs.declared.faults.MigrateFault.{MigrateFault}
-use Rattle.mst_store.specs.declared.faults.MigrateFault.TheVariants as migrate
+use Rattle.mst_versions.specs.declared.faults.WriteFault.{WriteFault}
+use Rattle.mst_versions.specs.declared.faults.WriteFault.TheVariants as write
+use Rattle.mst_versions.specs.declared.faults.ApplyFault.{ApplyFault}
+use Rattle.mst_versions.specs.declared.faults.ApplyFault.TheVariants as apply
+use Rattle.mst_versions.specs.declared.faults.MigrateFault.{MigrateFault}
+use Rattle.mst_versions.specs.declared.faults.MigrateFault.TheVariants as migrate
 use Rattle.mst_sharded.specs.declared.faults.DirectoryFault.{DirectoryFault}
 use Rattle.mst_sharded.specs.declared.faults.DirectoryFault.TheVariants as directory
 use Rattle.mst_sharded.specs.declared.faults.SpreadFault.{SpreadFault}

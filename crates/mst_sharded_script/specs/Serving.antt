@@ -10,7 +10,7 @@ use Rattle.mst_key.specs.declared.history.Edit.{Edit}
 use Rattle.mst_key.specs.History.{had}
 use Rattle.mst_key.specs.Map.{map_get, map_next, map_range}
 use Rattle.mst_key.specs.Digits.{digits_of}
-use Rattle.mst_store.specs.declared.faults.WriteFault.{WriteFault}
+use Rattle.mst_versions.specs.declared.faults.WriteFault.{WriteFault}
 use Rattle.mst_store.specs.Passes.{Answers, made_by, Wrote, Refuses}
 use Rattle.mst_requests.specs.declared.request.Fault.{Fault}
 use Rattle.mst_requests.specs.declared.request.Command.{Command}

@@ -6,8 +6,8 @@ use Rattle.std.proofs.lemmas.List.Elements.{All-weaker, All-map}
 use Rattle.atomic_table.specs.Seated.{TableId}
 use Rattle.mst_words.specs.Access.{Seated}
 use Rattle.mst_words.specs.Steps.{IsPinned}
-use Rattle.mst_store.specs.declared.reading.PinnedRoot.{PinnedRoot}
-use Rattle.mst_store.specs.Pinned.{HasPinned}
+use Rattle.mst_versions.specs.declared.reading.PinnedRoot.{PinnedRoot}
+use Rattle.mst_versions.specs.Pinned.{HasPinned}
 use mathlib.Core.Logic.{dite}
 use native.Mathlib.Decide.{ℕ_discrete}
 use Rattle.mst_key.specs.declared.history.Event.{Event}
@@ -15,7 +15,7 @@ use Rattle.mst_key.specs.History.{History, events_of, IsPrefix}
 use Rattle.mst_words.specs.declared.view.View.{View}
 use Rattle.mst_words.specs.Notes.{having_heard, IsOfPasses, SeesTold}
 use Rattle.mst_store.specs.Passes.{Known, IsPinning, having_asked}
-use Rattle.mst_store.specs.Turns.{Seat}
+use Rattle.mst_versions.specs.Turns.{Seat}
 use Rattle.mst_store.specs.Settling.{AreAllPasses, IsOfOne, IsBeside, GoesOn}
 use Rattle.mst_key.proofs.HistoryLaws.{IsPrefix-chain, events_of-between}
 

@@ -20,8 +20,8 @@ use Rattle.mst_words.specs.Access.{may_read, content_of}
 use Rattle.mst_words.specs.Records.{row}
 use Rattle.mst_words.specs.Stored.{rows_in}
 use Rattle.mst_words.proofs.Accesses.{inside}
-use Rattle.mst_store.specs.declared.reading.PinnedRoot.{PinnedRoot}
-use Rattle.mst_store.specs.Pinned.{Pins}
+use Rattle.mst_versions.specs.declared.reading.PinnedRoot.{PinnedRoot}
+use Rattle.mst_versions.specs.Pinned.{Pins}
 
 -- ---- numbers below n, of which none stands twice
 

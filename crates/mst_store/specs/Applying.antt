@@ -4,14 +4,9 @@ use Rattle.std.specs.Prelude.{◌≡◌, ◌+◌, ◌<◌, List, length}
 use Rattle.mst_key.specs.declared.history.Change.TheVariants.{Batch}
 use Rattle.mst_key.specs.declared.history.Edit.{Edit}
 use Rattle.mst_arena.specs.Lives.{last_version}
-use Rattle.mst_batch.specs.declared.faults.NotApplied.{NotApplied}
-use Rattle.mst_batch.specs.declared.faults.NotApplied.TheVariants as applied
-use Rattle.mst_store.specs.declared.faults.ApplyFault.{ApplyFault}
-use Rattle.mst_store.specs.declared.faults.ApplyFault.TheVariants.{Busy, VersionsSpent, Memory, NoRoom}
-use Rattle.mst_store.specs.declared.faults.WriteFault.TheVariants as write
-use Rattle.mst_store.specs.declared.turn.Turn.{Turn}
-use Rattle.mst_store.specs.Turns.{Seat}
-use Rattle.mst_store.specs.Writes.{LacksRows, LookedAtSeat, RefusesAtSeat}
+use Rattle.mst_versions.specs.declared.faults.ApplyFault.{ApplyFault}
+use Rattle.mst_versions.specs.declared.faults.ApplyFault.TheVariants.{Busy, VersionsSpent, Memory, NoRoom}
+use Rattle.mst_versions.specs.declared.faults.WriteFault.TheVariants as write
 use Rattle.mst_store.specs.Passes.{Known, Looks, Refuses}
 
 -- Another pass has the turn, the version numbers are spent, a growth was refused, or there is no
@@ -22,16 +17,3 @@ RefusesBatch VersionsSpent edits p q = Refuses write.VersionsSpent (Batch edits)
 RefusesBatch (Memory refused) edits p q = Looks p q × (length q.seen < last_version)
     × (q.asked ≡ p.asked + p.store.passes + 2) × (1 < length edits)
 RefusesBatch NoRoom edits p q = Refuses write.NoRoom (Batch edits) p q
-
--- why the holder of the turn does not make the edits
-abbrev pub LacksEdits : {A : Type 0} → NotApplied → List Edit → Turn A → Seat → Type 0
-LacksEdits (applied.Memory refused) edits t m = 1 < length edits
-LacksEdits applied.NoRoom edits t m = LacksRows (Batch edits) t m
-
--- the same refusals, as the seat of the pass has them
-abbrev pub RefusesBatchAtSeat : ApplyFault → List Edit → Seat → Seat → Type 0
-RefusesBatchAtSeat Busy edits m m' = RefusesAtSeat write.Busy (Batch edits) m m'
-RefusesBatchAtSeat VersionsSpent edits m m' = RefusesAtSeat write.VersionsSpent (Batch edits) m m'
-RefusesBatchAtSeat (Memory refused) edits m m' = LookedAtSeat m m'
-    × (length m'.0.seen < last_version) × (1 < length edits)
-RefusesBatchAtSeat NoRoom edits m m' = RefusesAtSeat write.NoRoom (Batch edits) m m'

@@ -1,9 +1,3 @@
-pub mod Asking
-pub mod Pinned
-pub mod Filing
-pub mod Turns
-pub mod Writes
-pub mod Counting
 pub mod Passes
 pub mod Settling
 pub mod Waiting

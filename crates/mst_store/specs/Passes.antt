@@ -11,11 +11,11 @@ use Rattle.mst_words.specs.Access as access
 use Rattle.mst_words.specs.Notes.{IsOfPasses}
 use Rattle.mst_words.specs.Steps.{IsFree, IsPinned}
 use Rattle.mst_words.specs.declared.view.Shape.{Shape}
-use Rattle.mst_store.specs.declared.reading.PinnedRoot.{PinnedRoot}
-use Rattle.mst_store.specs.Pinned.{HasPinned}
-use Rattle.mst_store.specs.declared.faults.WriteFault.{WriteFault}
-use Rattle.mst_store.specs.declared.faults.WriteFault.TheVariants.{Busy, VersionsSpent, NoRoom}
-use Rattle.mst_store.specs.Writes.{rows_of, rows_taken, rows_kept, FindsRoom, LacksKept}
+use Rattle.mst_versions.specs.declared.reading.PinnedRoot.{PinnedRoot}
+use Rattle.mst_versions.specs.Pinned.{HasPinned}
+use Rattle.mst_versions.specs.declared.faults.WriteFault.{WriteFault}
+use Rattle.mst_versions.specs.declared.faults.WriteFault.TheVariants.{Busy, VersionsSpent, NoRoom}
+use Rattle.mst_versions.specs.Writes.{rows_of, rows_taken, rows_kept, FindsRoom, LacksKept}
 
 -- which store it is, its size, and the format of its version 0
 pub record StoreId : Type 0 where

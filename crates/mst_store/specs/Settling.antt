@@ -5,7 +5,7 @@ use Rattle.mst_key.specs.declared.history.Event.{Event}
 use Rattle.mst_key.specs.History.{History, events_of, IsPrefix}
 use Rattle.mst_words.specs.Notes.{IsOfPasses}
 use Rattle.mst_store.specs.Passes.{StoreId, Known, having_asked}
-use Rattle.mst_store.specs.Turns.{Seat}
+use Rattle.mst_versions.specs.Turns.{Seat}
 
 -- the pass, when it has heard of this history and seen it: two steps whose answer depends on others
 abbrev pub having_seen : History → Known → Known

@@ -13,54 +13,6 @@ pub enum OpenFault {
     Memory(Memory),
 }
 
-/// Why a write was refused. It changed nothing.
-#[derive(Clone, Copy, Debug, PartialEq, Eq, Error)]
-pub enum WriteFault {
-    /// Another pass had the turn.
-    #[error("another pass has the turn")]
-    Busy,
-    /// The current version has the last number, 2^63 - 1.
-    #[error("version numbers are spent")]
-    VersionsSpent,
-    /// The rows that are free are too few for the nodes that the write makes new.
-    #[error("no room")]
-    NoRoom,
-}
-
-/// Why a migration was refused. It changed nothing.
-#[derive(Clone, Copy, Debug, PartialEq, Eq, Error)]
-pub enum MigrateFault {
-    /// Another pass had the turn.
-    #[error("another pass has the turn")]
-    Busy,
-    /// The current version has the last number, 2^63 - 1.
-    #[error("version numbers are spent")]
-    VersionsSpent,
-    /// A growth of the list of the pairs or of their tree was refused.
-    #[error("no memory")]
-    Memory(Memory),
-    /// The rows that are free are too few for the tree in the other format.
-    #[error("no room")]
-    NoRoom,
-}
-
-/// Why a batch of edits was refused. It changed nothing.
-#[derive(Clone, Copy, Debug, PartialEq, Eq, Error)]
-pub enum ApplyFault {
-    /// Another pass had the turn.
-    #[error("another pass has the turn")]
-    Busy,
-    /// The current version has the last number, 2^63 - 1.
-    #[error("version numbers are spent")]
-    VersionsSpent,
-    /// A growth of a list of the edits or of the plan of their nodes was refused.
-    #[error("no memory")]
-    Memory(Memory),
-    /// The rows that are free are too few for the nodes that the batch makes new.
-    #[error("no room")]
-    NoRoom,
-}
-
 /// Why a write that waits for the turn was refused. It changed nothing.
 #[derive(Clone, Copy, Debug, PartialEq, Eq, Error)]
 pub enum ChangeFault {
@@ -85,8 +37,3 @@ pub enum BatchFault {
     #[error("no room")]
     NoRoom,
 }
-
-/// Another pass had the turn, so nothing was counted.
-#[derive(Clone, Copy, Debug, PartialEq, Eq, Error)]
-#[error("another pass has the turn")]
-pub struct Busy;

@@ -4,8 +4,8 @@ ghost use Rattle.std.specs.Prelude.{◌≡◌};
 
 use crate::pass::Pass;
 use crate::pinned::Pinned;
-use crate::reading::PinnedRoot;
 use crate::store::Store;
+use mst_versions::reading::PinnedRoot;
 use mst_words::Token;
 use std::alloc::Allocator;
 use std::marker::Model;

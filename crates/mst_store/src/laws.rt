@@ -9,12 +9,12 @@ ghost use Rattle.mst_key.specs.History.{History, Reply, events_of, IsPrefix};
 ghost use Rattle.mst_key.specs.Map.{Pair};
 ghost use Rattle.mst_words.specs.Notes.{IsOfPasses};
 ghost use Rattle.mst_store.specs.Applying.{RefusesBatch};
-ghost use Rattle.mst_store.specs.declared.faults.ApplyFault.{ApplyFault};
-ghost use Rattle.mst_store.specs.declared.faults.ApplyFault.TheVariants.{Busy, VersionsSpent, NoRoom};
-ghost use Rattle.mst_store.specs.declared.faults.WriteFault.TheVariants as write;
+ghost use Rattle.mst_versions.specs.declared.faults.ApplyFault.{ApplyFault};
+ghost use Rattle.mst_versions.specs.declared.faults.ApplyFault.TheVariants.{Busy, VersionsSpent, NoRoom};
+ghost use Rattle.mst_versions.specs.declared.faults.WriteFault.TheVariants as write;
 ghost use Rattle.mst_store.specs.Passes.{Known, made_by, AreFree, Wrote, HasRoom, LacksRoom, Refuses};
 ghost use Rattle.mst_store.specs.Settling.{Met};
-ghost use Rattle.mst_store.specs.Writes.{rows_needed};
+ghost use Rattle.mst_versions.specs.Writes.{rows_needed};
 
 /// Each event that a pass sees is of a pass of its store. In a store of one pass all of them are
 /// its own, so its version grows by its own writes alone.

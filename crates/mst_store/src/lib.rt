@@ -25,29 +25,20 @@
 //! used again, so a pass that is dropped while it pins keeps them for good.
 #![tactic(auto)]
 
-mod applying;
-mod counting;
 mod faults;
 mod laid;
 mod laws;
-mod migrating;
 mod pass;
 mod pinned;
-mod publishing;
-mod reading;
-mod roots;
 mod settling;
 mod store;
-#[cfg(test)]
-mod tests;
-mod turn;
 mod waiting;
-mod writing;
 
-pub use faults::{ApplyFault, BatchFault, Busy, ChangeFault, MigrateFault, OpenFault, WriteFault};
+pub use faults::{BatchFault, ChangeFault, OpenFault};
 pub use laid::{Laid, LaidPinned};
 pub use laws::{event_laws, free_rows_laws, meeting_laws, room_laws};
 pub use mst_key::{Format, Memory};
+pub use mst_versions::{ApplyFault, Busy, MigrateFault, WriteFault};
 pub use mst_words::Shape;
 pub use pass::Pass;
 pub use pinned::Pinned;

@@ -8,13 +8,14 @@ ghost use Rattle.mst_node.specs.Trail.{proof_text};
 ghost use Rattle.std.specs.Option.{option_copied};
 ghost use Rattle.mst_store.specs.Passes.{Looks, Answers, format_seen, having_asked, made_by, AreFree, Wrote, FindsBusy, Refuses};
 ghost use Rattle.mst_key.specs.History.{after, had, was, done, IsMigration, IsBatch};
-ghost use Rattle.mst_store.specs.Writes.{rows_of, AreFound};
+ghost use Rattle.mst_versions.specs.Writes.{rows_of, AreFound};
 ghost use Rattle.mst_store.specs.Migrating.{RefusesMigration};
 ghost use Rattle.mst_store.specs.Applying.{RefusesBatch};
 
-use crate::faults::{ApplyFault, Busy, MigrateFault, WriteFault};
-use crate::{applying, counting, migrating, reading, writing};
 use mst_key::{Change, Edit, Event, Format, Key, Memory, Value};
+use mst_versions::{
+    ApplyFault, Busy, MigrateFault, WriteFault, applying, counting, migrating, reading, writing,
+};
 use mst_words::PassSeat;
 use std::alloc::Allocator;
 use std::marker::Model;

@@ -9,8 +9,8 @@ ghost use Rattle.mst_store.specs.Passes.{Looks, format_seen};
 ghost use Rattle.mst_key.specs.History.{after as after_events};
 
 use crate::pass::Pass;
-use crate::reading::{self, PinnedRoot};
 use mst_key::{Format, Key, Memory, Value};
+use mst_versions::reading::{self, PinnedRoot};
 use mst_words::PassSeat;
 use std::alloc::Allocator;
 use std::marker::Model;

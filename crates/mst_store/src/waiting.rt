@@ -5,10 +5,11 @@ ghost use Rattle.mst_key.specs.History.{had, done};
 ghost use Rattle.mst_store.specs.Passes.{made_by};
 ghost use Rattle.mst_store.specs.Waiting.{WroteAfter, RefusesAfter, RefusesBatchAfter};
 
-use crate::faults::{ApplyFault, BatchFault, ChangeFault, WriteFault};
+use crate::faults::{BatchFault, ChangeFault};
 use crate::pass::Pass;
 use crossbeam_utils::Backoff;
 use mst_key::{Edit, Key, Value};
+use mst_versions::{ApplyFault, WriteFault};
 use std::alloc::Allocator;
 use std::sync::Wait;
 

@@ -44,6 +44,8 @@ mod refusals;
 #[cfg(test)]
 mod room;
 #[cfg(test)]
+mod seats;
+#[cfg(test)]
 mod settling;
 #[cfg(test)]
 mod sharing;

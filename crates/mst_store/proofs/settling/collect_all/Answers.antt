@@ -3,7 +3,7 @@ use Rattle.std.proofs.lemmas.List.{set-get_or}
 use Rattle.mst_key.specs.History.{IsPrefix}
 use Rattle.mst_key.proofs.HistoryLaws.{IsPrefix-chain}
 use Rattle.mst_store.specs.Passes.{Known}
-use Rattle.mst_store.specs.Turns.{Seat}
+use Rattle.mst_versions.specs.Turns.{Seat}
 use Rattle.mst_store.proofs.Courier.{one_more, goes_on}
 use Rattle.mst_store.proofs.settling.collect_all.Goals as goal
 

@@ -2,7 +2,7 @@ use Rattle.std.proofs.Common.{◌≡◌, ℕ, List, get_or, set, ap, ◌∙◌, 
 use Rattle.mst_key.specs.History.{IsPrefix}
 use Rattle.mst_key.proofs.HistoryLaws.{IsPrefix-chain}
 use Rattle.mst_store.specs.Passes.{Known, having_asked}
-use Rattle.mst_store.specs.Turns.{Seat}
+use Rattle.mst_versions.specs.Turns.{Seat}
 use Rattle.mst_store.proofs.Courier.{one_more, goes_on, changed_at, changed_next}
 use Rattle.mst_store.proofs.settling.collect_held.Goals as goal
 

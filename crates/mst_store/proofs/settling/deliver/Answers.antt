@@ -2,7 +2,7 @@ use Rattle.std.proofs.Common.{◌≡◌, ℕ, ◌+◌, sym, ap, ◌∙◌, subst
 use Rattle.mst_key.specs.History.{History, events_of, IsPrefix}
 use Rattle.mst_words.specs.declared.view.View.{View}
 use Rattle.mst_store.specs.Passes.{Known}
-use Rattle.mst_store.specs.Turns.{Seat}
+use Rattle.mst_versions.specs.Turns.{Seat}
 use Rattle.mst_store.proofs.Courier.{told_own}
 use Rattle.mst_store.proofs.settling.deliver.Goals as goal
 

@@ -1,7 +1,7 @@
 use Rattle.std.proofs.Common.{◌≡◌, ℕ, List, get_or, set, ap, ◌∙◌, sym, subst}
 use Rattle.mst_key.specs.History.{History, events_of, IsPrefix}
 use Rattle.mst_store.specs.Passes.{Known}
-use Rattle.mst_store.specs.Turns.{Seat}
+use Rattle.mst_versions.specs.Turns.{Seat}
 use Rattle.mst_store.specs.Settling.{having_seen}
 use Rattle.mst_store.proofs.Courier.{one_more, changed_at, changed_next}
 use Rattle.mst_store.proofs.settling.deliver_all.Goals as goal

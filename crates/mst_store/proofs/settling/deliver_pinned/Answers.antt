@@ -2,7 +2,7 @@ use Rattle.std.proofs.Common.{◌≡◌, ℕ, ◌+◌, ap, ◌∙◌, sym, subst
 use Rattle.mst_key.specs.History.{History, events_of, IsPrefix}
 use Rattle.mst_key.proofs.HistoryLaws.{events_of-between}
 use Rattle.mst_store.specs.Passes.{Known}
-use Rattle.mst_store.specs.Turns.{Seat}
+use Rattle.mst_versions.specs.Turns.{Seat}
 use Rattle.mst_store.proofs.Courier.{pinned_still}
 use Rattle.mst_store.proofs.settling.deliver_pinned.Goals as goal
 

@@ -5,7 +5,7 @@ use Rattle.std.specs.List.{All}
 use Rattle.std.proofs.lemmas.List.Elements.{All-append, All-map}
 use Rattle.mst_key.specs.History.{History, events_of, IsPrefix}
 use Rattle.mst_store.specs.Passes.{StoreId, Known, new_pass, having_asked}
-use Rattle.mst_store.specs.Turns.{Seat}
+use Rattle.mst_versions.specs.Turns.{Seat}
 use Rattle.mst_store.specs.Settling.{having_seen, IsBeside}
 use Rattle.mst_store.proofs.AllPasses.{all_of_front, all_of_back}
 use Rattle.mst_store.proofs.Courier.{beside_on, later_on, asked_beside, asked_thrice, all_before, all_alone}

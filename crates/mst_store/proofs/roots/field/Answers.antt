@@ -1,7 +1,0 @@
-use Rattle.std.proofs.Common.{ℕ, sym, subst}
-use Rattle.mst_words.specs.Steps.{IsReadable}
-use Rattle.mst_store.proofs.roots.field.Goals as goal
-
-pub load-requires-clause-readable : goal.load-requires-clause-readable
-load-requires-clause-readable g c = subst (λ (i : ℕ). IsReadable c.args.seat.now.me.0 i)
-    (sym c.record_word.ensures.place) (c.requires.readable c.args.k c.requires.there.1)

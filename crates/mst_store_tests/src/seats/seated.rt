@@ -1,0 +1,167 @@
+//! A pass as the tests have it: its seat, free or with the version that it pins.
+ghost use Rattle.std.specs.Prelude.{◌<◌};
+ghost use Rattle.mst_key.specs.History.{IsMigration, IsBatch};
+ghost use Rattle.mst_words.specs.Layout.{most_records};
+
+use mst_key::{Change, Edit, Event, Format, Key, Memory, Value};
+use mst_versions::reading::{self, PinnedRoot};
+use mst_versions::{
+    ApplyFault, Busy, MigrateFault, WriteFault, applying, counting, migrating, writing,
+};
+use mst_words::PassSeat;
+use std::alloc::Global;
+use std::marker::Model;
+
+/// A pass that has no pin and not the turn.
+#[derive(Drop)]
+pub(crate) struct Free<'a> {
+    pub(crate) seat: PassSeat<'a, Global>,
+    pub(crate) number: u32,
+    pub(crate) passes: u32,
+    pub(crate) rows: u32,
+}
+
+impl<'a> Model for Free<'a> {
+    ghost use Rattle.mst_words.specs.Access.{Seated};
+    ghost use Rattle.mst_store_tests.specs.Seats.{IsFreeSeat};
+
+    ghost Value = { Seated };
+
+    ghost view = { λ p. p.seat };
+
+    ghost invariant = { λ p. IsFreeSeat p.number p.passes p.rows p.seat };
+}
+
+/// A pass that pins a version.
+#[derive(Drop)]
+pub(crate) struct Held<'a> {
+    seat: PassSeat<'a, Global>,
+    at: PinnedRoot,
+    number: u32,
+    passes: u32,
+    rows: u32,
+}
+
+impl<'a> Model for Held<'a> {
+    ghost use Rattle.mst_words.specs.Access.{Seated};
+    ghost use Rattle.mst_store_tests.specs.Seats.{IsHeldSeat};
+
+    ghost Value = { Seated };
+
+    ghost view = { λ p. p.seat };
+
+    ghost invariant = { λ p. IsHeldSeat p.number p.passes p.rows p.at p.seat };
+}
+
+impl<'a> Free<'a> {
+    pub(crate) fn pin(self) -> Held<'a> {
+        let Free {
+            mut seat,
+            number,
+            passes,
+            rows,
+        } = self;
+        let at = reading::pin(&mut seat, number);
+        Held {
+            seat,
+            at,
+            number,
+            passes,
+            rows,
+        }
+    }
+
+    // Makes a change of a key, and returns the value that it had.
+    fn write(&mut self, change: Change) -> Result<Option<Value>, WriteFault>
+        requires keyed { IsMigration change → ⊥ }
+        requires single { IsBatch change → ⊥ }
+    {
+        let event = Event {
+            pass: self.number,
+            change,
+        };
+        let (old, _) = writing::write(&mut self.seat, self.number, self.passes, &event)?;
+        Ok(old)
+    }
+
+    pub(crate) fn put(&mut self, key: &Key, value: &Value) -> Result<Option<Value>, WriteFault> {
+        self.write(Change::Put(key.copy(), value.copy()))
+    }
+
+    pub(crate) fn remove(&mut self, key: &Key) -> Result<Option<Value>, WriteFault> {
+        self.write(Change::Remove(key.copy()))
+    }
+
+    pub(crate) fn apply(&mut self, alloc: Global, edits: &[Edit]) -> Result<u64, ApplyFault> {
+        applying::apply(&mut self.seat, alloc, self.number, self.passes, edits)
+    }
+
+    pub(crate) fn migrate(&mut self, alloc: Global, to: Format) -> Result<Format, MigrateFault> {
+        let (was, _) = migrating::migrate(&mut self.seat, alloc, self.number, self.passes, to)?;
+        Ok(was)
+    }
+
+    pub(crate) fn rows(&mut self) -> Result<Option<u32>, Busy> {
+        counting::rows(&mut self.seat, self.number, self.passes, self.rows)
+    }
+
+    pub(crate) fn free_rows(&mut self) -> Result<u32, Busy> {
+        counting::free_rows(&mut self.seat, self.number, self.passes)
+    }
+
+    /// Who pins the record, by what the words say now, as a mask of their bits.
+    pub(crate) fn pins(&mut self, which: u32) -> u32
+        requires there { which < most_records }
+    {
+        self.seat.pins(which)
+    }
+}
+
+impl<'a> Held<'a> {
+    /// The record that is pinned.
+    pub(crate) fn record(&self) -> u32 {
+        self.at.pinned
+    }
+
+    pub(crate) fn version(&self) -> u64 {
+        self.at.version
+    }
+
+    pub(crate) fn get(&mut self, key: &Key) -> Option<Value> {
+        reading::get(&mut self.seat, &self.at, key)
+    }
+
+    pub(crate) fn next(&mut self, after: Option<&Key>) -> Option<(Key, Value)> {
+        reading::next(&mut self.seat, &self.at, after)
+    }
+
+    pub(crate) fn root(&mut self) -> [u8; 32] {
+        reading::root(&mut self.seat, &self.at)
+    }
+
+    pub(crate) fn prove(&mut self, alloc: Global, key: &Key) -> Result<Vec<u8>, Memory> {
+        reading::prove(&mut self.seat, alloc, &self.at, key)
+    }
+
+    /// All pairs of the version, if they are at most ten.
+    pub(crate) fn pairs(&mut self, alloc: Global) -> Result<Vec<(Key, Value)>, Memory> {
+        reading::range(&mut self.seat, alloc, &self.at, None, None, 10)
+    }
+
+    pub(crate) fn unpin(self) -> Free<'a> {
+        let Held {
+            mut seat,
+            at,
+            number,
+            passes,
+            rows,
+        } = self;
+        seat.unpin(number, at.pinned);
+        Free {
+            seat,
+            number,
+            passes,
+            rows,
+        }
+    }
+}

@@ -1,0 +1,44 @@
+//! What the tests share: a new table with its dealer, and an event.
+ghost use Rattle.std.specs.Prelude.{◌≡◌, ◌<◌, ◌≤◌, [], IfOk};
+ghost use Rattle.mst_words.specs.Layout.{table_words};
+ghost use Rattle.mst_words.specs.World.{dealer};
+ghost use Rattle.mst_key.specs.History.{IsMigration, IsBatch};
+ghost use Rattle.mst_key.specs.declared.format.Format.TheVariants.{One};
+
+use mst_arena::Desk;
+use mst_key::{Change, Event, Format, Key, Memory, Value};
+use mst_words::{Board, Shape, Token};
+use std::alloc::Allocator;
+use std::test::Fail;
+
+// A table for so many rows and passes, of the empty map in format 1, and the dealer's token.
+pub(crate) fn opened<A: Allocator + Copy>(
+    alloc: A,
+    rows: u32,
+    passes: u32,
+) -> Result<(Board<A>, Token<A>), Memory>
+    requires some { (0 < rows) × (rows ≤ 65535) }
+    requires few { (0 < passes) × (passes ≤ 32) }
+    ensures ok { IfOk result (λ r. (r.1.table_id ≡ r.0) × (r.0.words ≡ table_words rows)
+        × (r.1.me ≡ (dealer rows passes One 1, []))) }
+{
+    let shape = Shape {
+        rows,
+        passes,
+        format: Format::One,
+    };
+    let desk = Desk::new(alloc, rows, passes + 2, 0)?;
+    Board::open(alloc, shape, desk)
+}
+
+// The event that a pass makes by putting the key a.
+pub(crate) fn putting(pass: u32, value: &[u8]) -> Result<Event, Fail>
+    ensures mine { IfOk result (λ event. event.pass ≡ pass) }
+    ensures keyed { IfOk result (λ event. IsMigration event.change → ⊥) }
+    ensures single { IfOk result (λ event. IsBatch event.change → ⊥) }
+{
+    Ok(Event {
+        pass,
+        change: Change::Put(Key::new(b"a")?, Value::new(value)?),
+    })
+}

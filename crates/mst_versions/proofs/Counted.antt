@@ -1,0 +1,224 @@
+-- From the turn that was begun to how many rows the map takes, and how many are free.
+use Rattle.std.proofs.Common.{◌≡◌, ℕ, ◌+◌, ◌-◌, ◌*◌, ◌%◌, ◌<◌, ◌≤◌, eqb, if◌then◌else◌, List, [], ◌∷◌, ◌++◌, length, length-append, is_some, IfSome, Option, Some, None, Bool, true, false, refl, sym, ap, ◌∙◌, subst, ⊎_elim, arith}
+use Rattle.std.proofs.lemmas.Bool.{eq-eqb}
+use Rattle.std.proofs.lemmas.Bool.Decides.{nat_tests}
+use Rattle.std.proofs.lemmas.Nat.{mod-mul-add}
+use Rattle.mst_key.specs.declared.format.Format.{Format}
+use Rattle.mst_key.specs.History.{after, format_after, events_of, IsPrefix}
+use Rattle.mst_arena.specs.Lives.{free_count}
+use Rattle.mst_arena.specs.Lists.{In}
+use Rattle.mst_arena.proofs.ListLemmas.{in_either, one_row}
+use Rattle.mst_pin.specs.WordParts.{masks}
+use Rattle.mst_words.specs.declared.view.View.{View}
+use Rattle.mst_words.specs.Notes.{IsOfPasses}
+use Rattle.mst_words.specs.Steps.{NotesCurrent, AsksCurrent, found_now}
+use Rattle.mst_words.proofs.Members.{in_nothing, contained, within}
+use Rattle.mst_versions.specs.declared.turn.Turn.{Turn}
+use Rattle.mst_versions.specs.Turns.{Seat, HoldsDesk, HasTurn, Begun}
+use Rattle.mst_versions.specs.Counting.{Counts, CountsFree}
+use Rattle.mst_versions.specs.Writes.{rows_of, rows_kept, AreFound}
+use Rattle.mst_versions.proofs.Written.{room_left, room_alone_left, are_found, looked}
+
+-- what the holder of the turn has at hand does not depend on what it noted and found of pins
+still : {A : Type 0} (t : Turn A) (m : Seat) (noted : Option ℕ) (found : List ℕ) (asked : ℕ)
+    → HoldsDesk t m → HoldsDesk t (record m.0 { noted = noted; found = found; asked = asked }, m.1)
+still t m noted found asked k =
+    record {
+      holder = k.holder;
+      slot = k.slot;
+      known = k.known;
+      few = k.few;
+      short =
+          k.short;
+      current = k.current;
+      rows_is = k.rows_is;
+      records = k.records;
+      version_is =
+          k.version_is;
+      earlier = k.earlier;
+      agrees = k.agrees;
+      into_drained = k.into_drained;
+      into_in =
+          k.into_in;
+      into_other = k.into_other;
+    }
+
+-- ---- lists with no members
+
+no_members : (xs : List ℕ) → length xs < 1 → xs ≡ []
+no_members [] few = refl
+no_members (x ∷ xs) few = absurd (omega (arith, few))
+
+some_of : (o : Option ℕ) → is_some o ≡ true → (k : ℕ) × (o ≡ Some k)
+some_of None is = absurd (let c : false ≡ true = is in cc)
+some_of (Some k) is = (k, refl)
+
+-- ---- whether the current version was found pinned
+
+module _ (noted done version : ℕ) where
+  unpinned : noted % masks ≡ done → found_now (Some noted) done version ≡ []
+  unpinned same = ap (λ (b : Bool). if b then [] else version ∷ [])
+      (eq-eqb (noted % masks) done same)
+
+  is_unpinned : length (found_now (Some noted) done version) ≡ 0 → noted % masks ≡ done
+  is_unpinned none = go (eqb (noted % masks) done) refl none
+    where
+      go : (b : Bool) → eqb (noted % masks) done ≡ b → length (if b then [] else version ∷ []) ≡ 0
+          → noted % masks ≡ done
+      go true e is = grind (arith, nat_tests)
+      go false e is = absurd (omega (arith, is))
+
+  at_most_one : length (found_now (Some noted) done version) ≤ 1
+  at_most_one = go (eqb (noted % masks) done)
+    where
+      go : (b : Bool) → length (if b then [] else version ∷ []) ≤ 1
+      go true = omega arith
+      go false = omega arith
+
+  it_is : (v : ℕ) → In v (found_now (Some noted) done version) → v ≤ version
+  it_is v = go (eqb (noted % masks) done)
+    where
+      go : (b : Bool) → In v (if b then [] else version ∷ []) → v ≤ version
+      go true i = absurd (in_nothing v i)
+      go false i = let e = one_row v version i in omega (arith, e)
+
+module _ {A : Type 0} (t : Turn A) (m1 m2 m3 : Seat) (noted done : ℕ) (n : NotesCurrent m1 noted m2)
+    (a : AsksCurrent m2 done m3) where
+  -- the versions that were found pinned
+  abbrev all_found : List ℕ
+  all_found = m1.0.found ++ found_now (Some noted) done (length m1.0.seen)
+
+  -- after both loads
+  asked_both : m3
+      ≡ (record m1.0 { noted = Some noted; found = all_found; asked = m1.0.asked + 1 + 1 }, m1.1)
+  asked_both =
+      a.is ∙ ap (λ (z : Seat). (
+        record z.0 {
+          found = z.0.found ++ found_now z.0.noted done (length z.0.seen);
+          asked =
+              z.0.asked + 1;
+        },
+        z.1,
+      )) n.is
+
+  pub still_holds : HasTurn t m1 → HoldsDesk t m3
+  still_holds h =
+      subst (HoldsDesk t) (sym asked_both)
+      (still t m1 (Some noted) all_found (m1.0.asked + 1 + 1) h.holds)
+
+  -- in a store of one pass the mask that was noted is what the record's word says
+  same_mask : m1.0.passes ≡ 1 → noted % masks ≡ done
+  same_mask one =
+      let word : m2.0.noted ≡ Some (m2.0.desk.current * masks + n.mask) =
+      ap (λ (z : Seat). z.0.noted) n.is ∙ ap Some n.found
+      ∙ ap (λ (z : Seat). Some (z.0.desk.current * masks + n.mask)) (sym n.is) in
+      ap (λ (z : ℕ). z % masks) n.found ∙ mod-mul-add m1.0.desk.current masks n.mask n.small
+      ∙ sym (a.alone (ap (λ (z : Seat). z.0.passes) n.is ∙ one) n.mask n.small word)
+
+  pub counted : (m m' : Seat) → Begun m t m1 → m' ≡ (record m3.0 { turn = false }, [])
+      → (found : Option ℕ) (used : ℕ) → used + free_count t.desk.lives ≡ m.0.rows
+      → (t.kept ≡ 1 → noted % masks ≡ done → found ≡ Some used)
+      → IfSome found (λ k. (k ≡ used) × (t.kept ≡ 1) × (noted % masks ≡ done))
+      → Counts m found m'
+  counted m m' b gave found used all alone only =
+      let back : m'
+      ≡ (
+        record m1.0 {
+          noted = Some noted;
+          found = all_found;
+          asked = m1.0.asked + 1 + 1;
+          turn =
+              false;
+        },
+        [],
+      ) = gave ∙ ap (λ (z : Seat). (record z.0 { turn = false }, [])) asked_both in
+      let seen : m'.0.seen ≡ m1.0.seen = ap (λ (z : Seat). z.0.seen) back in record {
+        later = subst (λ (z : Seat). IsPrefix m.0.seen z.0.seen) (sym back) b.later;
+        own = subst (λ (z : Seat). events_of m.0.number z.0.seen ≡ m.0.mine) (sym back) b.own;
+        mine = ap (λ (z : Seat). z.0.mine) back ∙ ap (λ (v : View). v.mine) b.rest;
+        alone = subst (λ (z : Seat). IsOfPasses m.0.passes z.0.seen) (sym back) b.alone;
+        number =
+            λ k is. (let o =
+            subst (λ (z : Option ℕ). IfSome z
+            (λ i. (i ≡ used) × (t.kept ≡ 1) × (noted % masks ≡ done))) is only in let f =
+            b.has.number in let r = ap (λ (v : View). v.rows) b.rest in
+            let map_is = room_alone_left t m1 b.has (omega (arith, f, o.1)) in
+            let here : k ≡ rows_of t.format (after m1.0.seen) =
+            omega (arith, all, o.0, map_is, r) in
+            here ∙ ap (λ (f : _). rows_of f (after m1.0.seen)) b.has.format
+            ∙ ap (λ (z : Seat). rows_of (format_after z.0.format z.0.seen) (after z.0.seen))
+            (sym back));
+        found_alone =
+            λ one. (let p = ap (λ (v : View). v.passes) b.rest in let f = b.has.fewer in let k =
+            b.has.number in ap is_some (alone (omega (arith, f, k, p, one)) (same_mask (p ∙ one))));
+        exact = (
+          (λ is. let some = some_of found is in let o =
+              subst (λ (z : Option ℕ). IfSome z
+              (λ i. (i ≡ used) × (t.kept ≡ 1) × (noted % masks ≡ done))) some.1 only in let kept =
+              o.1 in let as_many = b.has.leaves.as_many in
+              ap (λ (z : Seat). z.0.found) back
+              ∙ ap (λ (z : List ℕ). z ++ found_now (Some noted) done (length m1.0.seen))
+              (no_members m1.0.found (omega (arith, as_many, kept))) ∙ unpinned noted done
+              (length m1.0.seen) o.2),
+          (λ none. let all_none : all_found ≡ [] = sym (ap (λ (z : Seat). z.0.found) back) ∙ none in
+              let lengths =
+              length-append m1.0.found (found_now (Some noted) done (length m1.0.seen)) in
+              let no_length : length all_found ≡ 0 = ap (λ (z : List ℕ). length z) all_none in
+              let as_many = b.has.leaves.as_many in
+              ap is_some (alone (omega (arith, as_many, lengths, no_length))
+              (is_unpinned noted done (length m1.0.seen) (omega (arith, lengths, no_length))))),
+        );
+        are = subst (λ (z : Seat). AreFound (m.0.passes + 1) z.0.seen z.0.found) (sym back) record {
+          few =
+              (let first = (are_found m m1 t b).few in let last =
+              at_most_one noted done (length m1.0.seen) in let lengths =
+              length-append m1.0.found (found_now (Some noted) done (length m1.0.seen)) in
+              omega (arith, first, last, lengths));
+          below =
+              λ v has. ⊎_elim (λ first. (are_found m m1 t b).below v (contained v m1.0.found first))
+              (λ last. it_is noted done (length m1.0.seen) v last)
+              (in_either v m1.0.found (found_now (Some noted) done (length m1.0.seen))
+              (within v all_found has));
+        };
+        asked =
+            (let q = ap (λ (z : Seat). z.0.asked) back in let k = b.asked in omega (arith, q, k));
+        missed = ap (λ (z : Seat). z.0.missed) back ∙ ap (λ (v : View). v.missed) b.rest;
+      }
+
+-- the rows that are not free, and those that are, are all rows
+pub all_rows : {A : Type 0} (m m1 : Seat) (t : Turn A) → Begun m t m1 → (all free : ℕ)
+    → all ≡ m.0.rows → free ≡ free_count t.desk.lives → all - free + free_count t.desk.lives
+    ≡ m.0.rows
+all_rows m m1 t b all free is counted = let l = room_left t m1 b.has in let r =
+    ap (λ (v : View). v.rows) b.rest in omega (arith, l, r, is, counted)
+
+module _ {A : Type 0} (m m1 m' : Seat) (t : Turn A) (b : Begun m t m1)
+    (gave : m' ≡ (record m1.0 { turn = false }, [])) (free : ℕ)
+    (is : free ≡ free_count t.desk.lives) where
+  -- the rows that are free, and those that the kept versions hold, are all rows
+  all_kept : free + rows_kept m.0.format m1.0.seen m1.0.found ≡ m.0.rows
+  all_kept = subst (λ (f : Format). free + rows_kept f m1.0.seen m1.0.found ≡ m.0.rows)
+      (ap (λ (v : View). v.format) b.rest) (let l = b.has.leaves.left in let r =
+      ap (λ (v : View). v.rows) b.rest in omega (arith, l, r, is))
+
+  -- if no version was found pinned, the map alone holds rows
+  all_mapped : m1.0.found ≡ []
+      → free + rows_of (format_after m.0.format m1.0.seen) (after m1.0.seen) ≡ m.0.rows
+  all_mapped none = subst (λ (f : Format). free + rows_of f (after m1.0.seen) ≡ m.0.rows)
+      (b.has.format ∙ ap (λ (v : View). format_after v.format m1.0.seen) b.rest)
+      (let as_many = b.has.leaves.as_many in let number = b.has.number in
+      let no_length : length m1.0.found ≡ 0 = ap (λ (z : List ℕ). length z) none in
+      let map_is = room_alone_left t m1 b.has (omega (arith, as_many, number, no_length)) in let r =
+      ap (λ (v : View). v.rows) b.rest in omega (arith, map_is, is, r))
+
+  pub counted_free : CountsFree m free m'
+  counted_free = record {
+    looked = looked m m1 t b m1 m' refl gave;
+    are = subst (λ (z : Seat). AreFound m.0.passes z.0.seen z.0.found) (sym gave)
+        (are_found m m1 t b);
+    left = subst (λ (z : Seat). free + rows_kept m.0.format z.0.seen z.0.found ≡ m.0.rows)
+        (sym gave) all_kept;
+    alone = λ none. subst (λ (z : Seat). free + rows_of (format_after m.0.format z.0.seen)
+        (after z.0.seen) ≡ m.0.rows) (sym gave)
+        (all_mapped (sym (ap (λ (z : Seat). z.0.found) gave) ∙ none));
+  }

@@ -1,0 +1,11 @@
+pub mod Asked
+pub mod Beginning
+mod Places
+pub mod Pinning
+pub mod Filing
+pub mod Ready
+mod Made
+mod Written
+mod Migrated
+mod Batched
+mod Counted

@@ -1,0 +1,205 @@
+-- A version that is made stands ready to be published.
+use Rattle.std.proofs.Common.{◌≡◌, ℕ, ◌+◌, ◌<◌, ◌≤◌, true, false, Option, Some, None, List, [], ◌∷◌, ◌++◌, length, slice_get, set, get_or, refl, sym, ap, ◌∙◌, subst, arith, length-set, get_or-set_same, get_or-set_other}
+use Rattle.std.specs.List.{AllByRecursion}
+use mathlib.Core.Logic.{dite}
+use native.Mathlib.Decide.{ℕ_discrete}
+use Rattle.std.proofs.lemmas.Option.{slice_get_within}
+use Rattle.mst_key.specs.declared.history.Event.{Event}
+use Rattle.mst_key.specs.declared.format.Format.{Format}
+use Rattle.mst_key.specs.History.{History, after, format_after}
+use Rattle.mst_key.proofs.HistoryLaws.{IsPrefix-itself}
+use Rattle.mst_arena.specs.Lives.{State, version, next, reaches, reached_at}
+use Rattle.mst_arena.specs.Standing.{Stands, numbers}
+use Rattle.mst_arena.specs.Ages.{HasAges}
+use Rattle.mst_arena.specs.declared.life.Life.{Life}
+use Rattle.mst_arena.specs.declared.row.Root.{Root}
+use Rattle.mst_arena.specs.Lists.{In}
+use Rattle.mst_path.specs.Reached.{advanced}
+use Rattle.mst_words.specs.Layout.{row_word}
+use Rattle.mst_words.specs.declared.view.View.{View}
+use Rattle.mst_words.specs.declared.view.DeskState.{DeskState}
+use Rattle.mst_words.specs.Access.{content_of}
+use Rattle.mst_words.specs.Records.{row, field, Standing, Agrees}
+use Rattle.mst_words.specs.Steps.{IsReady, IsGiving}
+use Rattle.mst_words.specs.Stored.{AgedOn, stored, desk_state, rows_in, root_in, format_number, version_of}
+use Rattle.mst_words.proofs.Framed.{aged_frame, same_row}
+use Rattle.mst_versions.specs.declared.turn.Turn.{Turn}
+use Rattle.mst_versions.specs.Turns.{Seat, HoldsDesk, HasMade}
+use Rattle.mst_versions.specs.Filing.{OthersKept}
+use Rattle.mst_words.proofs.Members.{each}
+use Rattle.mst_versions.proofs.Pinning.{reads_all}
+
+-- a version reaches only rows that there are
+inside : (o : Option Life) (v : ℕ) → reached_at o v ≡ true → (x : Life) × (o ≡ Some x)
+inside None v h = absurd (let c : false ≡ true = h in cc)
+inside (Some x) v h = (x, refl)
+
+length_more : (l : History) (e : Event) → length (l ++ e ∷ []) ≡ length l + 1
+length_more [] e = refl
+length_more (x ∷ l) e = let h = length_more l e in omega arith
+
+module _ {A : Type 0} (t : Turn A) (root : Root) (format : Format) (e : Event) (m : Seat)
+    (made : HasMade t root format e m) (held : List ℕ)
+    (kept : OthersKept t.into m.0.known_words held)
+    (filed : field held t.into 0 ≡ version t.desk + 1) (spelt : root_in (field held t.into) ≡ root)
+    (numbered_format : field held t.into 6 ≡ format_number format) where
+  -- the map that stands, in the format that the history leaves
+  abbrev leaves : Format
+  leaves = format_after m.0.format (m.0.seen ++ e ∷ [])
+
+  abbrev now : View
+  now = record m.0 { known_words = held }
+
+  abbrev state : DeskState
+  state = desk_state (advanced t.into t.desk)
+
+  holds : HoldsDesk t m
+  holds = made.holds
+
+  within_rows : (x : ℕ) → In x (numbers made.stands) → x < m.0.rows
+  within_rows x within = let r = (made.reached x).1 within in let l =
+      inside (slice_get t.desk.lives x) (next t.desk) r in
+      let b = slice_get_within t.desk.lives x l.0 l.1 in let n = holds.rows_is in omega arith
+
+  same_content : AllByRecursion (λ x. rows_in (row held) x ≡ content_of m.0 x) (numbers made.stands)
+  same_content = each (λ x. rows_in (row held) x ≡ content_of m.0 x) (numbers made.stands)
+      (λ x within.
+      same_row (row m.0.known_words) (row held) x
+      (λ k lt. kept.others (row_word x k) (λ j l is. let i = holds.into_in in let f =
+      holds.few in omega arith)) ∙ sym (reads_all m.0 x holds.holder.0 (within_rows x within)))
+
+  numbered : length (m.0.seen ++ e ∷ []) ≡ version t.desk + 1
+  numbered = length_more m.0.seen e ∙ ap (λ (n : ℕ). n + 1) (sym holds.version_is)
+
+  -- the words mean this, in each format that is that of the version
+  abbrev aged_in : Format → Type 0
+  aged_in f =
+      (s : Stands f (rows_in (row held)) (root_in (field held t.into)) (after (m.0.seen ++ e ∷ [])))
+      × (numbers s ≡ numbers made.stands) × (field held t.into 6 ≡ format_number f)
+      × HasAges m.0.format t.desk.lives (m.0.seen ++ e ∷ []) s.tree.placed
+
+  aged_leaves : aged_in leaves
+  aged_leaves = subst aged_in made.format_is
+      (let moved = aged_frame m.0.format format (content_of m.0) (rows_in (row held)) root
+      (root_in (field held t.into)) (m.0.seen ++ e ∷ []) t.desk.lives t.desk.lives made.stands
+      same_content spelt (λ x v _ _. refl) made.aged in
+      (moved.0, moved.1, numbered_format, moved.2))
+
+  aged : AgedOn m.0.format (row held) (field held t.into) state (m.0.seen ++ e ∷ [])
+      (numbers made.stands)
+  aged = let a = aged_leaves in ((a.0, a.1, a.2), a.3)
+
+  standing : Standing (stored m.0.format) m.0.rows m.0.passes held (m.0.seen ++ e ∷ []) state t.into
+      (m.0.seen ++ e ∷ []) (numbers made.stands)
+  standing = record {
+    numbered = holds.into_in;
+    begins = IsPrefix-itself (m.0.seen ++ e ∷ []);
+    version = filed ∙ sym numbered;
+    filed = get_or-set_same t.desk.versions t.into (next t.desk) 0 (let l = holds.records in let i =
+        holds.into_in in omega arith) ∙ sym numbered;
+    stands = aged.0;
+    aged = aged;
+    inside = within_rows;
+    reached = λ x within. subst (λ (n : ℕ). reaches t.desk.lives n x ≡ true) (sym numbered)
+        ((made.reached x).1 within);
+    exactly =
+        λ x l r. (made.reached x).0 (subst (λ (n : ℕ). reaches t.desk.lives n x ≡ true) numbered r);
+  }
+
+  -- the versions of the other records stay, and the rows of all lives
+  agree : (r : ℕ) → r < m.0.passes + 2 → (In r m.0.drained → ⊥) → Agrees (stored m.0.format)
+      m.0.desk state r
+  agree r small pinned = let a = holds.agrees r small pinned in
+      let same : version_of state r ≡ version_of (desk_state t.desk) r =
+      get_or-set_other t.desk.versions t.into r (next t.desk) 0
+      (λ is. pinned (subst (λ (z : ℕ). In z m.0.drained) (sym is) holds.into_drained)) in
+      record { version = same ∙ a.version; reached = a.reached; exactly = a.exactly; ages = a.ages }
+
+  ready : IsReady (stored m.0.format) t.into e state (numbers made.stands) now
+  ready = record {
+    on = holds.holder.0;
+    unpinned = holds.holder.1;
+    settled = holds.holder.2;
+    drained = holds.into_drained;
+    mine = made.mine;
+    room = (let l = made.room in omega arith);
+    desk_at = refl;
+    stands = standing;
+    agrees = agree;
+  }
+
+  pub readying : (s : State) (v : View) → s ≡ advanced t.into t.desk → v ≡ now → (used : List ℕ)
+      × IsReady (stored v.format) t.into e (desk_state s) used v
+  readying s v is same = (
+    numbers made.stands,
+    subst (λ (d : State). IsReady (stored v.format) t.into e (desk_state d) (numbers made.stands)
+        v) (sym is) (subst
+        (λ (z : View). IsReady (stored z.format) t.into e state (numbers made.stands) z) (sym same)
+        ready),
+  )
+
+  -- what the pass holds when the version is published, the mask is moved and the desk is back
+  abbrev given : State → ℕ → Seat
+  given s mask = (
+    record now {
+      seen = m.0.seen ++ e ∷ [];
+      mine = m.0.mine ++ e ∷ [];
+      due = None;
+      mask =
+          mask;
+      drained = [];
+      blocked = [];
+      noted = None;
+      desk = desk_state s;
+      asked = m.0.asked + 1;
+    },
+    (0, Some s) ∷ [],
+  )
+
+  now_is : version (advanced t.into t.desk) ≡ next t.desk
+  now_is = get_or-set_same t.desk.versions t.into (next t.desk) 0 (let l = holds.records in let i =
+      holds.into_in in omega arith)
+
+  -- no record has a later version than the new one
+  below : (r : ℕ) → r < m.0.passes + 2 → get_or (set t.desk.versions t.into (next t.desk)) r 0
+      ≤ next t.desk
+  below r l = dite (ℕ_discrete r t.into)
+      (λ is. let e : get_or (set t.desk.versions t.into (next t.desk)) r 0 ≡ next t.desk =
+      ap (λ (z : ℕ). get_or (set t.desk.versions t.into (next t.desk)) z 0) is ∙ now_is in
+      omega (arith, e))
+      (λ other. let e = get_or-set_other t.desk.versions t.into r (next t.desk) 0 other in let b =
+      holds.earlier r l in omega (arith, e, b))
+
+  given_back : (mask : ℕ) → IsGiving (stored m.0.format) (Some (advanced t.into t.desk)) state
+      (given (advanced t.into t.desk) mask)
+  given_back mask = record {
+    on = holds.holder.0;
+    settled = refl;
+    slot = refl;
+    is_desk = record {
+      there = refl;
+      rows_is = holds.rows_is;
+      records = length-set t.desk.versions t.into (next t.desk) ∙ holds.records;
+      settled = made.settled;
+      earlier = λ r l. subst (λ (n : ℕ). get_or (set t.desk.versions t.into (next t.desk)) r 0 ≤ n)
+          (sym now_is) (below r l);
+    };
+    current = refl;
+    agrees = λ r _ _. record {
+      version = refl;
+      reached = λ x h. h;
+      exactly = λ x h. h;
+      ages =
+          λ x v _ _. ((λ is. is), (λ is. is));
+    };
+  }
+
+  pub giving : (s : State) (mask : ℕ) (m' : Seat) → s ≡ advanced t.into t.desk → m' ≡ given s mask
+      → (x : Option State) × (d : DeskState) × IsGiving (stored m'.0.format) x d m'
+  giving s mask m' is same = (
+    Some s,
+    desk_state s,
+    subst (λ (z : Seat). IsGiving (stored z.0.format) (Some s) (desk_state s) z) (sym same)
+        (subst (λ (d : State). IsGiving (stored m.0.format) (Some d) (desk_state d) (given d mask))
+        (sym is) (given_back mask)),
+  )

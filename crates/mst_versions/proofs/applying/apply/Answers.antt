@@ -1,0 +1,144 @@
+use Rattle.std.proofs.Common.{◌≡◌, ℕ, List, sym, ap, subst, rules}
+use Rattle.mst_key.specs.declared.history.Change.TheVariants.{Batch}
+use Rattle.mst_key.specs.declared.history.Edit.{Edit}
+use Rattle.mst_key.specs.declared.history.Event.{Event}
+use Rattle.mst_key.specs.History.{done}
+use Rattle.mst_words.specs.Access.{Seated}
+use Rattle.mst_batch.specs.declared.faults.NotApplied.{NotApplied}
+use Rattle.mst_batch.specs.declared.faults.NotApplied.TheVariants as applied
+use Rattle.mst_versions.specs.Applying.{LacksEdits}
+use Rattle.mst_versions.specs.Turns.{Added}
+use Rattle.mst_versions.specs.Writes.{WroteAtSeat}
+use Rattle.mst_versions.proofs.Written.{wrote, refused}
+use Rattle.mst_versions.proofs.applying.apply.Goals as goal
+
+pub returns-in-Ok-make_batch-clause-wrote : goal.returns-in-Ok-make_batch-clause-wrote
+returns-in-Ok-make_batch-clause-wrote g c =
+    let made = c.in-Ok-make_batch in
+    let m = c.args.seat.now.me in
+    let event : ℕ → List Edit → Event = λ p es. record { pass = p; change = Batch es } in
+    let e = event c.args.number c.args.edits.now in
+    let added : Added e c.make_batch.new.seat.me c.publish.new.seat.me =
+    subst (λ (es : List Edit). Added (event c.args.number es) c.make_batch.new.seat.me
+    c.publish.new.seat.me) c.new.ensures.edits c.publish.ensures.added in
+    subst (λ (p : ℕ). WroteAtSeat (event p c.args.edits.now) m done c.publish.new.seat.me)
+    (sym c.requires.free.3)
+    (wrote m c.begin_write.new.seat.me c.in-Ok.turn c.in-Ok.ensures.begun e made.root done
+    c.make_batch.new.turn c.make_batch.new.seat.me c.publish.new.seat.me made.ensures.made added
+    c.in-Ok.ensures.room (sym c.requires.free.3))
+
+pub returns-in-Err-NoRoom-clause-refused : goal.returns-in-Err-NoRoom-clause-refused
+returns-in-Err-NoRoom-clause-refused g c =
+    let t = c.in-Ok.turn in
+    let why = c.in-Err-NoRoom.ensures in
+    let back = c.give_back-in-Err-NoRoom in
+    let is : c.in-Err-NoRoom.field-0 ≡ applied.NoRoom = search rules in
+    let lacks = subst (λ (why : NotApplied). LacksEdits why c.args.edits.now t
+    c.begin_write.new.seat.me) is why.lacks in
+    refused c.args.seat.now.me c.begin_write.new.seat.me t c.in-Ok.ensures.begun
+    c.make_batch.new.seat.me back.new.seat.me (ap (λ (z : Seated). z.me) why.untouched.1)
+    back.ensures.gave (Batch c.args.edits.now) c.in-Ok.ensures.room lacks
+
+pub begin_write-requires-clause-free : goal.begin_write-requires-clause-free
+begin_write-requires-clause-free g c = search rules
+
+pub begin_write-requires-clause-passes : goal.begin_write-requires-clause-passes
+begin_write-requires-clause-passes g c = search rules
+
+pub begin_write-requires-clause-few : goal.begin_write-requires-clause-few
+begin_write-requires-clause-few g c = search rules
+
+pub begin_write-requires-clause-few_rows : goal.begin_write-requires-clause-few_rows
+begin_write-requires-clause-few_rows g c = search rules
+
+pub returns-in-Err-Busy-clause-same : goal.returns-in-Err-Busy-clause-same
+returns-in-Err-Busy-clause-same g c = search rules
+
+pub returns-in-Err-Busy-clause-pass : goal.returns-in-Err-Busy-clause-pass
+returns-in-Err-Busy-clause-pass g c = search rules
+
+pub returns-in-Err-Busy-clause-free : goal.returns-in-Err-Busy-clause-free
+returns-in-Err-Busy-clause-free g c = search rules
+
+pub returns-in-Err-Busy-clause-wrote : goal.returns-in-Err-Busy-clause-wrote
+returns-in-Err-Busy-clause-wrote g c = search rules
+
+pub returns-in-Err-Busy-clause-refused : goal.returns-in-Err-Busy-clause-refused
+returns-in-Err-Busy-clause-refused g c = search rules
+
+pub returns-in-Err-VersionsSpent-clause-same : goal.returns-in-Err-VersionsSpent-clause-same
+returns-in-Err-VersionsSpent-clause-same g c = search rules
+
+pub returns-in-Err-VersionsSpent-clause-pass : goal.returns-in-Err-VersionsSpent-clause-pass
+returns-in-Err-VersionsSpent-clause-pass g c = search rules
+
+pub returns-in-Err-VersionsSpent-clause-free : goal.returns-in-Err-VersionsSpent-clause-free
+returns-in-Err-VersionsSpent-clause-free g c = search rules
+
+pub returns-in-Err-VersionsSpent-clause-wrote : goal.returns-in-Err-VersionsSpent-clause-wrote
+returns-in-Err-VersionsSpent-clause-wrote g c = search rules
+
+pub returns-in-Err-VersionsSpent-clause-refused : goal.returns-in-Err-VersionsSpent-clause-refused
+returns-in-Err-VersionsSpent-clause-refused g c = search rules
+
+pub make_batch-requires-clause-turn : goal.make_batch-requires-clause-turn
+make_batch-requires-clause-turn g c = search rules
+
+pub make_batch-requires-clause-open : goal.make_batch-requires-clause-open
+make_batch-requires-clause-open g c = search rules
+
+pub publish-requires : goal.publish-requires
+publish-requires g c = search rules
+
+pub give_back-requires-clause-holds : goal.give_back-requires-clause-holds
+give_back-requires-clause-holds g c = search rules
+
+pub give_back-requires-clause-settled : goal.give_back-requires-clause-settled
+give_back-requires-clause-settled g c = search rules
+
+pub give_back-requires-in-Err-NoRoom-clause-holds
+    : goal.give_back-requires-in-Err-NoRoom-clause-holds
+give_back-requires-in-Err-NoRoom-clause-holds g c = search rules
+
+pub give_back-requires-in-Err-NoRoom-clause-settled
+    : goal.give_back-requires-in-Err-NoRoom-clause-settled
+give_back-requires-in-Err-NoRoom-clause-settled g c = search rules
+
+pub returns-in-Ok-make_batch-clause-same : goal.returns-in-Ok-make_batch-clause-same
+returns-in-Ok-make_batch-clause-same g c = search rules
+
+pub returns-in-Ok-make_batch-clause-pass : goal.returns-in-Ok-make_batch-clause-pass
+returns-in-Ok-make_batch-clause-pass g c = search rules
+
+pub returns-in-Ok-make_batch-clause-free : goal.returns-in-Ok-make_batch-clause-free
+returns-in-Ok-make_batch-clause-free g c = search rules
+
+pub returns-in-Ok-make_batch-clause-refused : goal.returns-in-Ok-make_batch-clause-refused
+returns-in-Ok-make_batch-clause-refused g c = search rules
+
+pub returns-in-Err-Memory-clause-same : goal.returns-in-Err-Memory-clause-same
+returns-in-Err-Memory-clause-same g c = search rules
+
+pub returns-in-Err-Memory-clause-pass : goal.returns-in-Err-Memory-clause-pass
+returns-in-Err-Memory-clause-pass g c = search rules
+
+pub returns-in-Err-Memory-clause-free : goal.returns-in-Err-Memory-clause-free
+returns-in-Err-Memory-clause-free g c = search rules
+
+pub returns-in-Err-Memory-clause-wrote : goal.returns-in-Err-Memory-clause-wrote
+returns-in-Err-Memory-clause-wrote g c = search rules
+
+pub returns-in-Err-Memory-clause-refused : goal.returns-in-Err-Memory-clause-refused
+returns-in-Err-Memory-clause-refused g c = search rules
+
+pub returns-in-Err-NoRoom-clause-same : goal.returns-in-Err-NoRoom-clause-same
+returns-in-Err-NoRoom-clause-same g c = search rules
+
+pub returns-in-Err-NoRoom-clause-pass : goal.returns-in-Err-NoRoom-clause-pass
+returns-in-Err-NoRoom-clause-pass g c = search rules
+
+pub returns-in-Err-NoRoom-clause-free : goal.returns-in-Err-NoRoom-clause-free
+returns-in-Err-NoRoom-clause-free g c = search rules
+
+pub returns-in-Err-NoRoom-clause-wrote : goal.returns-in-Err-NoRoom-clause-wrote
+returns-in-Err-NoRoom-clause-wrote g c = search rules

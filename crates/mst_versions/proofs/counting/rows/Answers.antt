@@ -1,0 +1,21 @@
+use Rattle.std.proofs.Common.{◌-◌}
+use Rattle.mst_versions.proofs.Counted.{still_holds, counted, all_rows}
+use Rattle.mst_versions.proofs.counting.rows.Goals as goal
+
+pub give_back-requires : goal.give_back-requires
+give_back-requires g c = let n = c.note_current-noted in let a = c.ask_current-done in record {
+  holds = still_holds c.in-Some.turn c.begin.new.seat.me n.new.self.me a.new.self.me n.result
+      a.result n.ensures.noted a.ensures.asked c.in-Some.ensures.begun.has;
+  settled = c.in-Some.ensures.begun.has.settled;
+}
+
+pub returns-clause-counted : goal.returns-clause-counted
+returns-clause-counted g c = let n = c.note_current-noted in let a = c.ask_current-done in let b =
+    c.in-Some.ensures.begun in
+    counted c.in-Some.turn c.begin.new.seat.me n.new.self.me a.new.self.me n.result a.result
+    n.ensures.noted a.ensures.asked
+    c.args.seat.now.me c.give_back.new.seat.me b c.give_back.ensures.gave c.where_alone.result
+    (c.args.all - c.free.result)
+    (all_rows c.args.seat.now.me c.begin.new.seat.me c.in-Some.turn b c.args.all c.free.result
+    c.requires.all c.free.ensures.count)
+    c.where_alone.ensures.alone c.where_alone.ensures.only

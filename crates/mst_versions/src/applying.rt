@@ -1,0 +1,93 @@
+//! A batch of edits: all of them are made in free rows in one turn, and one version is published.
+ghost use Rattle.std.specs.Prelude.{◌≡◌, ◌<◌, ◌≤◌, length, IfOk, IfErr, OnOk, OnErr};
+ghost use Rattle.mst_key.specs.declared.history.Change.TheVariants as change;
+ghost use Rattle.mst_key.specs.History.{done};
+ghost use Rattle.mst_arena.specs.Lives.{last_version};
+ghost use Rattle.mst_words.specs.Access.{IsSameSeat};
+ghost use Rattle.mst_words.specs.Steps.{IsFree};
+ghost use Rattle.mst_versions.specs.Turns.{HasTurn};
+ghost use Rattle.mst_versions.specs.Writes.{made_at_seat, Made, KeepsPass, WroteAtSeat};
+ghost use Rattle.mst_versions.specs.Applying.{LacksEdits, RefusesBatchAtSeat};
+
+use crate::faults::ApplyFault;
+use crate::publishing::publish;
+use crate::turn::{NotBegun, Turn, begin_write, give_back};
+use mst_arena::Root;
+use mst_batch::NotApplied;
+use mst_key::{Batch, Change, Edit, Event};
+use mst_words::PassSeat;
+use std::alloc::Allocator;
+
+// Makes the edits in the map of the current version. It returns where the new map stands.
+fn make_batch<A: Allocator + Copy, B: Allocator + Copy>(
+    seat: &mut PassSeat<'_, A>,
+    alloc: B,
+    turn: &mut Turn<A>,
+    edits: &[Edit],
+) -> Result<Root, NotApplied>
+    requires turn { HasTurn turn.old seat.old.me }
+    requires open { length seat.old.me.0.seen < last_version }
+    ensures same { IsSameSeat seat.old seat.new }
+    ensures made { IfOk result (λ root. Made (change.Batch edits.now)
+        turn.old seat.old.me root done turn.new seat.new.me) }
+    ensures lacks { IfErr result (λ why. LacksEdits why edits.now turn.old seat.old.me) }
+    ensures untouched { OnErr result ((turn.new ≡ turn.old) × (seat.new ≡ seat.old)) }
+{
+    let format = turn.format;
+    mst_batch::apply(seat, &mut turn.desk, &turn.root, alloc, edits, format)
+}
+
+/// Publishes the map after the edits, made one after another, as the next version, and returns its
+/// number.
+///
+/// The steps are those of a write. The plan of the batch is made in memory, which is given back
+/// before the version is published; each node that the new tree has and the old one has not takes a
+/// row for each of its entries and one for itself.
+///
+/// Returns `Busy` only if another pass has the turn; otherwise `VersionsSpent` exactly if the
+/// current version has the last number; otherwise `Memory` only if a growth was refused, and never
+/// for at most one edit; otherwise `NoRoom` exactly if fewer rows are free than the batch takes.
+pub fn apply<A: Allocator + Copy, B: Allocator + Copy>(
+    seat: &mut PassSeat<'_, A>,
+    alloc: B,
+    number: u32,
+    passes: u32,
+    edits: &[Edit],
+) -> Result<u64, ApplyFault>
+    requires free { IsFree number seat.old.me }
+    requires passes { passes ≡ seat.old.me.0.passes }
+    requires few { passes ≤ 32 }
+    requires few_rows { seat.old.me.0.rows ≤ 65535 }
+    ensures same { IsSameSeat seat.old seat.new }
+    ensures pass { KeepsPass seat.old.me seat.new.me }
+    ensures free { IsFree number seat.new.me }
+    ensures wrote { OnOk result (WroteAtSeat (made_at_seat seat.old.me (change.Batch edits.now))
+        seat.old.me done seat.new.me) }
+    ensures version { IfOk result (λ version. version ≡ length seat.new.me.0.seen) }
+    ensures refused { IfErr result
+        (λ fault. RefusesBatchAtSeat fault edits.now seat.old.me seat.new.me) }
+{
+    let mut turn = match begin_write(seat, number, passes) {
+        Ok(turn) => turn,
+        Err(NotBegun::Busy) => return Err(ApplyFault::Busy),
+        Err(NotBegun::VersionsSpent) => return Err(ApplyFault::VersionsSpent),
+    };
+    let format = turn.format;
+    match make_batch(seat, alloc, &mut turn, edits) {
+        Ok(root) => {
+            let event = Event {
+                pass: number,
+                change: Change::Batch(Batch::new(edits)),
+            };
+            Ok(publish(seat, turn, &root, format, &event))
+        }
+        Err(NotApplied::Memory(refused)) => {
+            give_back(seat, turn);
+            Err(ApplyFault::Memory(refused))
+        }
+        Err(NotApplied::NoRoom) => {
+            give_back(seat, turn);
+            Err(ApplyFault::NoRoom)
+        }
+    }
+}

@@ -1,0 +1,212 @@
+//! The turn: from taking it with the desk to giving both back.
+ghost use Rattle.std.specs.Prelude.{◌≡◌, ◌<◌, ◌≤◌, ◌+◌, ◌∷◌, [], length, IfSome, IfNone, IfOk, IfErr, OnOk, Some, None, false};
+ghost use Rattle.mst_words.specs.Access.{IsSameSeat};
+ghost use Rattle.mst_arena.specs.Lives.{last_version, IsSettled};
+ghost use Rattle.mst_words.specs.Steps.{IsFree, IsHolder, IsGiving, Misses};
+ghost use Rattle.mst_words.specs.Stored.{stored, desk_state};
+ghost use Rattle.mst_versions.specs.Asking.{KnowsRecords, HasAsked, AsksOnly, AsksEach};
+ghost use Rattle.mst_versions.specs.Turns.{Seat, TakesDesk, HoldsDesk, HasTurn, Begun, IsNotBegun};
+
+use crate::roots::{read_format, read_root};
+use arrayvec::ArrayVec;
+use mst_arena::{Desk, Root};
+use mst_key::Format;
+use mst_words::PassSeat;
+use mst_words::layout::MOST_RECORDS;
+use std::alloc::Allocator;
+
+/// What the holder of the turn has at hand.
+#[derive(Drop)]
+pub struct Turn<A: Allocator> {
+    /// Births and deaths of the rows. The rows that no version reaches any more are free.
+    pub desk: Desk<A>,
+    /// Where the map of the current version stands.
+    pub root: Root,
+    /// The format of the current version.
+    pub format: Format,
+    /// A record that nobody pins, for the version to come.
+    pub into: u32,
+    /// How many versions are kept: the current one, and those of the records that were found
+    /// pinned.
+    pub kept: u32,
+}
+
+/// Why no write was begun.
+#[derive(Clone, Copy, Debug, PartialEq, Eq)]
+pub enum NotBegun {
+    /// Another pass has the turn.
+    Busy,
+    /// The current version has the last number, 2^63 - 1.
+    VersionsSpent,
+}
+
+/// What the holder of the turn has learnt of the records.
+#[derive(Drop)]
+struct Asked {
+    /// The current version, and the version of each record that was found pinned.
+    live: ArrayVec<u64, MOST_RECORDS>,
+    /// The record that was found drained last; before one was found, the current one.
+    into: u32,
+}
+
+impl Asked {
+    // Asks the next record; the current one is passed over.
+    fn ask<A: Allocator + Copy>(&mut self, seat: &mut PassSeat<'_, A>, desk: &Desk<A>, which: u32)
+        requires asked { HasAsked which desk.now self.old seat.old.me }
+        requires there { which < seat.old.me.0.passes + 2 }
+        ensures same { IsSameSeat seat.old seat.new }
+        ensures kept { AsksOnly seat.old.me seat.new.me }
+        ensures counted { AsksEach seat.old.me seat.new.me }
+        ensures asked { HasAsked (which + 1) desk.now self.new seat.new.me }
+    {
+        let (current, _) = desk.current();
+        if which == current {
+            return;
+        }
+        if seat.ask(which) {
+            self.into = which;
+        } else {
+            self.live.push(desk.version_of(which));
+        }
+    }
+}
+
+// Asks each record but the current one: one load each.
+fn ask_others<A: Allocator + Copy>(seat: &mut PassSeat<'_, A>, desk: &Desk<A>, passes: u32) -> Asked
+    requires knows { KnowsRecords desk.now seat.old.me }
+    requires passes { passes ≡ seat.old.me.0.passes }
+    requires none { (seat.old.me.0.drained ≡ []) × (seat.old.me.0.blocked ≡ [])
+        × (seat.old.me.0.found ≡ []) }
+    ensures same { IsSameSeat seat.old seat.new }
+    ensures kept { AsksOnly seat.old.me seat.new.me }
+    ensures counted { AsksEach seat.old.me seat.new.me }
+    ensures asked { HasAsked (passes + 2) desk.now result seat.new.me }
+{
+    let (current, version) = desk.current();
+    let mut live = ArrayVec::new();
+    live.push(version);
+    let mut asked = Asked {
+        live,
+        into: current,
+    };
+    for which in 0..passes + 2 {
+        asked.ask(seat, desk, which);
+    }
+    asked
+}
+
+// Takes the turn, and the desk out of the slot. Returns `None` if another pass has the turn.
+fn take<A: Allocator + Copy>(seat: &mut PassSeat<'_, A>, number: u32) -> Option<Desk<A>>
+    requires free { IsFree number seat.old.me }
+    ensures same { IsSameSeat seat.old seat.new }
+    ensures missed { IfNone result (Misses seat.old.me seat.new.me) }
+    ensures taken { IfSome result (λ desk. TakesDesk seat.old.me desk seat.new.me) }
+    ensures holder { IfSome result (λ _. IsHolder seat.new.me) }
+{
+    if seat.take_turn(number) {
+        Some(seat.take_desk())
+    } else {
+        None
+    }
+}
+
+// Gives the turn back, and the desk: one exchange and one store.
+fn lay_back<A: Allocator + Copy>(seat: &mut PassSeat<'_, A>, desk: Desk<A>)
+    requires out { seat.old.me.1 ≡ (0, None) ∷ [] }
+    requires giving { IsGiving (stored seat.old.me.0.format) (Some desk) (desk_state desk)
+        (seat.old.me.0, (0, Some desk) ∷ []) }
+    ensures same { IsSameSeat seat.old seat.new }
+    ensures gave { seat.new.me ≡ (record seat.old.me.0 { turn = false }, []) }
+{
+    seat.return_desk(desk);
+    seat.give_turn();
+}
+
+// Makes the holder of the turn ready for a write: a record is found for the version to come, and
+// the rows that no version reaches are freed.
+fn make_ready<A: Allocator + Copy>(
+    seat: &mut PassSeat<'_, A>,
+    mut desk: Desk<A>,
+    passes: u32,
+) -> Turn<A>
+    requires taken { (before : Seat) × TakesDesk before desk seat.old.me }
+    requires holder { IsHolder seat.old.me }
+    requires passes { passes ≡ seat.old.me.0.passes }
+    requires few { passes ≤ 32 }
+    requires few_rows { seat.old.me.0.rows ≤ 65535 }
+    ensures same { IsSameSeat seat.old seat.new }
+    ensures kept { AsksOnly seat.old.me seat.new.me }
+    ensures asked { seat.new.me.0.asked ≡ seat.old.me.0.asked + passes + 1 }
+    ensures has { HasTurn result seat.new.me }
+{
+    let asked = ask_others(seat, &desk, passes);
+    let (current, _) = desk.current();
+    let (_, root) = read_root(seat, current);
+    let format = read_format(seat, current);
+    desk.sweep(&asked.live);
+    Turn {
+        desk,
+        root,
+        format,
+        into: asked.into,
+        kept: asked.live.len() as u32,
+    }
+}
+
+/// Takes the turn, finds a record for a version to come, and frees the rows that no version
+/// reaches: one compare-exchange, one exchange, one load for each record but the current one, and
+/// seven loads more. Returns `None` if another pass has the turn.
+pub fn begin<A: Allocator + Copy>(
+    seat: &mut PassSeat<'_, A>,
+    number: u32,
+    passes: u32,
+) -> Option<Turn<A>>
+    requires free { IsFree number seat.old.me }
+    requires passes { passes ≡ seat.old.me.0.passes }
+    requires few { passes ≤ 32 }
+    requires few_rows { seat.old.me.0.rows ≤ 65535 }
+    ensures same { IsSameSeat seat.old seat.new }
+    ensures missed { IfNone result (Misses seat.old.me seat.new.me) }
+    ensures begun { IfSome result (λ t. Begun seat.old.me t seat.new.me) }
+{
+    let Some(desk) = take(seat, number) else {
+        return None;
+    };
+    Some(make_ready(seat, desk, passes))
+}
+
+/// Begins a write as [`begin`] does. But if the current version has the last number, the turn is
+/// given back before any record is asked.
+pub fn begin_write<A: Allocator + Copy>(
+    seat: &mut PassSeat<'_, A>,
+    number: u32,
+    passes: u32,
+) -> Result<Turn<A>, NotBegun>
+    requires free { IsFree number seat.old.me }
+    requires passes { passes ≡ seat.old.me.0.passes }
+    requires few { passes ≤ 32 }
+    requires few_rows { seat.old.me.0.rows ≤ 65535 }
+    ensures same { IsSameSeat seat.old seat.new }
+    ensures refused { IfErr result (λ why. IsNotBegun why seat.old.me seat.new.me) }
+    ensures begun { IfOk result (λ t. Begun seat.old.me t seat.new.me) }
+    ensures room { OnOk result (length seat.new.me.0.seen < last_version) }
+{
+    let Some(desk) = take(seat, number) else {
+        return Err(NotBegun::Busy);
+    };
+    if let Err(_) = desk.next_version() {
+        lay_back(seat, desk);
+        return Err(NotBegun::VersionsSpent);
+    }
+    Ok(make_ready(seat, desk, passes))
+}
+
+/// Gives the turn back with the history as it was: one exchange and one store.
+pub fn give_back<A: Allocator + Copy>(seat: &mut PassSeat<'_, A>, turn: Turn<A>)
+    requires holds { HoldsDesk turn seat.old.me }
+    requires settled { IsSettled turn.desk }
+    ensures same { IsSameSeat seat.old seat.new }
+    ensures gave { seat.new.me ≡ (record seat.old.me.0 { turn = false }, []) }
+{
+    lay_back(seat, turn.desk)
+}
