@@ -17,6 +17,7 @@ LAYERS = [
         "mst_load": 770, "mst_script": 1030, "mst_sharded": 350, "mst_c": 540,
     }),
     (("the store",), {"mst_store": 690}),
+    (("versions, read and", "made by a seat"), {"mst_versions": 690}),
     (("the shared table;", "batches; replays"), {
         "mst_verifier": 262, "mst_report": 440, "mst_batch": 590, "mst_words": 750,
         "mst_replay": 930,
