@@ -5,7 +5,6 @@ import itertools
 from model import Script, Version, spelt
 from modelled import next_random
 from transcript import Case
-import nodes
 
 
 def plain_case(title, line, lines, answers):
@@ -123,8 +122,8 @@ def generated(count, seed):
 
 
 def planted(pairs, rows, seed_format):
-    """A script over a store to which the pairs were put by batches, and whose whole tree a migration
-    then wrote into rows."""
+    """A script over a store to which the pairs were put by batches, and whose whole tree a
+    migration then wrote into rows."""
     script = Script(rows, 1, 3 - seed_format)
     edits = [f"put {spelt(key)} {spelt(value)}" for key, value in pairs]
     for start in range(0, len(edits), 25):
@@ -158,23 +157,10 @@ def reads(script, keys_apart, places_apart):
 
 def whole_maps():
     for count, keys_apart, places_apart in ((0, 1, 1), (1, 1, 1), (2, 1, 1), (17, 1, 1),
-                                            (1_000, 1, 157), (20_000, 997, 7_919)):
+                                            (1_000, 1, 157)):
         script = planted(generated(count, 1 + count), 65_535, 1)
         reads(script, keys_apart, places_apart)
         yield script.case(f"reads of {count} pairs")
-
-
-def one_node():
-    """Ranges whose first keys stand far inside a node: a key in the middle, one just above a key
-    there, and one above all keys; three pairs of them, and up to some keys after."""
-    numbers = [number.to_bytes(4, "big") for number in range(8_750)]
-    pairs = [(it[1:], it[3:] * 64) for it in numbers if nodes.layer_of(it[1:]) == 0]
-    script = planted(pairs, 65_535, 1)
-    places, middle = places_of(script, 1)[1:], len(pairs)
-    for place in (middle, middle + 1, 2 * middle - 1):
-        script.range(1, places[place], b"", 3)
-    script.range(1, places[middle], places[middle + 9])
-    yield script.case("ranges inside one node")
 
 
 def cases():
@@ -184,4 +170,3 @@ def cases():
     yield from a_long_pin()
     yield from writes_in_turns()
     yield from whole_maps()
-    yield from one_node()

@@ -3,7 +3,8 @@
 use crate::bouts::{Bout, play};
 use crate::confirming::{confirm, confirm_at};
 use crate::fixtures::{key, value};
-use crate::stores::{both_passes, dealt, heap_of, opened};
+use crate::stores::{both_passes, heap_of, opened};
+use linked_list_allocator::LocalHeap;
 use mst_key::{Key, Value};
 use mst_store::{Format, Memory, Pass, Pinned, Shape};
 use std::alloc::{Allocator, Global};
@@ -34,11 +35,16 @@ fn numbered(rt: &impl Abort, number: u32) -> (Key, Value) {
     (key(rt, &bytes), value(rt, &bytes))
 }
 
+// Whether a put of the key of a number, with its value, goes through.
+fn adds<A: Allocator + Copy>(rt: &impl Abort, pass: &mut Pass<A>, number: u32) -> bool {
+    let (key, value) = numbered(rt, number);
+    pass.try_put(&key, &value) == Ok(None)
+}
+
 // Puts the keys of the numbers below `count` with their values. Returns true if each went through.
 fn put_all<A: Allocator + Copy>(rt: &impl Abort, pass: &mut Pass<A>, count: u32) -> bool {
     for number in 0..count {
-        let (key, value) = numbered(rt, number);
-        if pass.try_put(&key, &value) != Ok(None) {
+        if !adds(rt, pass, number) {
             return false;
         }
     }
@@ -57,6 +63,35 @@ fn change<A: Allocator + Copy>(rt: &impl Abort, pass: &mut Pass<A>, number: u32)
     }
 }
 
+// The passes in turns.
+fn change_in_turn<A: Allocator + Copy>(
+    rt: &impl Abort,
+    first: &mut Pass<A>,
+    second: &mut Pass<A>,
+    number: u32,
+) -> bool {
+    if number % 2 == 0 {
+        change(rt, first, number)
+    } else {
+        change(rt, second, number)
+    }
+}
+
+// A thousand changes by two passes go through, and take nothing of the heap, of which half is left.
+fn change_all<A: Allocator + Copy>(
+    rt: &impl Abort,
+    heap: &LocalHeap,
+    first: &mut Pass<A>,
+    second: &mut Pass<A>,
+) {
+    let used = heap.used();
+    confirm(rt, used < HEAP / 2, "as much again is left");
+    for number in 0..1_000u32 {
+        let done = change_in_turn(rt, first, second, number);
+        confirm_at(rt, done && heap.used() == used, number as usize);
+    }
+}
+
 #[test]
 fn a_thousand_writes_take_nothing_of_a_heap_with_room(rt: HostRuntime) {
     let heap = heap_of(&rt, HEAP);
@@ -67,44 +102,7 @@ fn a_thousand_writes_take_nothing_of_a_heap_with_room(rt: HostRuntime) {
     };
     let (store, seats) = opened(&rt, &heap, shape);
     let (mut first, mut second) = both_passes(&rt, &heap, &store, seats);
-    let used = heap.used();
-    confirm(&rt, used < HEAP / 2, "as much again is left");
-    for number in 0..1_000u32 {
-        let done = if number % 2 == 0 {
-            change(&rt, &mut first, number)
-        } else {
-            change(&rt, &mut second, number)
-        };
-        confirm_at(&rt, done && heap.used() == used, number as usize);
-    }
-}
-
-// Whether a store of so many rows deals so many passes.
-fn deals(rt: &(impl Abort + AllocGlobal), rows: u32, passes: u32) -> bool {
-    let shape = Shape {
-        rows,
-        passes,
-        format: Format::Two,
-    };
-    let (store, seats) = opened(rt, rt.alloc(), shape);
-    dealt(rt, rt.alloc(), &store, seats).len() == passes as usize
-}
-
-// Stores of so many rows deal each number of passes.
-fn deals_each(rt: &(impl Abort + AllocGlobal), rows: u32) {
-    for passes in 1..=32u32 {
-        confirm_at(rt, deals(rt, rows, passes), rows as usize);
-    }
-}
-
-#[test]
-fn stores_of_many_sizes_open_and_deal(rt: HostRuntime) {
-    const ROWS: &[u32] = &[
-        4, 5, 63, 64, 65, 1_000, 4_095, 4_096, 16_383, 32_768, 65_534, MOST_ROWS,
-    ];
-    for rows in ROWS {
-        deals_each(&rt, *rows);
-    }
+    change_all(&rt, &heap, &mut first, &mut second);
 }
 
 // Whether so many pairs, or none, were given.
@@ -118,36 +116,90 @@ fn are_given<A: Allocator>(found: Result<Vec<(Key, Value), A>, Memory>, count: u
 /// How many keys are passed over from one proof to the next.
 const STRIDE: usize = 97;
 
-// Whether a free pass gives all of so many pairs, none if it may give none, and proofs for some of
-// twice as many keys, half of which the map lacks, in heaps of `PROOF_ROOM` and of `PAIR_ROOM` for
-// each pair, which are empty again.
-fn answers(rt: &(impl Abort + AllocGlobal), pass: &mut Pass<Global>, count: u32) -> bool {
-    let heap = heap_of(rt, PROOF_ROOM);
-    for number in (0..count.saturating_mul(2)).step_by(STRIDE) {
-        let (key, _) = numbered(rt, number);
-        if pass.prove(&heap, &key).is_err() || heap.used() != 0 {
-            return false;
-        }
-    }
-    let heap = heap_of(rt, count as usize * PAIR_ROOM);
-    are_given(pass.range(&heap, None, None, usize::MAX), count)
-        && are_given(pass.range(&heap, None, None, 0), 0)
-        && heap.used() == 0
+// Whether a free pass proves the answer for a number's key in the heap, which is empty again.
+fn proves(rt: &impl Abort, pass: &mut Pass<Global>, heap: &LocalHeap, number: u32) -> bool {
+    let (key, _) = numbered(rt, number);
+    let made = pass.prove(heap, &key).is_ok();
+    made && heap.used() == 0
 }
 
-// The same of a pinned pass.
-fn answers_pinned(rt: &(impl Abort + AllocGlobal), pass: &mut Pinned<Global>, count: u32) -> bool {
+// Whether it proves some of twice as many keys as there are pairs, half of which the map lacks, in
+// a heap of `PROOF_ROOM`.
+fn proves_some(rt: &(impl Abort + AllocGlobal), pass: &mut Pass<Global>, count: u32) -> bool {
     let heap = heap_of(rt, PROOF_ROOM);
     for number in (0..count.saturating_mul(2)).step_by(STRIDE) {
-        let (key, _) = numbered(rt, number);
-        if pass.prove(&heap, &key).is_err() || heap.used() != 0 {
+        if !proves(rt, pass, &heap, number) {
             return false;
         }
     }
+    true
+}
+
+// Whether it gives at most so many of the pairs in a heap of `PAIR_ROOM` for each pair, which is
+// empty again.
+fn gives(rt: &(impl Abort + AllocGlobal), pass: &mut Pass<Global>, count: u32, limit: u32) -> bool {
     let heap = heap_of(rt, count as usize * PAIR_ROOM);
-    are_given(pass.range(&heap, None, None, usize::MAX), count)
-        && are_given(pass.range(&heap, None, None, 0), 0)
-        && heap.used() == 0
+    let given = are_given(
+        pass.range(&heap, None, None, limit as usize),
+        count.min(limit),
+    );
+    given && heap.used() == 0
+}
+
+// Whether a free pass gives all of so many pairs, none if it may give none, and proofs.
+fn answers(rt: &(impl Abort + AllocGlobal), pass: &mut Pass<Global>, count: u32) -> bool {
+    proves_some(rt, pass, count) && gives(rt, pass, count, u32::MAX) && gives(rt, pass, count, 0)
+}
+
+// Whether a pinned pass proves the answer for a number's key in the heap, which is empty again.
+fn proves_pinned(
+    rt: &impl Abort,
+    pass: &mut Pinned<Global>,
+    heap: &LocalHeap,
+    number: u32,
+) -> bool {
+    let (key, _) = numbered(rt, number);
+    let made = pass.prove(heap, &key).is_ok();
+    made && heap.used() == 0
+}
+
+// Whether it proves some of twice as many keys as there are pairs, half of which the map lacks, in
+// a heap of `PROOF_ROOM`.
+fn proves_some_pinned(
+    rt: &(impl Abort + AllocGlobal),
+    pass: &mut Pinned<Global>,
+    count: u32,
+) -> bool {
+    let heap = heap_of(rt, PROOF_ROOM);
+    for number in (0..count.saturating_mul(2)).step_by(STRIDE) {
+        if !proves_pinned(rt, pass, &heap, number) {
+            return false;
+        }
+    }
+    true
+}
+
+// Whether it gives at most so many of the pairs in a heap of `PAIR_ROOM` for each pair, which is
+// empty again.
+fn gives_pinned(
+    rt: &(impl Abort + AllocGlobal),
+    pass: &mut Pinned<Global>,
+    count: u32,
+    limit: u32,
+) -> bool {
+    let heap = heap_of(rt, count as usize * PAIR_ROOM);
+    let given = are_given(
+        pass.range(&heap, None, None, limit as usize),
+        count.min(limit),
+    );
+    given && heap.used() == 0
+}
+
+// Whether a pinned pass gives all of so many pairs, none if it may give none, and proofs.
+fn answers_pinned(rt: &(impl Abort + AllocGlobal), pass: &mut Pinned<Global>, count: u32) -> bool {
+    proves_some_pinned(rt, pass, count)
+        && gives_pinned(rt, pass, count, u32::MAX)
+        && gives_pinned(rt, pass, count, 0)
 }
 
 // Whether the store goes from format 1 to format 2 in a heap of `MOVE_ROOM` for each of so many
@@ -171,6 +223,22 @@ struct ReadsAll {
     is_moved: bool,
 }
 
+// Whether one pass puts so many pairs, and the other answers.
+fn puts_and_answers(
+    rt: &(impl Abort + AllocGlobal),
+    first: &mut Pass<Global>,
+    second: &mut Pass<Global>,
+    count: u32,
+) -> bool {
+    put_all(rt, second, count) && answers(rt, first, count)
+}
+
+// Whether what the pass pins answers.
+fn pins_and_answers(rt: &(impl Abort + AllocGlobal), pass: Pass<'_, Global>, count: u32) -> bool {
+    let mut pinned = pass.pin();
+    answers_pinned(rt, &mut pinned, count)
+}
+
 impl Bout for ReadsAll {
     fn plays<'a, R: Abort + AllocGlobal + Threads + Wait + Sync>(
         &self,
@@ -179,12 +247,9 @@ impl Bout for ReadsAll {
         second: &mut Pass<'a, Global>,
     ) -> bool {
         let mut first = first;
-        let count = self.count;
-        let right = put_all(rt, second, count)
-            && answers(rt, &mut first, count)
-            && (!self.is_moved || moves(rt, second, count));
-        let mut pinned = first.pin();
-        right && answers_pinned(rt, &mut pinned, count)
+        let right = puts_and_answers(rt, &mut first, second, self.count);
+        let moved = !self.is_moved || moves(rt, second, self.count);
+        right && moved && pins_and_answers(rt, first, self.count)
     }
 }
 
@@ -203,29 +268,4 @@ fn ranges_and_proofs_of_sixty_thousand_pairs_lack_no_memory(rt: HostRuntime) {
         is_moved: false,
     };
     play(&rt, LARGE, &MANY);
-}
-
-// How many rows the map takes after the keys of these numbers were put by three passes in turns.
-fn rows_after(rt: &(impl Abort + AllocGlobal), falling: bool) -> Option<u32> {
-    const COUNT: u32 = 2_000;
-    let shape = Shape { passes: 3, ..LARGE };
-    let (store, seats) = opened(rt, rt.alloc(), shape);
-    let mut passes = dealt(rt, rt.alloc(), &store, seats);
-    for step in 0..COUNT {
-        let number = if falling { COUNT - 1 - step } else { step };
-        let (key, value) = numbered(rt, number);
-        let pass = passes.get_mut((step % 3) as usize)?;
-        let Ok(None) = pass.try_put(&key, &value) else {
-            return None;
-        };
-    }
-    passes.first_mut()?.rows().ok()?
-}
-
-#[test]
-fn rows_of_a_large_map_do_not_depend_on_the_order_of_its_puts(rt: HostRuntime) {
-    let (rising, falling) = (rows_after(&rt, false), rows_after(&rt, true));
-    assert!(rt; rising == falling);
-    // one row for each key, and one for each of its nodes
-    assert!(rt; matches!(rising, Some(rows) if 2_000 < rows && rows < 2_500));
 }

@@ -6,15 +6,12 @@ use crate::calls::Call::{
     Unpin, Version,
 };
 use crate::calls::{Step, script};
-use crate::confirming::{confirm, confirm_at};
-use crate::fixtures::{ROOT_OF_BOTH, ROOT_OF_NONE, value};
-use crate::plain_list::PlainList;
-use crate::room::keys;
-use crate::stores::{SMALL, dealt, opened};
+use crate::fixtures::{ROOT_OF_BOTH, ROOT_OF_NONE};
+use crate::stores::SMALL;
 use crate::writes::{Spelt, edits_of, puts};
 use linked_list_allocator::LocalHeap;
-use mst_key::{Edit, Key};
-use mst_store::{ApplyFault, Format, Memory, Pass, Shape};
+use mst_key::Edit;
+use mst_store::{ApplyFault, Format, Memory, Pass};
 use std::alloc::{AllocError, Allocator, Global};
 use std::process::Abort;
 use std::sync::Wait;
@@ -274,123 +271,4 @@ impl FullBout for NoEdits {
 #[test]
 fn no_edits_take_no_memory(rt: HostRuntime) {
     play_full(&rt, &NoEdits);
-}
-
-// ---- random batches, over the store and over a plain list
-
-fn next(state: u64) -> u64 {
-    state
-        .wrapping_mul(6_364_136_223_846_793_005)
-        .wrapping_add(1_442_695_040_888_963_407)
-}
-
-// Two puts for each remove.
-fn random_edit(rt: &impl Abort, keys: &[Key], state: u64) -> Edit {
-    let bytes = state.to_be_bytes();
-    let key = keys
-        .get((state >> 33) as usize % 305)
-        .expect(rt, "305 keys");
-    if bytes[0] % 3 < 2 {
-        Edit::Put(key.copy(), value(rt, &[bytes[3] % 4]))
-    } else {
-        Edit::Remove(key.copy())
-    }
-}
-
-// Up to 15 edits, and the state of the generator after them.
-fn random_edits(rt: &(impl Abort + AllocGlobal), keys: &[Key], state: u64) -> (Vec<Edit>, u64) {
-    let mut edits = Vec::new(rt.alloc());
-    let mut state = next(state);
-    for _ in 0..(state >> 60) {
-        state = next(state);
-        edits
-            .push(random_edit(rt, keys, state))
-            .expect(rt, "memory");
-    }
-    (edits, state)
-}
-
-// The list after the edits, one by one.
-fn after(rt: &(impl Abort + AllocGlobal), list: &PlainList, edits: &[Edit]) -> PlainList {
-    let mut after = list.moved(rt, rt.alloc(), list.format());
-    for edit in edits {
-        after = match edit {
-            Edit::Put(key, value) => after.with(rt, rt.alloc(), key, Some(value)),
-            Edit::Remove(key) => after.with(rt, rt.alloc(), key, None),
-        };
-    }
-    after
-}
-
-// The list after the batch if it goes through, none if it finds no room. Compares which of them,
-// and the root digest.
-fn apply_both(
-    rt: &(impl Abort + AllocGlobal),
-    pass: &mut Pass<Global>,
-    list: &PlainList,
-    edits: &[Edit],
-    rows: usize,
-) -> Option<PlainList> {
-    let after = after(rt, list, edits);
-    let taken = list.cost(list).all.saturating_add(after.cost(list).new);
-    let answer = pass.try_apply(rt.alloc(), edits);
-    if taken > rows {
-        let same = has_root(pass, &list.root(rt, rt.alloc()));
-        confirm(rt, answer == Err(ApplyFault::NoRoom) && same, "no room");
-        return None;
-    }
-    let made = has_root(pass, &after.root(rt, rt.alloc()));
-    confirm(rt, answer == Ok(()) && made, "the map after it");
-    Some(after)
-}
-
-// How many of a hundred random batches find no room, from a generator that begins at the seed.
-fn random_batches(
-    rt: &(impl Abort + AllocGlobal),
-    pass: &mut Pass<Global>,
-    shape: Shape,
-    seed: u64,
-) -> u32 {
-    let keys = keys(rt);
-    let mut list = PlainList::new(rt.alloc(), shape.format);
-    let mut state = seed;
-    let mut refused = 0u32;
-    for _ in 0..BATCHES {
-        let (edits, after) = random_edits(rt, &keys, state);
-        state = after;
-        match apply_both(rt, pass, &list, &edits, shape.rows as usize) {
-            Some(after) => list = after,
-            None => refused = refused.saturating_add(1),
-        }
-    }
-    refused
-}
-
-/// How many random batches a test makes.
-const BATCHES: u32 = 100;
-
-// Random batches in a store of so many rows are made, or refused, as in the list.
-fn applies_as_the_list(rt: &(impl Abort + AllocGlobal), rows: u32, format: Format, seed: u64) {
-    let shape = Shape {
-        rows,
-        passes: 1,
-        format,
-    };
-    let (store, seats) = opened(rt, rt.alloc(), shape);
-    let mut passes = dealt(rt, rt.alloc(), &store, seats);
-    let Some(pass) = passes.first_mut() else {
-        panic!(rt; "one pass")
-    };
-    let refused = random_batches(rt, pass, shape, seed);
-    confirm_at(rt, 0 < refused && refused < BATCHES, refused as usize);
-}
-
-#[test]
-fn random_batches_answer_as_the_list_does(rt: HostRuntime) {
-    applies_as_the_list(&rt, 240, Format::One, 1);
-}
-
-#[test]
-fn random_batches_in_format_2_answer_as_the_list_does(rt: HostRuntime) {
-    applies_as_the_list(&rt, 240, Format::Two, 2);
 }

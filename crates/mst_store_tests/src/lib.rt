@@ -1,6 +1,7 @@
 //! Tests of the store and of its table over their public calls: opening, reads and writes of
-//! several passes, pins, room, settling, memory that is refused, and all of a kind: each number of
-//! passes, each short script and batch, each growth that is refused.
+//! several passes, pins, settling, threads, memory that is refused, and all of a kind: each short
+//! script, each growth that is refused. What a script of the program says too is a transcript
+//! (`tests/transcripts`): room, random calls, all short batches, a deep tree, numbers of passes.
 #![tactic(auto)]
 
 #[cfg(test)]
@@ -18,8 +19,6 @@ mod calls;
 #[cfg(test)]
 mod confirming;
 #[cfg(test)]
-mod deep;
-#[cfg(test)]
 mod exhaustive;
 #[cfg(test)]
 mod fixtures;
@@ -36,13 +35,9 @@ mod pinned;
 #[cfg(test)]
 mod pins;
 #[cfg(test)]
-mod plain_list;
-#[cfg(test)]
 mod reads;
 #[cfg(test)]
 mod refusals;
-#[cfg(test)]
-mod room;
 #[cfg(test)]
 mod seats;
 #[cfg(test)]

@@ -1,12 +1,15 @@
 //! Only `open`, `deal`, ranges and proofs take memory, and what a refused growth leaves.
+ghost use Rattle.std.specs.Prelude.{◌≡◌};
+
 use crate::calls::Call::{
     EachGrowth, Get, Next, NoMemory, Pairs, Proof, Put, Remove, Root, Rows, Version,
 };
 use crate::calls::{Step, run, script};
+use crate::confirming::confirm;
 use crate::fixtures::{PROOF_OF_BOTH, ROOT_OF_BOTH, key};
 use crate::settling::each_gets_what_all_put;
 use crate::starving::lacks_memory;
-use crate::stores::{AMPLE, SMALL, dealt, fill, heap_of, is_full, opened};
+use crate::stores::{AMPLE, SMALL, dealt, filled, heap_of, opened};
 use linked_list_allocator::LocalHeap;
 use mst_store::{Pass, meet};
 use std::alloc::Allocator;
@@ -42,12 +45,14 @@ fn each_growth_of_a_proof_is_refused(rt: HostRuntime) {
 }
 
 // The calls of two passes go on over the full heap, and take none of it.
-fn go_on<A: Allocator + Copy>(
+fn go_on<'a, A: Allocator + Copy>(
     rt: &(impl Abort + AllocGlobal + Wait),
-    first: &mut Pass<A>,
-    second: &mut Pass<A>,
+    first: &mut Pass<'a, A>,
+    second: &mut Pass<'a, A>,
     heap: &LocalHeap,
-) {
+)
+    requires of_one { first.old.store ≡ second.old.store }
+{
     const STEPS: &[Step] = &[
         (1, Put(b"a", b"1", None)),
         (2, Put(b"abc", b"x", None)),
@@ -58,10 +63,10 @@ fn go_on<A: Allocator + Copy>(
         (1, Remove(b"abc", Some(b"x"))),
         (2, Version(3)),
     ];
-    let used = heap.used();
+    meet(first, second);
     run(rt, first, second, STEPS);
-    let abc = key(rt, b"abc");
-    assert!(rt; lacks_memory(first, heap, &abc) && heap.used() == used);
+    let lacks = lacks_memory(first, heap, &key(rt, b"abc"));
+    confirm(rt, lacks, "no memory for a range and a proof");
 }
 
 #[test]
@@ -69,12 +74,12 @@ fn calls_go_on_over_a_full_heap(rt: HostRuntime) {
     let heap = heap_of(&rt, AMPLE);
     let (store, seats) = opened(&rt, &heap, SMALL);
     let mut passes = dealt(&rt, &heap, &store, seats);
-    let blocks = fill(&rt, &heap);
-    assert!(rt; is_full(&heap) && blocks.len() > 0);
+    let _blocks = filled(&rt, &heap);
+    let used = heap.used();
     assert!(rt; passes.len() == 2);
     let (front, back) = passes.split_at_mut(1);
-    meet(&mut front[0], &mut back[0]);
     go_on(&rt, &mut front[0], &mut back[0], &heap);
+    confirm(&rt, heap.used() == used, "none of the heap is taken");
 }
 
 #[test]
@@ -82,7 +87,6 @@ fn passes_settle_over_a_full_heap(rt: HostRuntime) {
     let heap = heap_of(&rt, AMPLE);
     let (store, seats) = opened(&rt, &heap, SMALL);
     let mut passes = dealt(&rt, &heap, &store, seats);
-    let blocks = fill(&rt, &heap);
+    let _blocks = filled(&rt, &heap);
     each_gets_what_all_put(&rt, &mut passes, &[1, 2]);
-    assert!(rt; blocks.len() > 0);
 }

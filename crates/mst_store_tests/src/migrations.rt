@@ -1,5 +1,5 @@
 //! Migrations: the tree of the map in the other format, while readers stay.
-use crate::answers::{counts, gets, has_version, still_gets};
+use crate::answers::{counts, gets, has_version};
 use crate::bouts::{Bout, FullBout, play, play_full};
 use crate::calls::Call::{
     Get, InFormat, LetGo, Migrate, MigrateInVain, MigrateMany, Pin, Put, PutInVain, Remove, Root,
@@ -11,7 +11,7 @@ use crate::stores::SMALL;
 use crate::writes::{migrates, migration_fails, puts};
 use linked_list_allocator::LocalHeap;
 use mst_store::Format::{One, Two};
-use mst_store::{Format, Memory, MigrateFault, Pass, Pinned, Shape};
+use mst_store::{Format, Memory, MigrateFault, Pass};
 use std::alloc::{AllocError, Allocator, Global};
 use std::process::Abort;
 use std::sync::Wait;
@@ -166,74 +166,6 @@ fn a_store_opens_in_format_2(rt: HostRuntime) {
         (1, Root(ROOT_IN_ONE)),
     ];
     script_in(&rt, Two, 8, &[STEPS]);
-}
-
-// Whether the pinned version is still that of 1 with a alone, in format 1, of this root.
-fn still_stands(pinned: &mut Pinned<Global>, root: &[u8; 32]) -> bool {
-    let same = pinned.version() == 1 && pinned.root() == *root && pinned.format() == One;
-    same && still_gets(pinned, b"1", Some(b"a"))
-}
-
-// Whether a thousand migrations go through beside a pin, to and fro, and the pinned version stays.
-fn moves_beside(
-    alloc: Global,
-    pass: &mut Pass<Global>,
-    pinned: &mut Pinned<Global>,
-    root: &[u8; 32],
-) -> bool {
-    let mut was = One;
-    for _ in 0..1_000u32 {
-        let to = other(was);
-        if !migrates(pass, alloc, to, was) || !still_stands(pinned, root) {
-            return false;
-        }
-        was = to;
-    }
-    true
-}
-
-// Pins the version, and returns whether it stays while the other pass migrates.
-fn stays<'a>(
-    alloc: Global,
-    pass: Pass<'a, Global>,
-    writer: &mut Pass<Global>,
-) -> (Pass<'a, Global>, bool) {
-    let mut pinned = pass.pin();
-    let root = pinned.root();
-    let right = moves_beside(alloc, writer, &mut pinned, &root) && counts(writer, None);
-    (pinned.unpin(), right)
-}
-
-// Whether two rows are left in use after a thousand migrations beside a pin of this pass.
-fn takes_six(alloc: Global, pass: Pass<'_, Global>, writer: &mut Pass<Global>) -> bool {
-    let put = puts(writer, b"1", b"a", None);
-    let (mut pass, right) = stays(alloc, pass, writer);
-    put && right && counts(&mut pass, Some(2)) && has_version(&mut pass, 1_001)
-}
-
-#[derive(Clone, Copy)]
-struct BesideAPin;
-
-impl Bout for BesideAPin {
-    fn plays<'a, R: Abort + AllocGlobal + Threads + Wait + Sync>(
-        &self,
-        rt: &R,
-        first: Pass<'a, Global>,
-        second: &mut Pass<'a, Global>,
-    ) -> bool {
-        takes_six(rt.alloc(), first, second)
-    }
-}
-
-// Two rows are pinned, and two and two serve the versions in turn.
-#[test]
-fn a_thousand_migrations_beside_a_pin_take_six_rows(rt: HostRuntime) {
-    let shape = Shape {
-        rows: 6,
-        passes: 2,
-        format: One,
-    };
-    play(&rt, shape, &BesideAPin);
 }
 
 // Whether a migration in a heap of so many bytes goes through; none if memory was refused, and then

@@ -1,5 +1,5 @@
 //! Passes that keep a pin: each reads its version while others write.
-use crate::answers::{counts, has_version, still_gets};
+use crate::answers::still_gets;
 use crate::bouts::{Bout, play};
 use crate::calls::Call::{
     Get, LetGo, Next, NoMemory, Number, OtherRoot, Pairs, Pin, Proof, Put, PutInVain, PutMany,
@@ -9,7 +9,7 @@ use crate::calls::{Step, script};
 use crate::fixtures::{PROOF_OF_BOTH, ROOT_OF_BOTH, ROOT_OF_NONE};
 use crate::stores::SMALL;
 use crate::writes::{puts, puts_many};
-use mst_store::{Format, Pass, Pinned, Shape};
+use mst_store::{Pass, Pinned};
 use std::alloc::Global;
 use std::process::Abort;
 use std::sync::Wait;
@@ -88,59 +88,6 @@ fn a_pinned_pass_reads_its_version(rt: HostRuntime) {
     ];
     const PARTS: &[&[Step]] = &[PIN_BOTH, HAS_BOTH, PUTS, HAS_BOTH, REMOVES, HAS_BOTH, AFTER];
     script(&rt, 20, PARTS);
-}
-
-// Whether a thousand puts go through beside a pin, and the pinned version stays through all of
-// them.
-fn puts_beside(pass: &mut Pass<Global>, pinned: &mut Pinned<Global>, root: &[u8; 32]) -> bool {
-    let mut old = b'1';
-    for number in 1..=1_000u32 {
-        let new = (number % 256) as u8;
-        if !puts(pass, b"a", &[new], Some(&[old])) || !still_stands(pinned, root) {
-            return false;
-        }
-        old = new;
-    }
-    true
-}
-
-// Whether the pinned version is that of a with 1 alone, of this root.
-fn still_stands(pinned: &mut Pinned<Global>, root: &[u8; 32]) -> bool {
-    pinned.version() == 1 && pinned.root() == *root && still_gets(pinned, b"a", Some(b"1"))
-}
-
-// Pins the version, and returns whether it stays while the other pass writes.
-fn stays<'a>(pass: Pass<'a, Global>, other: &mut Pass<Global>) -> (Pass<'a, Global>, bool) {
-    let mut pinned = pass.pin();
-    let root = pinned.root();
-    let right = puts_beside(other, &mut pinned, &root) && counts(other, None);
-    (pinned.unpin(), right)
-}
-
-#[derive(Clone, Copy)]
-struct LongPin;
-
-impl Bout for LongPin {
-    fn plays<'a, R: Abort + AllocGlobal + Threads + Wait + Sync>(
-        &self,
-        _rt: &R,
-        first: Pass<'a, Global>,
-        second: &mut Pass<'a, Global>,
-    ) -> bool {
-        let put = puts(second, b"a", b"1", None);
-        let (mut first, right) = stays(first, second);
-        put && right && has_version(&mut first, 1_001) && counts(&mut first, Some(2))
-    }
-}
-
-#[test]
-fn a_long_pin_keeps_its_version_and_no_more(rt: HostRuntime) {
-    const SIX: Shape = Shape {
-        rows: 6,
-        passes: 2,
-        format: Format::One,
-    };
-    play(&rt, SIX, &LongPin);
 }
 
 #[test]

@@ -2,13 +2,12 @@
 use crate::bouts::{Bout, play};
 use crate::calls::Call::{Get, InFormat, Next, Number, Put, Remove, Rows, Version};
 use crate::calls::{Step, run, script};
-use crate::fixtures::{key, other};
+use crate::fixtures::key;
 use crate::stores::SMALL;
-use crate::writes::{migrates, puts};
 use mst_key::{Key, Value};
 use mst_store::Format::{One, Two};
-use mst_store::{Format, MigrateFault, Pass, Shape, WriteFault};
-use std::alloc::{Allocator, Global};
+use mst_store::{Format, MigrateFault, Pass, WriteFault};
+use std::alloc::Global;
 use std::process::Abort;
 use std::sync::Wait;
 use std::thread::{Threads, join};
@@ -31,78 +30,6 @@ fn passes_share_a_map(rt: HostRuntime) {
         (2, Next(None, None)),
     ];
     script(&rt, 8, &[STEPS]);
-}
-
-// Whether each of a hundred puts of one pass and of the other, in turns, goes through, and after
-// every fourth of them a migration to the other format.
-fn write_in_turns<A: Allocator + Copy>(
-    alloc: Global,
-    first: &mut Pass<A>,
-    second: &mut Pass<A>,
-    format: Format,
-) -> bool {
-    let mut was = format;
-    for number in 0..100u8 {
-        let old = [number.wrapping_sub(1)];
-        let old: Option<&[u8]> = if number == 0 { None } else { Some(&old) };
-        if !puts(first, b"a", &[number], old) || !puts(second, b"b", &[number], old) {
-            return false;
-        }
-        if number % 4 == 3 {
-            if !migrates(second, alloc, other(was), was) {
-                return false;
-            }
-            was = other(was);
-        }
-    }
-    true
-}
-
-// Two passes of a store that opens in the format write in turns; then they answer so.
-#[derive(Clone, Copy)]
-struct InTurns {
-    format: Format,
-    after: &'static [Step],
-}
-
-impl Bout for InTurns {
-    fn plays<'a, R: Abort + AllocGlobal + Threads + Wait + Sync>(
-        &self,
-        rt: &R,
-        first: Pass<'a, Global>,
-        second: &mut Pass<'a, Global>,
-    ) -> bool {
-        let mut first = first;
-        let right = write_in_turns(rt.alloc(), &mut first, second, self.format);
-        run(rt, &mut first, second, self.after);
-        right
-    }
-}
-
-// The shape of a small store that opens in the format.
-fn small_in(format: Format) -> Shape {
-    Shape {
-        rows: 8,
-        passes: 2,
-        format,
-    }
-}
-
-// In format 2 the key b has layer 1 and stands above a. The format changes an odd number of times.
-#[test]
-fn passes_that_write_in_turns_are_never_refused(rt: HostRuntime) {
-    const FROM_ONE: &[Step] = &[(1, Version(225)), (1, InFormat(Two)), (2, Rows(Some(4)))];
-    const FROM_TWO: &[Step] = &[(1, Version(225)), (1, InFormat(One)), (2, Rows(Some(3)))];
-    const FIRST: InTurns = InTurns {
-        format: One,
-        after: FROM_ONE,
-    };
-    const SECOND: InTurns = InTurns {
-        format: Two,
-        after: FROM_TWO,
-    };
-    play(&rt, small_in(One), &FIRST);
-    play(&rt, small_in(Two), &SECOND);
 }
 
 // Migrates to the format until it goes through, and returns whether it did.

@@ -2,6 +2,7 @@
 ghost use Rattle.std.specs.Prelude.{◌≡◌, length};
 ghost use Rattle.mst_store.specs.Passes.{new_passes};
 
+use crate::confirming::confirm;
 use linked_list_allocator::LocalHeap;
 use mst_store::{Format, Pass, Pinned, Seats, Shape, Store};
 use std::alloc::{Allocator, Global};
@@ -22,10 +23,7 @@ pub(crate) fn heap_of(rt: &(impl Abort + AllocGlobal), bytes: usize) -> LocalHea
 }
 
 /// Takes what is left of the heap, in blocks of the least size.
-pub(crate) fn fill<'h>(
-    rt: &(impl Abort + AllocGlobal),
-    heap: &'h LocalHeap,
-) -> Vec<Vec<u8, &'h LocalHeap>> {
+fn fill<'h>(rt: &(impl Abort + AllocGlobal), heap: &'h LocalHeap) -> Vec<Vec<u8, &'h LocalHeap>> {
     let mut blocks = Vec::new(rt.alloc());
     for _ in 0..1024u32 {
         let Ok(block) = Vec::with_capacity(heap, 1) else {
@@ -36,8 +34,18 @@ pub(crate) fn fill<'h>(
     blocks
 }
 
+/// The same of a heap in which something was left. Not the least block fits into it then.
+pub(crate) fn filled<'h>(
+    rt: &(impl Abort + AllocGlobal),
+    heap: &'h LocalHeap,
+) -> Vec<Vec<u8, &'h LocalHeap>> {
+    let blocks = fill(rt, heap);
+    confirm(rt, is_full(heap) && !blocks.is_empty(), "a full heap");
+    blocks
+}
+
 /// Whether not the least block fits into the heap.
-pub(crate) fn is_full(heap: &LocalHeap) -> bool {
+fn is_full(heap: &LocalHeap) -> bool {
     Vec::<u8, &LocalHeap>::with_capacity(heap, 1).is_err()
 }
 
@@ -49,7 +57,9 @@ pub(crate) fn opened<A: Allocator + Copy>(
 ) -> (Store<A>, Seats<A>)
     ensures own { result.1 ≡ result.0 }
 {
-    Store::open(alloc, shape).expect(rt, "memory")
+    let made = Store::open(alloc, shape).expect(rt, "memory");
+    confirm(rt, made.0.passes() == shape.passes, "as many passes");
+    made
 }
 
 /// The passes of a store.

@@ -3,6 +3,7 @@ ghost use Rattle.mst_words.specs.Layout.{table_words};
 ghost use Rattle.mst_words.specs.World.{dealer};
 ghost use Rattle.mst_key.specs.declared.format.Format.TheVariants.{One};
 
+use crate::confirming::{confirm, confirm_at};
 use linked_list_allocator::LocalHeap;
 use mst_arena::{Desk, Row, Rows};
 use mst_key::{Format, Memory};
@@ -108,7 +109,7 @@ fn opens_in<R: Abort + AllocGlobal>(rt: &R, bytes: usize) -> bool {
     match opened(&heap) {
         Ok(_) => true,
         Err(_) => {
-            assert!(rt; heap.used() == 0);
+            confirm(rt, heap.used() == 0, "nothing is kept");
             false
         }
     }
@@ -120,14 +121,12 @@ fn each_growth_of_open_is_refused_in_turn(rt: HostRuntime) {
     let mut refused = 0u32;
     for step in 1..512usize {
         if !opens_in(&rt, step * 16) {
-            assert!(rt;
-                refused as usize == step - 1,
-                "once opened, a larger heap serves too"
-            );
+            // once opened, a larger heap serves too
+            confirm_at(&rt, refused as usize == step - 1, step);
             refused = step as u32;
         }
     }
-    assert!(rt; 152 <= refused && refused < 511);
+    confirm_at(&rt, 152 <= refused && refused < 511, refused as usize);
 }
 
 #[test]
@@ -135,17 +134,24 @@ fn the_words_say_who_pins_a_record(rt: HostRuntime) {
     let (board, mut dealer) = opened(rt.alloc()).expect(&rt, "memory");
     let mut first = board.deal(&mut dealer);
     let mut second = board.deal(&mut dealer);
-    assert!(rt; second.pins(0) == 0 && second.pins(1) == 0);
+    let (none, nothing) = (second.pins(0), second.pins(1));
     let record = first.pin(1);
-    assert!(rt; second.pins(0) == 1 && second.pins(1) == 0);
+    let (first_alone, still_nothing) = (second.pins(0), second.pins(1));
     let other = second.pin(2);
-    assert!(rt; second.pins(0) == 3);
+    let both = second.pins(0);
     first.unpin(1, record);
-    assert!(rt; second.pins(0) == 2);
+    let second_alone = second.pins(0);
     let again = first.pin(1);
-    assert!(rt; second.pins(0) == 3);
+    let both_again = second.pins(0);
     second.forget(2, other);
-    assert!(rt; second.pins(0) == 1);
+    let first_is_left = second.pins(0);
     first.unpin(1, again);
-    assert!(rt; second.pins(0) == 0 && second.pins(33) == 0);
+    let (none_is_left, past_all) = (second.pins(0), second.pins(33));
+    confirm(
+        &rt,
+        [none, nothing, still_nothing, none_is_left, past_all] == [0; 5],
+        "no pin",
+    );
+    let pins = [first_alone, both, second_alone, both_again, first_is_left];
+    confirm(&rt, pins == [1, 3, 2, 3, 1], "who pins the record");
 }

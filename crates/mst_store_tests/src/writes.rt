@@ -8,18 +8,6 @@ use mst_store::{ApplyFault, BatchFault, ChangeFault, Format, MigrateFault, Pass,
 use std::alloc::{Allocator, Global};
 use std::sync::Wait;
 
-/// Puts, or removes if no value is given.
-pub(crate) fn write<A: Allocator + Copy>(
-    pass: &mut Pass<A>,
-    key: &Key,
-    new: Option<&Value>,
-) -> Result<Option<Value>, WriteFault> {
-    match new {
-        Some(value) => pass.try_put(key, value),
-        None => pass.try_remove(key),
-    }
-}
-
 /// Whether a put goes through, and returns this old value.
 pub(crate) fn puts<A: Allocator + Copy>(
     pass: &mut Pass<A>,

@@ -132,23 +132,44 @@ impl<'a> World<'a> {
         (right, Seat::Free(pass), None)
     }
 
+    // Takes a pass from its place, with the version that it pins.
+    fn taken(&mut self, who: usize) -> Option<(Seat<'a>, Option<Version>)> {
+        let place = self.places.get_mut(who)?;
+        let seat = place.seat.take()?;
+        Some((seat, place.pinned))
+    }
+
+    // Gives a pass its place again.
+    fn put_back(&mut self, who: usize, seat: Seat<'a>, pinned: Option<Version>) {
+        if let Some(place) = self.places.get_mut(who) {
+            place.seat = Some(seat);
+            place.pinned = pinned;
+        }
+    }
+
+    // One call of a pass, free or pinned.
+    fn call_seat(
+        &mut self,
+        seat: Seat<'a>,
+        version: Option<Version>,
+        what: u32,
+    ) -> (bool, Seat<'a>, Option<Version>) {
+        match seat {
+            Seat::Free(pass) => self.call(pass, what),
+            Seat::Held(pinned) => ends(pinned, version, what),
+        }
+    }
+
     // One call of one of the passes, and whether its answer was right.
     fn calls(&mut self, who: usize, what: u32) -> bool {
-        let Some(place) = self.places.get_mut(who) else {
-            return false;
-        };
-        let version = place.pinned;
-        let (right, seat, pinned) = match place.seat.take() {
-            Some(Seat::Free(pass)) => self.call(pass, what),
-            Some(Seat::Held(pinned)) => ends(pinned, version, what),
-            None => return false,
-        };
-        let Some(place) = self.places.get_mut(who) else {
-            return false;
-        };
-        place.seat = Some(seat);
-        place.pinned = pinned;
-        right
+        match self.taken(who) {
+            Some((seat, version)) => {
+                let (right, seat, pinned) = self.call_seat(seat, version, what);
+                self.put_back(who, seat, pinned);
+                right
+            }
+            None => false,
+        }
     }
 
     // Whether each call of a script returns the right answer. Each call is a digit of base 12 or,
@@ -260,6 +281,34 @@ fn free_places<'a>(
     Ok(places)
 }
 
+/// The empty map.
+const NONE: Version = Version {
+    made: 0,
+    value: None,
+    format: Format::One,
+};
+
+// Whether each call of a script returns the right answer by these passes of a new store.
+fn answer_right(
+    alloc: Global,
+    passes: Vec<Pass<'_, Global>>,
+    rows: u32,
+    scripts: Scripts,
+    script: u32,
+) -> bool {
+    let Ok(places) = free_places(alloc, passes) else {
+        return false;
+    };
+    let mut world = World {
+        alloc,
+        rows,
+        changes: 0,
+        current: NONE,
+        places,
+    };
+    world.answers(scripts, script)
+}
+
 // Whether each call of a script returns the right answer over a new store.
 fn is_right(rt: &(impl Abort + AllocGlobal), rows: u32, scripts: Scripts, script: u32) -> bool {
     let (store, seats) = opened(
@@ -272,22 +321,7 @@ fn is_right(rt: &(impl Abort + AllocGlobal), rows: u32, scripts: Scripts, script
         },
     );
     let passes = dealt(rt, rt.alloc(), &store, seats);
-    let Ok(places) = free_places(rt.alloc(), passes) else {
-        return false;
-    };
-    let current = Version {
-        made: 0,
-        value: None,
-        format: Format::One,
-    };
-    let mut world = World {
-        alloc: rt.alloc(),
-        rows,
-        changes: 0,
-        current,
-        places,
-    };
-    world.answers(scripts, script)
+    answer_right(rt.alloc(), passes, rows, scripts, script)
 }
 
 // All scripts over a store of so many rows.
