@@ -60,10 +60,31 @@ fn shows_first(root: &[u8; 32], proof: &[u8], pairs: &[(Key, Value)]) -> bool {
     let [(one, x), (middle, _), (last, _)] = pairs else {
         return false;
     };
-    verify(root, one, proof) == Ok(Some(x.copy()))
-        && verify(root, middle, proof) == Err(ProofFault::TextBehind)
-        && verify(root, last, proof) == Err(ProofFault::OtherDigest)
-        && verify(&empty_digest(), last, &[1, 0]) == Ok(None)
+    shows_value(root, proof, one, x)
+        && is_refused(root, proof, middle, ProofFault::TextBehind)
+        && is_refused(root, proof, last, ProofFault::OtherDigest)
+        && shows_none(&empty_digest(), &[1, 0], last)
+}
+
+/// Whether the proof shows this value of the key.
+fn shows_value(root: &[u8; 32], proof: &[u8], key: &Key, value: &Value) -> bool {
+    match verify(root, key, proof) {
+        Ok(Some(shown)) => shown == *value,
+        _ => false,
+    }
+}
+
+/// Whether the proof shows that the key is absent.
+fn shows_none(root: &[u8; 32], proof: &[u8], key: &Key) -> bool {
+    matches!(verify(root, key, proof), Ok(None))
+}
+
+/// Whether the proof is refused so.
+fn is_refused(root: &[u8; 32], proof: &[u8], key: &Key, fault: ProofFault) -> bool {
+    match verify(root, key, proof) {
+        Ok(_) => false,
+        Err(found) => found == fault,
+    }
 }
 
 /// Whether the text and the proof are those of the pairs, by calls that take no memory.

@@ -115,9 +115,13 @@ fn comes_first(rt: &impl Abort, alloc: Global, one: &[u8], other: &[u8], least: 
 
 /// Whether keys of these bytes stand in this order, and are sorted by it.
 fn is_order(rt: &impl Abort, alloc: Global, one: &[u8], other: &[u8], order: Ordering) -> bool {
-    let least = if order == Ordering::Less { one } else { other };
-    stand_so(&key_of(rt, one), &key_of(rt, other), order)
-        && comes_first(rt, alloc, one, other, least)
+    let stand = stand_so(&key_of(rt, one), &key_of(rt, other), order);
+    stand && comes_first(rt, alloc, one, other, least_of(one, other, order))
+}
+
+/// The bytes of the least of two keys in this order.
+fn least_of<'a>(one: &'a [u8], other: &'a [u8], order: Ordering) -> &'a [u8] {
+    if order == Ordering::Less { one } else { other }
 }
 
 /// Compares the key at a place among the rising ones with each of them.

@@ -1,5 +1,8 @@
 //! Values from another program (Python's hashlib), large lists, texts outside the grammar, and
 //! refused growths.
+ghost use Rattle.std.specs.Prelude.{◌≡◌};
+ghost use Rattle.mst_key.specs.declared.format.Format.TheVariants.{One};
+
 use crate::cases::{Case, ask};
 use crate::confirming::confirm;
 use crate::heaps::{heap_of, is_made};
@@ -9,7 +12,7 @@ use crate::pairs::{
 };
 use linked_list_allocator::LocalHeap;
 use mst_key::{Key, Value};
-use mst_node::{NodeFault, ascending, digest, is_map, read_text, top_text};
+use mst_node::{Flat, NodeFault, ascending, digest, is_map, read_text, top_text};
 use std::alloc::Global;
 use std::process::Abort;
 
@@ -98,16 +101,30 @@ fn digest_of(rt: &impl Abort, alloc: Global, text: &str) -> [u8; 32] {
 /// Whether a text is that of a node of layer 1 that has the one key `39`, with the value `y`,
 /// between these children.
 pub fn is_node_of_39(text: &[u8], left: [u8; 32], right: [u8; 32]) -> bool {
-    let Ok(flat) = read_text(text) else {
-        return false;
-    };
+    match read_text(text) {
+        Ok(flat) => has_39(&flat) && has_children(&flat, left, right),
+        Err(_) => false,
+    }
+}
+
+/// Whether a node of layer 1 has the one key `39`, with the value `y`.
+fn has_39(flat: &Flat<'_>) -> bool
+    requires whole { flat.now.format ≡ One }
+{
     if flat.layer() != 1 || flat.len() != 1 {
         return false;
     }
-    flat.key(0).bytes() == b"39".as_slice()
-        && flat.value(0).bytes() == b"y".as_slice()
-        && flat.child(0) == Some(left)
-        && flat.child(1) == Some(right)
+    let (key, value) = (flat.key(0), flat.value(0));
+    key.bytes() == b"39".as_slice() && value.bytes() == b"y".as_slice()
+}
+
+/// Whether a node has one entry, between these children.
+fn has_children(flat: &Flat<'_>, left: [u8; 32], right: [u8; 32]) -> bool {
+    if flat.len() != 1 {
+        return false;
+    }
+    let (before, after) = (flat.child(0), flat.child(1));
+    before == Some(left) && after == Some(right)
 }
 
 /// Whether the text of the top node of those three pairs is this one.

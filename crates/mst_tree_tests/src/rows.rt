@@ -1,12 +1,10 @@
-//! Tests of rows and of trees in rows: the words of rows, the desk, planted maps, changes, reads
-//! and proofs, against the plain lists of their pairs.
+//! Tests of rows and of trees in rows: the words of rows, the desk, planted maps, reads and proofs,
+//! against the plain lists of their pairs. Changes are transcripts (`tests/transcripts`).
 ghost use Rattle.std.specs.Prelude.{◌≡◌, ◌≤◌, IsSome, map};
 ghost use Rattle.mst_arena.specs.Content.{part_at};
 ghost use Rattle.mst_arena.specs.Lives.{swept_life};
 ghost use Rattle.mst_arena.specs.Row.{IsRow, entry_links, entry_value, head_digest, head_links};
 
-mod both;
-mod changes;
 mod counted;
 mod full_heap;
 mod plain;

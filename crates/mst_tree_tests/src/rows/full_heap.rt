@@ -26,13 +26,21 @@ fn borrows_a_row<A: Allocator>(desk: &mut Desk<A>) -> bool {
     }
 }
 
-/// Whether sweeps free the dead row once no version reaches it, and the desk of version 2 goes on.
+/// Whether sweeps free the dead row once no version reaches it.
+fn frees(desk: &mut Desk<&LocalHeap>) -> bool {
+    let (before, after) = (free_after(desk, &[2, 1]), free_after(desk, &[2]));
+    before == 2 && after == 3
+}
+
+/// Whether the desk of version 2 goes on.
+fn goes_to_3(desk: &mut Desk<&LocalHeap>) -> bool {
+    let is_next = desk.current() == (2, 2) && desk.next_version() == Ok(3);
+    is_next && borrows_a_row(desk)
+}
+
+/// Whether both are so.
 fn frees_and_goes_on(desk: &mut Desk<&LocalHeap>) -> bool {
-    free_after(desk, &[2, 1]) == 2
-        && free_after(desk, &[2]) == 3
-        && desk.current() == (2, 2)
-        && desk.next_version() == Ok(3)
-        && borrows_a_row(desk)
+    frees(desk) && goes_to_3(desk)
 }
 
 /// Takes rows of a new desk, lets one die, and frees it.
@@ -82,10 +90,11 @@ fn rows_go_on(rt: &impl Abort, rows: &mut PlainRows<&LocalHeap>) -> bool
     let row = entry_of(rt, 7, 9, b"ab", b"xyz");
     rows.write(1, &HEAD);
     rows.write(0, &row);
-    entry_is(rows, 0, (7, 9), b"ab", b"xyz")
-        && head_is(rows, 1, &HEAD_LINKS, &[5; 32])
-        && row_is(rows, 1, &HEAD)
-        && row_is(rows, 0, &row)
+    let entry = entry_is(rows, 0, (7, 9), b"ab", b"xyz");
+    let head = head_is(rows, 1, &HEAD_LINKS, &[5; 32]);
+    let whole_head = row_is(rows, 1, &HEAD);
+    let whole_entry = row_is(rows, 0, &row);
+    entry && head && whole_head && whole_entry
 }
 
 #[test]
@@ -105,10 +114,11 @@ fn has_both(
     value: Option<&Value>,
     next: Option<&(Key, Value)>,
 ) -> bool {
-    map.has_below(key, value)
-        && map.has_next_below(key, next)
-        && map.has(key, value)
-        && map.has_next(Some(key), next)
+    let below = map.has_below(key, value);
+    let next_below = map.has_next_below(key, next);
+    let there = map.has(key, value);
+    let next_there = map.has_next(Some(key), next);
+    below && next_below && there && next_there
 }
 
 /// The value of this text, if there is one.

@@ -160,13 +160,25 @@ fn is_no_entry(words: &[u64; 7]) -> bool {
     EntryLinks::read(words).is_none()
 }
 
+/// Whether these lengths and words are of no value.
+fn is_no_value(lengths: u64, words: &[u64; 8]) -> bool {
+    Row::read_value(lengths, words).is_none()
+}
+
+/// Whether these words are of no head.
+fn is_no_head(words: &[u64; 4]) -> bool {
+    HeadLinks::read(words).is_none()
+}
+
 #[test]
 fn words_of_no_part(rt: HostRuntime) {
     for (words, what) in NO_ENTRIES {
         confirm(&rt, is_no_entry(words), what);
     }
-    let no_value = Row::read_value(1 + 256 * 65, &[0; 8]).is_none();
-    confirm(&rt, no_value, "a value of 65 bytes");
-    let no_head = HeadLinks::read(&[256, 1, 5, 0]).is_none();
-    confirm(&rt, no_head, "a layer past all layers");
+    confirm(
+        &rt,
+        is_no_value(1 + 256 * 65, &[0; 8]),
+        "a value of 65 bytes",
+    );
+    confirm(&rt, is_no_head(&[256, 1, 5, 0]), "a layer past all layers");
 }

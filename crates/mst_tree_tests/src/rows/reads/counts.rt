@@ -6,9 +6,9 @@
 //! node that is met, its entries up to the one that ends the search in it, and the value of each
 //! pair of the answer. An entry whose way was asked for is read once more if its key or its links
 //! are needed: the entry of a next pair and that of the bound, and of a range that has a lower
-//! bound the first entry that is not below it in each node on the way whose pairs are added. A range
-//! that has an upper bound asks each of its pairs, and in each node on the way the one that ends it,
-//! for their way to it.
+//! bound the first entry that is not below it in each node on the way whose pairs are added. A
+//! range that has an upper bound asks each of its pairs, and in each node on the way the one that
+//! ends it, for their way to it.
 use crate::confirming::confirm_at;
 use crate::pairs::{key_of, numbered, numbered_key};
 use crate::rows::counted::Reads;

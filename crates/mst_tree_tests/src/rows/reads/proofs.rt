@@ -34,9 +34,10 @@ fn proves_around(
 ) -> bool {
     let below = just_below(rt, alloc, key);
     let above = just_above(rt, alloc, key);
-    proves(rt, alloc, planted, key, Some(value))
-        && proves(rt, alloc, planted, &below, None)
-        && proves(rt, alloc, planted, &above, None)
+    let held = proves(rt, alloc, planted, key, Some(value));
+    let none_below = proves(rt, alloc, planted, &below, None);
+    let none_above = proves(rt, alloc, planted, &above, None);
+    held && none_below && none_above
 }
 
 /// Each pair is proved, and so is that no key stands just beside it.
