@@ -1,5 +1,6 @@
 //! What an audit service answers, and what its client checks by the root digest alone.
-use anyhow::{Error, Result};
+use crate::sharing::{one_pass, put};
+use anyhow::Result;
 use mst_key::{Format, Key, Memory, Value};
 use mst_proof::verify_in;
 use mst_store::{Pass, Pinned, Shape, Store};
@@ -55,24 +56,28 @@ fn compare(rt: &HostRuntime, root: &[u8; 32], key: &Key, told: Answer) -> Result
     tell(rt, "a forged one", root, key, &forged(told)?)
 }
 
+// The service answers from a version that it pins.
+fn tell_root_and_answer(
+    rt: &HostRuntime,
+    pinned: &mut Pinned<'_, Global>,
+    key: &Key,
+) -> Result<([u8; 32], Answer)> {
+    let told = answer_for(rt.alloc(), pinned, key)?;
+    Ok((pinned.root(), told))
+}
+
 // The service answers, and somebody changes the value on the way.
 fn show(rt: &HostRuntime, mut pass: Pass<'_, Global>) -> Result<()> {
+    put(&mut pass, "apple", "30")?;
     let apple = Key::new(b"apple")?;
-    pass.try_put(&apple, &Value::new(b"30")?)?;
     let mut pinned = pass.pin();
-    let root = pinned.root();
-    let told = answer_for(rt.alloc(), &mut pinned, &apple)?;
+    let (root, told) = tell_root_and_answer(rt, &mut pinned, &apple)?;
     pinned.unpin();
     compare(rt, &root, &apple, told)
 }
 
 pub fn run(rt: &HostRuntime) -> Result<()> {
     let (store, seats) = Store::open(rt.alloc(), SHAPE)?;
-    let Ok(mut passes) = store.deal(rt.alloc(), seats) else {
-        return Err(Error::msg("no memory for the passes"));
-    };
-    let Some(pass) = passes.pop() else {
-        return Err(Error::msg("there is one pass"));
-    };
+    let pass = one_pass(rt.alloc(), &store, seats)?;
     show(rt, pass)
 }

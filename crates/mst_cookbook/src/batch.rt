@@ -1,5 +1,6 @@
 //! A block of changes as one version.
-use anyhow::{Error, Result};
+use crate::sharing::one_pass;
+use anyhow::Result;
 use mst_key::{Edit, Format, Key, Value};
 use mst_store::{Pass, Shape, Store};
 use std::alloc::Global;
@@ -13,15 +14,20 @@ const SHAPE: Shape = Shape {
 /// A fruit with its new price, or with none if it is taken out.
 type Change = (&'static str, Option<&'static str>);
 
+// The edit of a change.
+fn edit_of(fruit: &str, price: Option<&str>) -> Result<Edit> {
+    let key = Key::new(fruit.as_bytes())?;
+    match price {
+        Some(text) => Ok(Edit::Put(key, Value::new(text.as_bytes())?)),
+        None => Ok(Edit::Remove(key)),
+    }
+}
+
 // The edits of a block.
 fn edits_of(alloc: Global, changes: &[Change]) -> Result<Vec<Edit>> {
     let mut edits = Vec::new(alloc);
     for (fruit, price) in changes {
-        let key = Key::new(fruit.as_bytes())?;
-        let edit = match price {
-            Some(text) => Edit::Put(key, Value::new(text.as_bytes())?),
-            None => Edit::Remove(key),
-        };
+        let edit = edit_of(fruit, *price)?;
         edits.push(edit)?;
     }
     Ok(edits)
@@ -58,11 +64,6 @@ fn show(rt: &HostRuntime, mut pass: Pass<'_, Global>) -> Result<()> {
 
 pub fn run(rt: &HostRuntime) -> Result<()> {
     let (store, seats) = Store::open(rt.alloc(), SHAPE)?;
-    let Ok(mut passes) = store.deal(rt.alloc(), seats) else {
-        return Err(Error::msg("no memory for the passes"));
-    };
-    let Some(pass) = passes.pop() else {
-        return Err(Error::msg("there is one pass"));
-    };
+    let pass = one_pass(rt.alloc(), &store, seats)?;
     show(rt, pass)
 }

@@ -1,5 +1,6 @@
 //! A replica that was away takes over what it lacks of another, by one batch.
-use anyhow::{Error, Result};
+use crate::sharing::one_pass;
+use anyhow::Result;
 use mst_key::{Edit, Format, Key, Value};
 use mst_store::{Pass, Pinned, Shape, Store};
 use std::alloc::Global;
@@ -10,12 +11,18 @@ const SHAPE: Shape = Shape {
     format: Format::One,
 };
 
-// Puts the number itself at the keys of some numbers.
+// Puts the number itself at its key.
+fn put_number(rt: &HostRuntime, pass: &mut Pass<'_, Global>, number: u32) -> Result<()> {
+    let name = format!(in rt.alloc(); "key {number}")?;
+    let value = Value::new(&number.to_be_bytes())?;
+    pass.try_put(&Key::new(name.as_bytes())?, &value)?;
+    Ok(())
+}
+
+// Does so with some numbers.
 fn fill(rt: &HostRuntime, pass: &mut Pass<'_, Global>, from: u32, to: u32) -> Result<()> {
     for number in from..to {
-        let name = format!(in rt.alloc(); "key {number}")?;
-        let key = Key::new(name.as_bytes())?;
-        pass.try_put(&key, &Value::new(&number.to_be_bytes())?)?;
+        put_number(rt, pass, number)?;
     }
     Ok(())
 }
@@ -50,17 +57,37 @@ fn add_removes(
     Ok(())
 }
 
-// Makes our map theirs: our readers see the one or the other, and nothing between.
+// The edits that make our map theirs.
+fn edits_to(
+    alloc: Global,
+    ours: &mut Pass<'_, Global>,
+    theirs: &mut Pinned<'_, Global>,
+) -> Result<Vec<Edit>> {
+    let mut edits = Vec::new(alloc);
+    add_puts(alloc, ours, theirs, &mut edits)?;
+    add_removes(alloc, ours, theirs, &mut edits)?;
+    Ok(edits)
+}
+
+// Makes our map theirs: our readers see the one or the other, and nothing between. Returns how many
+// edits that took.
 fn catch_up(
+    alloc: Global,
+    ours: &mut Pass<'_, Global>,
+    theirs: &mut Pinned<'_, Global>,
+) -> Result<usize> {
+    let edits = edits_to(alloc, ours, theirs)?;
+    ours.try_apply(alloc, &edits)?;
+    Ok(edits.len())
+}
+
+// Catches up, and prints whether the root digests are then equal.
+fn tell(
     rt: &HostRuntime,
     ours: &mut Pass<'_, Global>,
     theirs: &mut Pinned<'_, Global>,
 ) -> Result<()> {
-    let mut edits = Vec::new(rt.alloc());
-    add_puts(rt.alloc(), ours, theirs, &mut edits)?;
-    add_removes(rt.alloc(), ours, theirs, &mut edits)?;
-    ours.try_apply(rt.alloc(), &edits)?;
-    let count = edits.len();
+    let count = catch_up(rt.alloc(), ours, theirs)?;
     let word = if ours.root() == theirs.root() {
         "are equal"
     } else {
@@ -74,31 +101,18 @@ fn catch_up(
 fn show(rt: &HostRuntime, mut ours: Pass<'_, Global>, mut theirs: Pass<'_, Global>) -> Result<()> {
     fill(rt, &mut ours, 0, 100)?;
     fill(rt, &mut theirs, 10, 130)?;
-    let mut pinned = theirs.pin();
-    catch_up(rt, &mut ours, &mut pinned)?;
-    pinned.unpin();
-    Ok(())
+    tell(rt, &mut ours, &mut theirs.pin())
 }
 
 // Opens theirs beside ours.
 fn run_beside(rt: &HostRuntime, ours: Pass<'_, Global>) -> Result<()> {
     let (store, seats) = Store::open(rt.alloc(), SHAPE)?;
-    let Ok(mut passes) = store.deal(rt.alloc(), seats) else {
-        return Err(Error::msg("no memory for the passes"));
-    };
-    let Some(theirs) = passes.pop() else {
-        return Err(Error::msg("there is one pass"));
-    };
+    let theirs = one_pass(rt.alloc(), &store, seats)?;
     show(rt, ours, theirs)
 }
 
 pub fn run(rt: &HostRuntime) -> Result<()> {
     let (store, seats) = Store::open(rt.alloc(), SHAPE)?;
-    let Ok(mut passes) = store.deal(rt.alloc(), seats) else {
-        return Err(Error::msg("no memory for the passes"));
-    };
-    let Some(ours) = passes.pop() else {
-        return Err(Error::msg("there is one pass"));
-    };
+    let ours = one_pass(rt.alloc(), &store, seats)?;
     run_beside(rt, ours)
 }

@@ -1,6 +1,7 @@
 //! Two replicas: whether their maps are equal, and at which keys they differ.
-use anyhow::{Error, Result};
-use mst_key::{Format, Key, Value};
+use crate::sharing::{one_pass, put_each};
+use anyhow::Result;
+use mst_key::{Format, Key};
 use mst_store::{Pass, Pinned, Shape, Store};
 use std::alloc::Global;
 use std::str;
@@ -11,12 +12,10 @@ const SHAPE: Shape = Shape {
     format: Format::One,
 };
 
-// Puts fruits with their prices.
-fn put(pass: &mut Pass<'_, Global>, prices: &[(&str, &str)]) -> Result<()> {
-    for (fruit, price) in prices {
-        let value = Value::new(price.as_bytes())?;
-        pass.try_put(&Key::new(fruit.as_bytes())?, &value)?;
-    }
+// Prints a key at which a replica differs.
+fn tell_key(rt: &HostRuntime, name: &str, key: &Key) -> Result<()> {
+    let fruit = str::from_utf8(key.bytes())?;
+    println!(rt; "differs in {name}: {fruit}")?;
     Ok(())
 }
 
@@ -29,10 +28,16 @@ fn tell_differing(
 ) -> Result<()> {
     for (key, value) in one.range(rt.alloc(), None, None, 65_535)? {
         if other.get(&key) != Some(value) {
-            let fruit = str::from_utf8(key.bytes())?;
-            println!(rt; "differs in {name}: {fruit}")?;
+            tell_key(rt, name, &key)?;
         }
     }
+    Ok(())
+}
+
+// Prints whether the root digests are equal.
+fn tell_equal(rt: &HostRuntime, equal: bool) -> Result<()> {
+    let word = if equal { "yes" } else { "no" };
+    println!(rt; "equal: {word}")?;
     Ok(())
 }
 
@@ -43,46 +48,49 @@ fn compare(
     theirs: &mut Pinned<'_, Global>,
 ) -> Result<()> {
     let equal = ours.root() == theirs.root();
-    let word = if equal { "yes" } else { "no" };
-    println!(rt; "equal: {word}")?;
-    if !equal {
-        tell_differing(rt, "ours", ours, theirs)?;
-        tell_differing(rt, "theirs", theirs, ours)?;
+    tell_equal(rt, equal)?;
+    if equal {
+        return Ok(());
     }
-    Ok(())
+    tell_differing(rt, "ours", ours, theirs)?;
+    tell_differing(rt, "theirs", theirs, ours)
 }
 
-// Fills both, in other orders, and compares them before and after a change of one.
-fn show(rt: &HostRuntime, mut ours: Pass<'_, Global>, mut theirs: Pass<'_, Global>) -> Result<()> {
-    put(&mut ours, &[("apple", "30"), ("plum", "12")])?;
-    put(&mut theirs, &[("plum", "12"), ("apple", "30")])?;
-    let (mut ours, mut theirs) = (ours.pin(), theirs.pin());
+// Prices of fruits: the same in both maps, put in other orders, and then a change of theirs.
+const OURS: &[(&str, &str)] = &[("apple", "30"), ("plum", "12")];
+
+const THEIRS: &[(&str, &str)] = &[("plum", "12"), ("apple", "30")];
+
+const LATER: &[(&str, &str)] = &[("apple", "35"), ("pear", "20")];
+
+// Compares both before and after the change.
+fn compare_twice(
+    rt: &HostRuntime,
+    mut ours: Pinned<'_, Global>,
+    mut theirs: Pinned<'_, Global>,
+) -> Result<()> {
     compare(rt, &mut ours, &mut theirs)?;
-    let (ours, mut theirs) = (ours.unpin(), theirs.unpin());
-    put(&mut theirs, &[("apple", "35"), ("pear", "20")])?;
-    let (mut ours, mut theirs) = (ours.pin(), theirs.pin());
-    compare(rt, &mut ours, &mut theirs)
+    let mut theirs = theirs.unpin();
+    put_each(&mut theirs, LATER)?;
+    compare(rt, &mut ours, &mut theirs.pin())
+}
+
+// Fills both, and compares them.
+fn show(rt: &HostRuntime, mut ours: Pass<'_, Global>, mut theirs: Pass<'_, Global>) -> Result<()> {
+    put_each(&mut ours, OURS)?;
+    put_each(&mut theirs, THEIRS)?;
+    compare_twice(rt, ours.pin(), theirs.pin())
 }
 
 // Opens theirs beside ours.
 fn run_beside(rt: &HostRuntime, ours: Pass<'_, Global>) -> Result<()> {
     let (store, seats) = Store::open(rt.alloc(), SHAPE)?;
-    let Ok(mut passes) = store.deal(rt.alloc(), seats) else {
-        return Err(Error::msg("no memory for the passes"));
-    };
-    let Some(theirs) = passes.pop() else {
-        return Err(Error::msg("there is one pass"));
-    };
+    let theirs = one_pass(rt.alloc(), &store, seats)?;
     show(rt, ours, theirs)
 }
 
 pub fn run(rt: &HostRuntime) -> Result<()> {
     let (store, seats) = Store::open(rt.alloc(), SHAPE)?;
-    let Ok(mut passes) = store.deal(rt.alloc(), seats) else {
-        return Err(Error::msg("no memory for the passes"));
-    };
-    let Some(ours) = passes.pop() else {
-        return Err(Error::msg("there is one pass"));
-    };
+    let ours = one_pass(rt.alloc(), &store, seats)?;
     run_beside(rt, ours)
 }

@@ -14,19 +14,32 @@ mod prove_and_verify;
 mod refusals;
 mod report;
 mod sharded;
+mod sharing;
 mod writer_and_readers;
 
 use anyhow::Result;
+use std::sync::Wait;
+use std::thread::Threads;
+
+// Runs the first recipes of the page.
+fn run_first<T: Threads + Wait + Sync>(rt: &HostRuntime, threads: &T) -> Result<()> {
+    open_and_size::run(rt)?;
+    writer_and_readers::run(rt, threads)?;
+    report::run(rt)?;
+    prove_and_verify::run(rt)
+}
+
+// Runs those after them.
+fn run_middle(rt: &HostRuntime) -> Result<()> {
+    compare::run(rt)?;
+    catch_up::run(rt)?;
+    migrate::run(rt)?;
+    batch::run(rt)
+}
 
 fn main(rt: HostRuntime) -> Result<()> {
-    open_and_size::run(&rt)?;
-    writer_and_readers::run(&rt, &rt)?;
-    report::run(&rt)?;
-    prove_and_verify::run(&rt)?;
-    compare::run(&rt)?;
-    catch_up::run(&rt)?;
-    migrate::run(&rt)?;
-    batch::run(&rt)?;
+    run_first(&rt, &rt)?;
+    run_middle(&rt)?;
     sharded::run(&rt)?;
     refusals::run(&rt, &rt)?;
     audit_service::run(&rt)

@@ -1,5 +1,6 @@
 //! Turns a store to format 2, beside a reader that pins the version before.
-use anyhow::{Error, Result};
+use crate::sharing::two_passes;
+use anyhow::Result;
 use mst_key::{Format, Key, Value};
 use mst_store::{Pass, Pinned, Shape, Store};
 use std::alloc::Global;
@@ -15,11 +16,17 @@ const SHAPE: Shape = Shape {
     format: Format::One,
 };
 
+// The key of a user.
+fn key_of(alloc: Global, number: u32) -> Result<Key> {
+    let name = format!(in alloc; "user {number}")?;
+    Ok(Key::new(name.as_bytes())?)
+}
+
 // Puts each key with a value.
-fn fill(rt: &HostRuntime, pass: &mut Pass<'_, Global>) -> Result<()> {
+fn fill(alloc: Global, pass: &mut Pass<'_, Global>) -> Result<()> {
+    let value = Value::new(&[0; 32])?;
     for number in 0..KEYS {
-        let name = format!(in rt.alloc(); "user {number}")?;
-        pass.try_put(&Key::new(name.as_bytes())?, &Value::new(&[0; 32])?)?;
+        pass.try_put(&key_of(alloc, number)?, &value)?;
     }
     Ok(())
 }
@@ -46,25 +53,26 @@ fn tell_now(rt: &HostRuntime, pass: &mut Pass<'_, Global>, key: &Key) -> Result<
     tell(rt, "the version now", pass.format(), bytes)
 }
 
-// Migrates, and compares the version before, which the reader pins, with the one after.
-fn show(rt: &HostRuntime, mut writer: Pass<'_, Global>, reader: Pass<'_, Global>) -> Result<()> {
-    fill(rt, &mut writer)?;
+// Migrates, and compares the version before, which a reader pins, with the one after.
+fn migrate(
+    rt: &HostRuntime,
+    writer: &mut Pass<'_, Global>,
+    pinned: &mut Pinned<'_, Global>,
+) -> Result<()> {
     let key = Key::new(b"user 1")?;
-    let mut pinned = reader.pin();
     writer.try_migrate(rt.alloc(), Format::Two)?;
-    tell_pinned(rt, &mut pinned, &key)?;
-    tell_now(rt, &mut writer, &key)?;
-    pinned.unpin();
-    Ok(())
+    tell_pinned(rt, pinned, &key)?;
+    tell_now(rt, writer, &key)
+}
+
+// Fills the map in format 1, and migrates it.
+fn show(rt: &HostRuntime, mut writer: Pass<'_, Global>, reader: Pass<'_, Global>) -> Result<()> {
+    fill(rt.alloc(), &mut writer)?;
+    migrate(rt, &mut writer, &mut reader.pin())
 }
 
 pub fn run(rt: &HostRuntime) -> Result<()> {
     let (store, seats) = Store::open(rt.alloc(), SHAPE)?;
-    let Ok(mut passes) = store.deal(rt.alloc(), seats) else {
-        return Err(Error::msg("no memory for the passes"));
-    };
-    let (Some(reader), Some(writer)) = (passes.pop(), passes.pop()) else {
-        return Err(Error::msg("there are two passes"));
-    };
+    let (reader, writer) = two_passes(rt.alloc(), &store, seats)?;
     show(rt, writer, reader)
 }

@@ -1,4 +1,5 @@
 //! Opens a store for 1,000 keys, puts them, and asks how many rows they take.
+use crate::sharing::one_pass;
 use anyhow::{Error, Result};
 use mst_key::{Format, Key, Value};
 use mst_store::{Pass, Shape, Store};
@@ -22,18 +23,23 @@ const SHAPE: Shape = Shape {
     format: Format::One,
 };
 
+// The key of a user.
+fn key_of(alloc: Global, number: u32) -> Result<Key> {
+    let name = format!(in alloc; "user {number}")?;
+    Ok(Key::new(name.as_bytes())?)
+}
+
 // Puts each key.
-fn fill(rt: &HostRuntime, pass: &mut Pass<'_, Global>) -> Result<()> {
+fn fill(alloc: Global, pass: &mut Pass<'_, Global>) -> Result<()> {
+    let value = Value::new(b"new")?;
     for number in 0..KEYS {
-        let name = format!(in rt.alloc(); "user {number}")?;
-        pass.try_put(&Key::new(name.as_bytes())?, &Value::new(b"new")?)?;
+        pass.try_put(&key_of(alloc, number)?, &value)?;
     }
     Ok(())
 }
 
-// Fills the store, and prints how many rows are taken. Another pass could have the turn, or pin.
-fn show(rt: &HostRuntime, mut pass: Pass<'_, Global>) -> Result<()> {
-    fill(rt, &mut pass)?;
+// Prints how many rows are taken. Another pass could have the turn, or pin.
+fn tell_rows(rt: &HostRuntime, pass: &mut Pass<'_, Global>) -> Result<()> {
     let Some(taken) = pass.rows()? else {
         return Err(Error::msg("no pass pins a version"));
     };
@@ -42,13 +48,14 @@ fn show(rt: &HostRuntime, mut pass: Pass<'_, Global>) -> Result<()> {
     Ok(())
 }
 
+// Fills the store, and asks.
+fn show(rt: &HostRuntime, mut pass: Pass<'_, Global>) -> Result<()> {
+    fill(rt.alloc(), &mut pass)?;
+    tell_rows(rt, &mut pass)
+}
+
 pub fn run(rt: &HostRuntime) -> Result<()> {
     let (store, seats) = Store::open(rt.alloc(), SHAPE)?;
-    let Ok(mut passes) = store.deal(rt.alloc(), seats) else {
-        return Err(Error::msg("no memory for the passes"));
-    };
-    let Some(pass) = passes.pop() else {
-        return Err(Error::msg("there are two passes"));
-    };
+    let pass = one_pass(rt.alloc(), &store, seats)?;
     show(rt, pass)
 }

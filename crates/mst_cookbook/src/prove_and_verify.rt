@@ -1,8 +1,9 @@
 //! Proves answers of one version, and checks them by the root digest alone.
-use anyhow::{Error, Result};
-use mst_key::{Format, Key, Value};
+use crate::sharing::{one_pass, put};
+use anyhow::Result;
+use mst_key::{Format, Key};
 use mst_proof::verify_in;
-use mst_store::{Pass, Shape, Store};
+use mst_store::{Pass, Pinned, Shape, Store};
 use std::alloc::Global;
 use std::str;
 
@@ -26,31 +27,44 @@ fn check(rt: &HostRuntime, format: Format, root: &[u8; 32], key: &Key, proof: &[
     Ok(())
 }
 
-// Proves two answers, and has them checked, the first one once more with a byte changed.
-fn show(rt: &HostRuntime, mut pass: Pass<'_, Global>) -> Result<()> {
-    let (apple, pear) = (Key::new(b"apple")?, Key::new(b"pear")?);
-    pass.try_put(&apple, &Value::new(b"30")?)?;
-    // format, root digest and proofs must be of one version
-    let mut pinned = pass.pin();
+// Proves an answer, and has it checked: format, root digest and proof are of one version.
+fn show_answer(rt: &HostRuntime, pinned: &mut Pinned<'_, Global>, key: &Key) -> Result<()> {
+    let proof = pinned.prove(rt.alloc(), key)?;
     let (format, root) = (pinned.format(), pinned.root());
-    let mut of_apple = pinned.prove(rt.alloc(), &apple)?;
-    let of_pear = pinned.prove(rt.alloc(), &pear)?;
-    pinned.unpin();
-    check(rt, format, &root, &apple, &of_apple)?;
-    check(rt, format, &root, &pear, &of_pear)?;
-    if let Some(digit) = of_apple.last_mut() {
+    check(rt, format, &root, key, &proof)
+}
+
+// Makes the last byte of a proof another one.
+fn change(proof: &mut [u8]) {
+    if let Some(digit) = proof.last_mut() {
         *digit = b'1';
     }
-    check(rt, format, &root, &apple, &of_apple)
+}
+
+// The same, with the proof changed on the way.
+fn show_forged(rt: &HostRuntime, pinned: &mut Pinned<'_, Global>, key: &Key) -> Result<()> {
+    let mut proof = pinned.prove(rt.alloc(), key)?;
+    change(&mut proof);
+    let (format, root) = (pinned.format(), pinned.root());
+    check(rt, format, &root, key, &proof)
+}
+
+// Has two answers of one version checked, and one whose proof was changed.
+fn show_all(rt: &HostRuntime, pinned: &mut Pinned<'_, Global>) -> Result<()> {
+    let (apple, pear) = (Key::new(b"apple")?, Key::new(b"pear")?);
+    show_answer(rt, pinned, &apple)?;
+    show_answer(rt, pinned, &pear)?;
+    show_forged(rt, pinned, &apple)
+}
+
+// Puts a pair, and pins the version that has it.
+fn show(rt: &HostRuntime, mut pass: Pass<'_, Global>) -> Result<()> {
+    put(&mut pass, "apple", "30")?;
+    show_all(rt, &mut pass.pin())
 }
 
 pub fn run(rt: &HostRuntime) -> Result<()> {
     let (store, seats) = Store::open(rt.alloc(), SHAPE)?;
-    let Ok(mut passes) = store.deal(rt.alloc(), seats) else {
-        return Err(Error::msg("no memory for the passes"));
-    };
-    let Some(pass) = passes.pop() else {
-        return Err(Error::msg("there is one pass"));
-    };
+    let pass = one_pass(rt.alloc(), &store, seats)?;
     show(rt, pass)
 }

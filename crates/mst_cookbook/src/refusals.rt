@@ -1,5 +1,6 @@
 //! Refusals, and what to do then.
-use anyhow::{Error, Result};
+use crate::sharing::two_passes;
+use anyhow::Result;
 use mst_key::{Format, Key, Value};
 use mst_store::{ChangeFault, Pass, Shape, Store, WriteFault};
 use std::alloc::Global;
@@ -21,8 +22,8 @@ fn tell(rt: &HostRuntime, what: &str, is_done: bool) -> Result<()> {
 
 // Asks for sizes that nothing has.
 fn show_sizes(rt: &HostRuntime) -> Result<()> {
-    let opened = Store::open(rt.alloc(), Shape { rows: 3, ..SHAPE });
-    tell(rt, "a store of 3 rows", opened.is_ok())?;
+    let opened = Store::open(rt.alloc(), Shape { rows: 3, ..SHAPE }).is_ok();
+    tell(rt, "a store of 3 rows", opened)?;
     tell(rt, "a key of 33 bytes", Key::new(&[0; 33]).is_ok())?;
     tell(rt, "a value of 65 bytes", Value::new(&[0; 65]).is_ok())
 }
@@ -44,11 +45,21 @@ fn put<T: Wait>(
     }
 }
 
+// Puts a pair, both of them texts.
+fn put_text<T: Wait>(
+    waits: &T,
+    pass: &mut Pass<'_, Global>,
+    fruit: &str,
+    price: &str,
+) -> Result<Option<Value>> {
+    let (key, value) = (Key::new(fruit.as_bytes())?, Value::new(price.as_bytes())?);
+    Ok(put(waits, pass, &key, &value)?)
+}
+
 // Puts keys with a price.
 fn put_each<T: Wait>(waits: &T, pass: &mut Pass<'_, Global>, fruits: &[&str]) -> Result<()> {
-    let price = Value::new(b"30")?;
     for fruit in fruits {
-        put(waits, pass, &Key::new(fruit.as_bytes())?, &price)?;
+        put_text(waits, pass, fruit, "30")?;
     }
     Ok(())
 }
@@ -61,9 +72,15 @@ fn change<T: Wait>(
     what: &str,
     price: &str,
 ) -> Result<()> {
-    let (key, value) = (Key::new(b"apple")?, Value::new(price.as_bytes())?);
-    let is_done = put(waits, pass, &key, &value).is_ok();
+    let is_done = put_text(waits, pass, "apple", price).is_ok();
     tell(rt, what, is_done)
+}
+
+// Changes it twice. The first change takes the rows that the second one would need, as long as the
+// version before both is pinned.
+fn change_twice<T: Wait>(rt: &HostRuntime, waits: &T, writer: &mut Pass<'_, Global>) -> Result<()> {
+    change(rt, waits, writer, "a change beside a pinned version", "31")?;
+    change(rt, waits, writer, "one more", "35")
 }
 
 // Puts three keys, and changes one of them twice beside a pinned version.
@@ -75,26 +92,19 @@ fn show<T: Wait>(
 ) -> Result<()> {
     put_each(waits, &mut writer, &["plum", "pear", "apple"])?;
     let pinned = reader.pin();
-    change(
-        rt,
-        waits,
-        &mut writer,
-        "a change beside a pinned version",
-        "31",
-    )?;
-    change(rt, waits, &mut writer, "one more", "35")?;
+    change_twice(rt, waits, &mut writer)?;
     pinned.unpin();
     change(rt, waits, &mut writer, "the same after the unpin", "35")
 }
 
+// Opens a store with little room.
+fn run_small<T: Wait>(rt: &HostRuntime, waits: &T) -> Result<()> {
+    let (store, seats) = Store::open(rt.alloc(), SHAPE)?;
+    let (reader, writer) = two_passes(rt.alloc(), &store, seats)?;
+    show(rt, waits, writer, reader)
+}
+
 pub fn run<T: Wait>(rt: &HostRuntime, waits: &T) -> Result<()> {
     show_sizes(rt)?;
-    let (store, seats) = Store::open(rt.alloc(), SHAPE)?;
-    let Ok(mut passes) = store.deal(rt.alloc(), seats) else {
-        return Err(Error::msg("no memory for the passes"));
-    };
-    let (Some(reader), Some(writer)) = (passes.pop(), passes.pop()) else {
-        return Err(Error::msg("there are two passes"));
-    };
-    show(rt, waits, writer, reader)
+    run_small(rt, waits)
 }

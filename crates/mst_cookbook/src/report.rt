@@ -1,5 +1,6 @@
 //! A report of one version, while a writer goes on.
-use anyhow::{Error, Result};
+use crate::sharing::{put_each, two_passes};
+use anyhow::Result;
 use mst_key::{Format, Key, Value};
 use mst_store::{Pass, Pinned, Shape, Store};
 use std::alloc::Global;
@@ -11,46 +12,50 @@ const SHAPE: Shape = Shape {
     format: Format::One,
 };
 
-// Gives accounts their amounts, one after the other.
-fn put(writer: &mut Pass<'_, Global>, amounts: &[(&str, &str)]) -> Result<()> {
-    for (name, amount) in amounts {
-        let value = Value::new(amount.as_bytes())?;
-        writer.try_put(&Key::new(name.as_bytes())?, &value)?;
-    }
+// Prints an account.
+fn tell(rt: &HostRuntime, key: &Key, value: &Value) -> Result<()> {
+    let (name, amount) = (str::from_utf8(key.bytes())?, str::from_utf8(value.bytes())?);
+    println!(rt; "  {name} {amount}")?;
     Ok(())
 }
 
 // Prints all accounts of a pinned version.
-fn report(rt: &HostRuntime, pinned: &mut Pinned<'_, Global>) -> Result<()> {
-    let version = pinned.version();
-    println!(rt; "version {version}:")?;
+fn report_accounts(rt: &HostRuntime, pinned: &mut Pinned<'_, Global>) -> Result<()> {
     for (key, value) in pinned.range(rt.alloc(), None, None, 100)? {
-        let name = str::from_utf8(key.bytes())?;
-        let amount = str::from_utf8(value.bytes())?;
-        println!(rt; "  {name} {amount}")?;
+        tell(rt, &key, &value)?;
     }
     Ok(())
 }
 
-// Reports on two versions.
-fn show(rt: &HostRuntime, mut writer: Pass<'_, Global>, reader: Pass<'_, Global>) -> Result<()> {
-    put(&mut writer, &[("ann", "60"), ("bob", "40")])?;
-    let mut pinned = reader.pin();
-    put(&mut writer, &[("ann", "10"), ("bob", "90")])?;
+// Prints a pinned version.
+fn report(rt: &HostRuntime, pinned: &mut Pinned<'_, Global>) -> Result<()> {
+    let version = pinned.version();
+    println!(rt; "version {version}:")?;
+    report_accounts(rt, pinned)
+}
+
+// Accounts with their amounts, before and after a payment.
+const BEFORE: &[(&str, &str)] = &[("ann", "60"), ("bob", "40")];
+
+const AFTER: &[(&str, &str)] = &[("ann", "10"), ("bob", "90")];
+
+// Reports on the version that is pinned, and on the newest one.
+fn report_both(rt: &HostRuntime, mut pinned: Pinned<'_, Global>) -> Result<()> {
     report(rt, &mut pinned)?;
     let mut pinned = pinned.unpin().pin();
-    report(rt, &mut pinned)?;
-    pinned.unpin();
-    Ok(())
+    report(rt, &mut pinned)
+}
+
+// Writes, and goes on writing beside a pinned version.
+fn show(rt: &HostRuntime, mut writer: Pass<'_, Global>, reader: Pass<'_, Global>) -> Result<()> {
+    put_each(&mut writer, BEFORE)?;
+    let pinned = reader.pin();
+    put_each(&mut writer, AFTER)?;
+    report_both(rt, pinned)
 }
 
 pub fn run(rt: &HostRuntime) -> Result<()> {
     let (store, seats) = Store::open(rt.alloc(), SHAPE)?;
-    let Ok(mut passes) = store.deal(rt.alloc(), seats) else {
-        return Err(Error::msg("no memory for the passes"));
-    };
-    let (Some(reader), Some(writer)) = (passes.pop(), passes.pop()) else {
-        return Err(Error::msg("there are two passes"));
-    };
+    let (reader, writer) = two_passes(rt.alloc(), &store, seats)?;
     show(rt, writer, reader)
 }

@@ -1,7 +1,7 @@
 //! More keys than a store has rows for: a map of three shards, with one root digest.
 use anyhow::{Error, Result};
 use mst_key::{Format, Key, Value};
-use mst_sharded::{Handle, Sharded};
+use mst_sharded::{Handle, Sharded, Snapshot};
 use mst_sharded_proof::verify_sharded;
 use mst_store::Shape;
 use std::alloc::Global;
@@ -33,26 +33,35 @@ fn tell(rt: &HostRuntime, shards: usize, root: &[u8; 32], key: &Key, proof: &[u8
     Ok(())
 }
 
-// Writes through a handle, and proves an answer of a snapshot.
+// Proves an answer of a snapshot.
+fn prove(rt: &HostRuntime, snapshot: &mut Snapshot<'_, Global, Global>, key: &Key) -> Result<()> {
+    let root = snapshot.root(rt.alloc())?;
+    let proof = snapshot.prove(rt.alloc(), key)?;
+    tell(rt, snapshot.shards(), &root, key, &proof)
+}
+
+// Writes through a handle, and proves an answer.
 fn show(rt: &HostRuntime, mut handle: Handle<'_, Global, Global>) -> Result<()> {
     put(&mut handle, "apple", "30")?;
     put(&mut handle, "plum", "12")?;
     let plum = Key::new(b"plum")?;
-    let mut snapshot = handle.snapshot();
-    let root = snapshot.root(rt.alloc())?;
-    let proof = snapshot.prove(rt.alloc(), &plum)?;
-    let shards = snapshot.shards();
-    snapshot.release();
-    tell(rt, shards, &root, &plum, &proof)
+    prove(rt, &mut handle.snapshot(), &plum)
+}
+
+// The first keys of the shards after the first: below h, from h on, from p on.
+fn splits(alloc: Global) -> Result<Vec<Key>> {
+    Ok(vec![in alloc; Key::new(b"h")?, Key::new(b"p")?]?)
+}
+
+// The last of the handles.
+fn show_last(rt: &HostRuntime, mut handles: Vec<Handle<'_, Global, Global>>) -> Result<()> {
+    match handles.pop() {
+        Some(handle) => show(rt, handle),
+        None => Err(Error::msg("there are two handles")),
+    }
 }
 
 pub fn run(rt: &HostRuntime) -> Result<()> {
-    // each split is the first key of a shard: below h, from h on, from p on
-    let splits = vec![in rt.alloc(); Key::new(b"h")?, Key::new(b"p")?]?;
-    let (sharded, seats) = Sharded::open(rt.alloc(), splits, SHAPE)?;
-    let mut handles = sharded.deal(rt.alloc(), seats)?;
-    let Some(handle) = handles.pop() else {
-        return Err(Error::msg("there are two handles"));
-    };
-    show(rt, handle)
+    let (sharded, seats) = Sharded::open(rt.alloc(), splits(rt.alloc())?, SHAPE)?;
+    show_last(rt, sharded.deal(rt.alloc(), seats)?)
 }

@@ -1,4 +1,5 @@
 //! One writer and three readers, each with a pass of its own on a thread of its own.
+use crate::sharing::all_passes;
 use anyhow::{Error, Result};
 use mst_key::{Format, Key, Value};
 use mst_store::{Pass, Shape, Store};
@@ -23,33 +24,35 @@ enum Work {
     Reads,
 }
 
+// Puts a number. Returns false if that was refused.
+fn write_one(pass: &mut Pass<'_, Global>, key: &Key, number: u32) -> bool {
+    match Value::new(&number.to_be_bytes()) {
+        Ok(value) => pass.try_put(key, &value).is_ok(),
+        Err(_) => false,
+    }
+}
+
 // Counts up at one key. Returns false if a put was refused.
 fn write(pass: &mut Pass<'_, Global>) -> bool {
     let Ok(key) = Key::new(b"count") else {
         return false;
     };
+    let mut all_well = true;
     for number in 0..CALLS {
-        let Ok(value) = Value::new(&number.to_be_bytes()) else {
-            return false;
-        };
-        if pass.try_put(&key, &value).is_err() {
-            return false;
-        }
+        all_well = write_one(pass, &key, number) && all_well;
     }
-    true
+    all_well
 }
 
 // Reads on. Returns false if a version is older than the one before.
 fn read(pass: &mut Pass<'_, Global>) -> bool {
-    let mut last = 0;
+    let (mut last, mut all_well) = (0, true);
     for _ in 0..CALLS {
         let version = pass.version();
-        if version < last {
-            return false;
-        }
+        all_well = all_well && last <= version;
         last = version;
     }
-    true
+    all_well
 }
 
 // What the thread of a pass does.
@@ -96,16 +99,20 @@ fn join_all<T: Threads>(threads: &T, handles: Vec<JoinHandle<bool>>) -> bool {
     all_well
 }
 
-// Runs a thread for each pass, until all have ended.
-fn show<T: Threads + Wait + Sync>(
-    rt: &HostRuntime,
+// Runs a thread for each pass, until all have ended. Returns whether all went well.
+fn run_threads<T: Threads + Wait + Sync>(
+    alloc: Global,
     threads: &T,
     passes: Vec<Pass<'_, Global>>,
-) -> Result<()> {
-    let all_well = thread::scope(thread::scope_env(), threads, move |scope| -> Result<bool> {
-        let handles = start_all(scope, rt.alloc(), passes)?;
+) -> Result<bool> {
+    thread::scope(thread::scope_env(), threads, move |scope| -> Result<bool> {
+        let handles = start_all(scope, alloc, passes)?;
         Ok(join_all(threads, handles))
-    })?;
+    })
+}
+
+// Prints how it went.
+fn tell(rt: &HostRuntime, all_well: bool) -> Result<()> {
     if !all_well {
         return Err(Error::msg("a call went wrong"));
     }
@@ -115,8 +122,6 @@ fn show<T: Threads + Wait + Sync>(
 
 pub fn run<T: Threads + Wait + Sync>(rt: &HostRuntime, threads: &T) -> Result<()> {
     let (store, seats) = Store::open(rt.alloc(), SHAPE)?;
-    let Ok(passes) = store.deal(rt.alloc(), seats) else {
-        return Err(Error::msg("no memory for the passes"));
-    };
-    show(rt, threads, passes)
+    let passes = all_passes(rt.alloc(), &store, seats)?;
+    tell(rt, run_threads(rt.alloc(), threads, passes)?)
 }
