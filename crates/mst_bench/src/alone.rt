@@ -2,7 +2,7 @@
 ghost use Rattle.std.specs.Prelude.{◌<◌, ◌≤◌, length};
 
 use crate::kinds::{self, KINDS, Kind};
-use crate::stores::{dealt, opened};
+use crate::stores::{all_well, one_pass, opened};
 use crate::timing::tell;
 use crate::words::Calls;
 use crate::{beside, moving};
@@ -47,6 +47,29 @@ fn time_kind<'a>(
     Ok(pass)
 }
 
+// Times each kind of call, and returns the pass.
+fn time_kinds<'a>(
+    rt: &HostRuntime,
+    pass: Pass<'a, Global>,
+    keys: &[Key],
+    calls: u32,
+) -> io::Result<Pass<'a, Global>>
+    requires some { 0 < length keys.now }
+    requires few { length keys.now ≤ 65535 }
+{
+    let mut pass = pass;
+    for (kind, name) in KINDS {
+        pass = time_kind(rt, pass, keys, calls, *kind, name)?;
+    }
+    Ok(pass)
+}
+
+// Times a migration to and fro. Returns how many rows the map takes.
+fn time_moves(rt: &HostRuntime, pass: &mut Pass<'_, Global>, keys: u32) -> io::Result<u32> {
+    moving::run(rt, pass, keys)?;
+    beside::rows_of(pass)
+}
+
 /// Times each kind of call at a store that has no pair yet, then a migration to and fro. Returns
 /// how many rows the map takes.
 pub fn run(rt: &HostRuntime, keys: &[Key], calls: u32) -> io::Result<u32>
@@ -54,15 +77,20 @@ pub fn run(rt: &HostRuntime, keys: &[Key], calls: u32) -> io::Result<u32>
     requires few { length keys.now ≤ 65535 }
 {
     let (store, seats) = opened(rt.alloc(), shape(Format::One))?;
-    let mut passes = dealt(rt.alloc(), &store, seats)?;
-    let Some(mut pass) = passes.pop() else {
-        return Err(io::ErrorKind::Other.into());
-    };
-    for (kind, name) in KINDS {
-        pass = time_kind(rt, pass, keys, calls, *kind, name)?;
-    }
-    moving::run(rt, &mut pass, keys.len() as u32)?;
-    beside::rows_of(&mut pass)
+    let pass = one_pass(rt.alloc(), &store, seats)?;
+    let mut pass = time_kinds(rt, pass, keys, calls)?;
+    time_moves(rt, &mut pass, keys.len() as u32)
+}
+
+// Puts all keys, and times calls of one kind.
+fn time_filled(rt: &HostRuntime, pass: Pass<'_, Global>, keys: &[Key], of: Calls) -> io::Result<()>
+    requires some { 0 < length keys.now }
+    requires few { length keys.now ≤ 65535 }
+{
+    let (pass, filled) = kinds::make(rt.alloc(), pass, keys, 1, Kind::FirstPut);
+    all_well(filled)?;
+    time_kind(rt, pass, keys, of.calls, of.kind, of.name)?;
+    Ok(())
 }
 
 /// Puts all keys, and times calls of one kind.
@@ -71,14 +99,6 @@ pub fn run_one(rt: &HostRuntime, keys: &[Key], of: Calls) -> io::Result<()>
     requires few { length keys.now ≤ 65535 }
 {
     let (store, seats) = opened(rt.alloc(), shape(of.format))?;
-    let mut passes = dealt(rt.alloc(), &store, seats)?;
-    let Some(pass) = passes.pop() else {
-        return Err(io::ErrorKind::Other.into());
-    };
-    let (pass, filled) = kinds::make(rt.alloc(), pass, keys, 1, Kind::FirstPut);
-    if !filled {
-        return Err(io::ErrorKind::Other.into());
-    }
-    let _ = time_kind(rt, pass, keys, of.calls, of.kind, of.name)?;
-    Ok(())
+    let pass = one_pass(rt.alloc(), &store, seats)?;
+    time_filled(rt, pass, keys, of)
 }

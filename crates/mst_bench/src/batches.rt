@@ -4,7 +4,7 @@ ghost use Rattle.std.specs.Prelude.{◌<◌, ◌≤◌, length};
 use crate::alone;
 use crate::calls::{FIRST_NEW_VALUE, picked};
 use crate::keys::value;
-use crate::stores::{dealt, opened};
+use crate::stores::{one_pass, opened};
 use crate::timing::tell;
 use mst_key::{Edit, Format, Key, Value};
 use mst_store::Pass;
@@ -37,6 +37,23 @@ fn edits_of_calls(
     Ok(edits)
 }
 
+// Makes the batch of the puts from one call on and before another. Returns true if it went through.
+fn put_batch(
+    alloc: Global,
+    pass: &mut Pass<'_, Global>,
+    keys: &[Key],
+    size: u32,
+    first: u32,
+    end: u32,
+) -> bool
+    requires some { 0 < length keys.now }
+{
+    match edits_of_calls(alloc, keys, size, first, end) {
+        Ok(edits) => pass.try_apply(alloc, edits.as_slice()).is_ok(),
+        Err(_) => false,
+    }
+}
+
 /// Puts so many values, other than the current ones, at keys that the map has, `size` of them in
 /// each batch. Returns true if each batch went through.
 pub fn put(alloc: Global, pass: &mut Pass<'_, Global>, keys: &[Key], calls: u32, size: u32) -> bool
@@ -46,10 +63,7 @@ pub fn put(alloc: Global, pass: &mut Pass<'_, Global>, keys: &[Key], calls: u32,
     for batch in 0..calls.div_ceil(size) {
         let first = batch.saturating_mul(size);
         let end = first.saturating_add(size).min(calls);
-        let Ok(edits) = edits_of_calls(alloc, keys, size, first, end) else {
-            return false;
-        };
-        if pass.try_apply(alloc, edits.as_slice()).is_err() {
+        if !put_batch(alloc, pass, keys, size, first, end) {
             return false;
         }
     }
@@ -65,16 +79,23 @@ fn edits_of_all(alloc: Global, keys: &[Key]) -> Result<Vec<Edit>, AllocError> {
     Ok(edits)
 }
 
-// Opens a store, and times the batch of these edits, one for each key of a map, in it.
-fn time_load(rt: &HostRuntime, edits: &[Edit], keys: u32, format: Format) -> io::Result<()> {
-    let (store, seats) = opened(rt.alloc(), alone::shape(format))?;
-    let mut passes = dealt(rt.alloc(), &store, seats)?;
-    let Some(mut pass) = passes.pop() else {
-        return Err(io::ErrorKind::Other.into());
-    };
+// Times the batch of these edits, one for each key of a map.
+fn time_batch(
+    rt: &HostRuntime,
+    pass: &mut Pass<'_, Global>,
+    edits: &[Edit],
+    keys: u32,
+) -> io::Result<()> {
     let start = Instant::now(rt)?;
     let done = pass.try_apply(rt.alloc(), edits).is_ok();
     tell(rt, "load", keys, 1, start, done)
+}
+
+// Opens a store, and times the batch of these edits in it.
+fn time_load(rt: &HostRuntime, edits: &[Edit], keys: u32, format: Format) -> io::Result<()> {
+    let (store, seats) = opened(rt.alloc(), alone::shape(format))?;
+    let mut pass = one_pass(rt.alloc(), &store, seats)?;
+    time_batch(rt, &mut pass, edits, keys)
 }
 
 /// Puts all keys by one batch into an empty store, so many times, each in a store of its own.

@@ -3,7 +3,7 @@ ghost use Rattle.std.specs.Prelude.{◌<◌, ◌≤◌, ◌^◌, length};
 
 use crate::calls::{self, FIRST_NEW_VALUE};
 use crate::reads;
-use crate::stores::{dealt, opened};
+use crate::stores::{all_well, opened, two_passes};
 use crate::timing::tell;
 use mst_key::{Format, Key};
 use mst_store::{Pass, Pinned, Shape};
@@ -69,6 +69,21 @@ fn time_gets(
     )
 }
 
+// Times puts beside a version that stays pinned, and gets of it.
+fn time_pinned(
+    rt: &HostRuntime,
+    pinned: &mut Pinned<'_, Global>,
+    writer: &mut Pass<'_, Global>,
+    keys: &[Key],
+    calls: u32,
+) -> io::Result<()>
+    requires some { 0 < length keys.now }
+    requires few { length keys.now ≤ 65535 }
+{
+    time_puts(rt, "put beside a pin", writer, keys, FIRST_VALUE_BESIDE)?;
+    time_gets(rt, pinned, keys, calls)
+}
+
 // Times puts with nothing pinned, then puts beside a pin of the other pass, and gets of what it
 // pins.
 fn time_both(
@@ -82,11 +97,13 @@ fn time_both(
     requires few { length keys.now ≤ 65535 }
 {
     time_puts(rt, "put with no pin", writer, keys, FIRST_NEW_VALUE)?;
-    let mut pinned = reader.pin();
-    time_puts(rt, "put beside a pin", writer, keys, FIRST_VALUE_BESIDE)?;
-    time_gets(rt, &mut pinned, keys, calls)?;
-    let _ = pinned.unpin();
-    Ok(())
+    time_pinned(rt, &mut reader.pin(), writer, keys, calls)
+}
+
+// Fills the map. Returns how many rows it takes.
+fn fill(writer: &mut Pass<'_, Global>, keys: &[Key]) -> io::Result<u32> {
+    all_well(calls::fill(writer, keys))?;
+    rows_of(writer)
 }
 
 // Fills the map, times the calls, and prints the rows.
@@ -101,10 +118,7 @@ fn time_filled(
     requires some { 0 < length keys.now }
     requires few { length keys.now ≤ 65535 }
 {
-    if !calls::fill(writer, keys) {
-        return Err(io::ErrorKind::Other.into());
-    }
-    let before = rows_of(writer)?;
+    let before = fill(writer, keys)?;
     time_both(rt, reader, writer, keys, calls)?;
     let after = rows_of(writer)?;
     let count = keys.len();
@@ -124,17 +138,12 @@ pub fn run(rt: &HostRuntime, keys: &[Key], calls: u32, map_rows: u32) -> io::Res
         .saturating_mul(2)
         .saturating_add(PATH_ROWS)
         .min(65_535);
-    let (store, seats) = opened(
-        rt.alloc(),
-        Shape {
-            rows,
-            passes: 2,
-            format: Format::One,
-        },
-    )?;
-    let mut passes = dealt(rt.alloc(), &store, seats)?;
-    let (Some(reader), Some(mut writer)) = (passes.pop(), passes.pop()) else {
-        return Err(io::ErrorKind::Other.into());
+    let shape = Shape {
+        rows,
+        passes: 2,
+        format: Format::One,
     };
+    let (store, seats) = opened(rt.alloc(), shape)?;
+    let (reader, mut writer) = two_passes(rt.alloc(), &store, seats)?;
     time_filled(rt, reader, &mut writer, keys, calls, rows)
 }

@@ -49,14 +49,22 @@ const ALONE: &[(Kind, &str)] = &[
     (Kind::Migrate, "migrate"),
 ];
 
-/// The kind with this name, and what lines call it.
-pub fn named(name: &str) -> Option<(Kind, &'static str)> {
-    for (kind, its_name) in KINDS.iter().chain(ALONE.iter()) {
+// The kind of these with this name.
+fn named_among(kinds: &[(Kind, &'static str)], name: &str) -> Option<(Kind, &'static str)> {
+    for (kind, its_name) in kinds {
         if *its_name == name {
             return Some((*kind, *its_name));
         }
     }
     None
+}
+
+/// The kind with this name, and what lines call it.
+pub fn named(name: &str) -> Option<(Kind, &'static str)> {
+    match named_among(KINDS, name) {
+        Some(found) => Some(found),
+        None => named_among(ALONE, name),
+    }
 }
 
 // Makes gets of the version that the pass pins now, and ends the pin.
@@ -66,6 +74,32 @@ fn get_pinned<'a>(pass: Pass<'a, Global>, keys: &[Key], calls: u32) -> (Pass<'a,
     let mut pinned = pass.pin();
     let done = reads::get_pinned(&mut pinned, keys, calls);
     (pinned.unpin(), done)
+}
+
+// Makes so many calls of a kind that leaves the pass where it is. Returns true if each went
+// through.
+fn make_in_place(
+    alloc: Global,
+    pass: &mut Pass<'_, Global>,
+    keys: &[Key],
+    calls: u32,
+    kind: Kind,
+) -> bool
+    requires some { 0 < length keys.now }
+{
+    match kind {
+        Kind::FirstPut => calls::fill(pass, keys),
+        Kind::Put => calls::put(pass, keys, calls, calls::FIRST_NEW_VALUE),
+        Kind::PutInBatches(size) => batches::put(alloc, pass, keys, calls, size),
+        Kind::RemoveAndPutBack => calls::remove_and_put_back(pass, keys, calls),
+        Kind::Version => reads::version(pass, calls),
+        Kind::Get | Kind::GetPinned => reads::get(pass, keys, calls),
+        Kind::Next => reads::next(pass, keys, calls),
+        Kind::Range => reads::range(alloc, pass, keys, calls),
+        Kind::Prove => reads::prove(alloc, pass, keys, calls),
+        Kind::Verify => reads::verify(alloc, pass, keys, calls),
+        Kind::Migrate => moving::to_and_fro(alloc, pass, calls),
+    }
 }
 
 /// Makes so many calls of a kind; of first puts one for each key. Returns the pass, and whether
@@ -79,19 +113,11 @@ pub fn make<'a>(
 ) -> (Pass<'a, Global>, bool)
     requires some { 0 < length keys.now }
 {
-    let done = match kind {
-        Kind::FirstPut => calls::fill(&mut pass, keys),
-        Kind::Put => calls::put(&mut pass, keys, calls, calls::FIRST_NEW_VALUE),
-        Kind::PutInBatches(size) => batches::put(alloc, &mut pass, keys, calls, size),
-        Kind::RemoveAndPutBack => calls::remove_and_put_back(&mut pass, keys, calls),
-        Kind::Version => reads::version(&mut pass, calls),
-        Kind::Get => reads::get(&mut pass, keys, calls),
-        Kind::GetPinned => return get_pinned(pass, keys, calls),
-        Kind::Next => reads::next(&mut pass, keys, calls),
-        Kind::Range => reads::range(alloc, &mut pass, keys, calls),
-        Kind::Prove => reads::prove(alloc, &mut pass, keys, calls),
-        Kind::Verify => reads::verify(alloc, &mut pass, keys, calls),
-        Kind::Migrate => moving::to_and_fro(alloc, &mut pass, calls),
-    };
-    (pass, done)
+    match kind {
+        Kind::GetPinned => get_pinned(pass, keys, calls),
+        _ => {
+            let done = make_in_place(alloc, &mut pass, keys, calls, kind);
+            (pass, done)
+        }
+    }
 }

@@ -121,17 +121,18 @@ fn opened(
     }
 }
 
-// Its handles, of which it has one.
-fn dealt<'a>(
+// Its handle, of which it has one.
+fn one_handle<'a>(
     alloc: Global,
     sharded: &'a Sharded<Global>,
     seats: AllSeats<Global>,
-) -> io::Result<Vec<Handle<'a, Global, Global>>>
+) -> io::Result<Handle<'a, Global, Global>>
     requires own { seats ≡ seats_of sharded.now }
 {
-    match sharded.deal(alloc, seats) {
-        Ok(handles) => Ok(handles),
-        Err(refused) => Err(refused.into()),
+    let mut handles = sharded.deal(alloc, seats)?;
+    match handles.pop() {
+        Some(handle) => Ok(handle),
+        None => Err(io::ErrorKind::Other.into()),
     }
 }
 
@@ -177,6 +178,22 @@ fn snapshot<'a>(
     (snapshot.release(), done)
 }
 
+// Takes a snapshot, perhaps of a map that was just changed. Returns the handle, and whether each
+// call went through.
+fn change_and_snapshot<'a>(
+    alloc: Global,
+    mut handle: Handle<'a, Global, Global>,
+    keys: &[Key],
+    call: u32,
+    each: Each,
+) -> (Handle<'a, Global, Global>, bool)
+    requires some { 0 < length keys.now }
+{
+    let changed = !each.puts || put(&mut handle, keys, call);
+    let (handle, told) = snapshot(alloc, handle, each.roots);
+    (handle, changed && told)
+}
+
 // Takes so many snapshots. Returns true if each call went through.
 fn snapshots(
     alloc: Global,
@@ -187,16 +204,13 @@ fn snapshots(
 ) -> bool
     requires some { 0 < length keys.now }
 {
-    let mut done = true;
+    let mut all_done = true;
     for call in 0..calls {
-        if each.puts {
-            done = put(&mut handle, keys, call) && done;
-        }
-        let (released, told) = snapshot(alloc, handle, each.roots);
+        let (released, done) = change_and_snapshot(alloc, handle, keys, call, each);
         handle = released;
-        done = told && done;
+        all_done = all_done && done;
     }
-    done
+    all_done
 }
 
 // Makes so many calls of a kind. Returns true if each went through.
@@ -215,20 +229,46 @@ fn make(
     }
 }
 
-// Puts all keys into a sharded map, and times calls of one kind.
+// Puts all keys, and times calls of one kind.
+fn time_handle(
+    rt: &HostRuntime,
+    mut handle: Handle<'_, Global, Global>,
+    keys: &[Key],
+    of: ShardedCalls,
+) -> io::Result<()>
+    requires some { 0 < length keys.now }
+{
+    let filled = fill(&mut handle, keys);
+    let start = Instant::now(rt)?;
+    let done = make(rt.alloc(), handle, keys, of);
+    tell(rt, of.name, of.keys, of.calls, start, filled && done)
+}
+
+// Times calls of one kind of a sharded map.
 fn run_handle(rt: &HostRuntime, keys: &[Key], of: ShardedCalls) -> io::Result<()>
     requires some { 0 < length keys.now }
     requires few { length keys.now ≤ 65535 }
 {
     let (sharded, seats) = opened(rt.alloc(), keys, of.format)?;
-    let mut handles = dealt(rt.alloc(), &sharded, seats)?;
-    let Some(mut handle) = handles.pop() else {
-        return Err(io::ErrorKind::Other.into());
+    let handle = one_handle(rt.alloc(), &sharded, seats)?;
+    time_handle(rt, handle, keys, of)
+}
+
+// Times gets in a store that has the keys of this shard.
+fn run_pass(rt: &HostRuntime, keys: &[Key], of: ShardedCalls) -> io::Result<()>
+    requires few { length keys.now ≤ 65535 }
+{
+    if keys.is_empty() {
+        return Err(io::ErrorKind::InvalidInput.into());
+    }
+    let gets = Calls {
+        kind: kinds::Kind::Get,
+        name: of.name,
+        keys: of.keys,
+        calls: of.calls / SHARDS as u32,
+        format: of.format,
     };
-    let filled = fill(&mut handle, keys);
-    let start = Instant::now(rt)?;
-    let done = make(rt.alloc(), handle, keys, of);
-    tell(rt, of.name, of.keys, of.calls, start, filled && done)
+    alone::run_one(rt, keys, gets)
 }
 
 // Times gets in stores of their own, one after the other, each of which has the keys of a shard.
@@ -240,17 +280,7 @@ fn run_passes(rt: &HostRuntime, keys: &[Key], of: ShardedCalls) -> io::Result<()
         let Some(its_keys) = keys.get(part * shard..part * (shard + 1)) else {
             return Err(io::ErrorKind::Other.into());
         };
-        if its_keys.is_empty() {
-            return Err(io::ErrorKind::InvalidInput.into());
-        }
-        let gets = Calls {
-            kind: kinds::Kind::Get,
-            name: of.name,
-            keys: of.keys,
-            calls: of.calls / SHARDS as u32,
-            format: of.format,
-        };
-        alone::run_one(rt, its_keys, gets)?;
+        run_pass(rt, its_keys, of)?;
     }
     Ok(())
 }
@@ -267,15 +297,20 @@ fn bounds(alloc: Global, keys: &[Key]) -> Result<Vec<Key>, AllocError>
     Ok(bounds)
 }
 
-// Puts a listing at each bound, and then so many others. Returns true if each call went through.
-fn put_listings(pass: &mut Pass<'_, Global>, bounds: &[Key], calls: u32) -> bool
-    requires some { 0 < length bounds.now }
-{
+// Puts a listing at each bound. Returns true if each call went through.
+fn fill_listings(pass: &mut Pass<'_, Global>, bounds: &[Key]) -> bool {
     for (number, key) in bounds.iter().enumerate() {
         if pass.try_put(key, &listing(number as u64)).is_err() {
             return false;
         }
     }
+    true
+}
+
+// Puts so many other listings. Returns true if each call went through.
+fn put_listings(pass: &mut Pass<'_, Global>, bounds: &[Key], calls: u32) -> bool
+    requires some { 0 < length bounds.now }
+{
     for call in 0..calls {
         let new = listing(FIRST_NEW_VALUE + u64::from(call));
         if pass.try_put(picked(bounds, call), &new).is_err() {
@@ -285,17 +320,33 @@ fn put_listings(pass: &mut Pass<'_, Global>, bounds: &[Key], calls: u32) -> bool
     true
 }
 
+// Times puts of listings, of which there is one at each bound.
+fn time_listings(
+    rt: &HostRuntime,
+    pass: &mut Pass<'_, Global>,
+    bounds: &[Key],
+    of: ShardedCalls,
+) -> io::Result<()>
+    requires some { 0 < length bounds.now }
+{
+    let start = Instant::now(rt)?;
+    let done = fill_listings(pass, bounds) && put_listings(pass, bounds, of.calls);
+    tell(rt, of.name, of.keys, of.calls, start, done)
+}
+
+// Times them in a store of its own.
+fn run_store(rt: &HostRuntime, bounds: &[Key], of: ShardedCalls) -> io::Result<()>
+    requires some { 0 < length bounds.now }
+{
+    let (store, seats) = stores::opened(rt.alloc(), alone::shape(of.format))?;
+    let mut pass = stores::one_pass(rt.alloc(), &store, seats)?;
+    time_listings(rt, &mut pass, bounds, of)
+}
+
 // Times puts into a store that has what the directory has.
 fn run_listings(rt: &HostRuntime, keys: &[Key], of: ShardedCalls) -> io::Result<()> {
     let bounds = bounds(rt.alloc(), keys)?;
-    let (store, seats) = stores::opened(rt.alloc(), alone::shape(of.format))?;
-    let mut passes = stores::dealt(rt.alloc(), &store, seats)?;
-    let Some(mut pass) = passes.pop() else {
-        return Err(io::ErrorKind::Other.into());
-    };
-    let start = Instant::now(rt)?;
-    let done = put_listings(&mut pass, &bounds, of.calls);
-    tell(rt, of.name, of.keys, of.calls, start, done)
+    run_store(rt, bounds.as_slice(), of)
 }
 
 /// Puts all keys, which rise, and times calls of one kind.

@@ -29,3 +29,42 @@ pub fn dealt<'a>(
         Err((refused, _)) => Err(refused.into()),
     }
 }
+
+/// One pass of a store.
+pub fn one_pass<'a>(
+    alloc: Global,
+    store: &'a Store<Global>,
+    seats: Seats<Global>,
+) -> io::Result<Pass<'a, Global>>
+    requires own { seats ≡ store.now }
+{
+    let mut passes = dealt(alloc, store, seats)?;
+    match passes.pop() {
+        Some(pass) => Ok(pass),
+        None => Err(io::ErrorKind::Other.into()),
+    }
+}
+
+/// Two passes of a store.
+pub fn two_passes<'a>(
+    alloc: Global,
+    store: &'a Store<Global>,
+    seats: Seats<Global>,
+) -> io::Result<(Pass<'a, Global>, Pass<'a, Global>)>
+    requires own { seats ≡ store.now }
+{
+    let mut passes = dealt(alloc, store, seats)?;
+    match (passes.pop(), passes.pop()) {
+        (Some(one), Some(other)) => Ok((one, other)),
+        _ => Err(io::ErrorKind::Other.into()),
+    }
+}
+
+/// An error if not each call went through.
+pub fn all_well(done: bool) -> io::Result<()> {
+    if done {
+        Ok(())
+    } else {
+        Err(io::ErrorKind::Other.into())
+    }
+}

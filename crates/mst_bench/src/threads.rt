@@ -4,7 +4,7 @@ ghost use Rattle.std.specs.Prelude.{◌<◌, ◌≤◌, length};
 
 use crate::calls::{self, FIRST_NEW_VALUE};
 use crate::reads;
-use crate::stores::{dealt, opened};
+use crate::stores::{all_well, dealt, opened};
 use crate::timing::nanos;
 use mst_key::{Format, Key};
 use mst_store::{Pass, Shape};
@@ -123,6 +123,21 @@ fn join_down_to<T: Threads>(threads: &T, handles: &mut Vec<JoinHandle<bool>>, le
     done
 }
 
+// Joins all threads, the readers first. Returns the time until the last of those has ended.
+fn join_all<T: Threads>(
+    rt: &HostRuntime,
+    threads: &T,
+    mut handles: Vec<JoinHandle<bool>>,
+    writers: u32,
+    start: Instant,
+) -> io::Result<Duration> {
+    let read = join_down_to(threads, &mut handles, writers as usize);
+    let elapsed = start.elapsed(rt);
+    let wrote = join_down_to(threads, &mut handles, 0);
+    all_well(read && wrote)?;
+    elapsed
+}
+
 // Runs a thread for each pass. Returns the time from the start of the first to the end of the last
 // reader.
 fn run_threads<T: Threads + Wait + Sync>(
@@ -142,15 +157,8 @@ fn run_threads<T: Threads + Wait + Sync>(
             requires some { 0 < length keys.now }
         {
             let start = Instant::now(rt)?;
-            let mut handles = start_all(scope, rt.alloc(), passes, keys, calls, reading)?;
-            let left = writers(reading) as usize;
-            let read = join_down_to(threads, &mut handles, left);
-            let elapsed = start.elapsed(rt)?;
-            if join_down_to(threads, &mut handles, 0) && read {
-                Ok(elapsed)
-            } else {
-                Err(io::ErrorKind::Other.into())
-            }
+            let handles = start_all(scope, rt.alloc(), passes, keys, calls, reading)?;
+            join_all(rt, threads, handles, writers(reading), start)
         },
     )
 }
@@ -164,8 +172,54 @@ fn name_of(reading: Reading) -> &'static str {
     }
 }
 
-// Times this many readers at a map of these keys, and prints their gets a second.
+// Puts all keys by the first of the passes. Returns true if each call went through.
+fn fill(passes: &mut Vec<Pass<'_, Global>>, keys: &[Key]) -> bool {
+    match passes.first_mut() {
+        Some(first) => calls::fill(first, keys),
+        None => false,
+    }
+}
+
+// Fills the map, and times a thread for each pass.
+fn time_threads<T: Threads + Wait + Sync>(
+    rt: &HostRuntime,
+    threads: &T,
+    mut passes: Vec<Pass<'_, Global>>,
+    keys: &[Key],
+    calls: u32,
+    reading: Reading,
+) -> io::Result<Duration>
+    requires some { 0 < length keys.now }
+{
+    let filled = fill(&mut passes, keys);
+    all_well(filled)?;
+    run_threads(rt, threads, passes, keys, calls, reading)
+}
+
+// Times this many readers at a map of these keys.
 fn time_readers<T: Threads + Wait + Sync>(
+    rt: &HostRuntime,
+    threads: &T,
+    keys: &[Key],
+    calls: u32,
+    readers: u32,
+    reading: Reading,
+) -> io::Result<Duration>
+    requires some { 0 < length keys.now }
+    requires few { readers ≤ 4 }
+{
+    let shape = Shape {
+        rows: 65_535,
+        passes: readers + writers(reading),
+        format: Format::One,
+    };
+    let (store, seats) = opened(rt.alloc(), shape)?;
+    let passes = dealt(rt.alloc(), &store, seats)?;
+    time_threads(rt, threads, passes, keys, calls, reading)
+}
+
+// Times them, and prints their gets a second.
+fn tell_readers<T: Threads + Wait + Sync>(
     rt: &HostRuntime,
     threads: &T,
     keys: &[Key],
@@ -176,20 +230,7 @@ fn time_readers<T: Threads + Wait + Sync>(
     requires some { 0 < length keys.now }
     requires few { readers ≤ 4 }
 {
-    let shape = Shape {
-        rows: 65_535,
-        passes: readers + writers(reading),
-        format: Format::One,
-    };
-    let (store, seats) = opened(rt.alloc(), shape)?;
-    let mut passes = dealt(rt.alloc(), &store, seats)?;
-    let Some(first) = passes.first_mut() else {
-        return Err(io::ErrorKind::Other.into());
-    };
-    if !calls::fill(first, keys) {
-        return Err(io::ErrorKind::Other.into());
-    }
-    let elapsed = run_threads(rt, threads, passes, keys, calls, reading)?;
+    let elapsed = time_readers(rt, threads, keys, calls, readers, reading)?;
     let each = nanos(elapsed).max(1);
     let rate = u64::from(calls) * u64::from(readers) * 1_000_000 / (each / 1_000).max(1);
     let (name, count) = (name_of(reading), keys.len());
@@ -207,9 +248,9 @@ pub fn run<T: Threads + Wait + Sync>(
     requires some { 0 < length keys.now }
 {
     for readers in 1..=MOST_READERS {
-        time_readers(rt, threads, keys, calls, readers, Reading::Newest)?;
-        time_readers(rt, threads, keys, calls, readers, Reading::Pinned)?;
-        time_readers(rt, threads, keys, calls, readers, Reading::BesideWriter)?;
+        tell_readers(rt, threads, keys, calls, readers, Reading::Newest)?;
+        tell_readers(rt, threads, keys, calls, readers, Reading::Pinned)?;
+        tell_readers(rt, threads, keys, calls, readers, Reading::BesideWriter)?;
     }
     Ok(())
 }

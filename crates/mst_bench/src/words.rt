@@ -111,19 +111,23 @@ fn calls_of(kind: &str, keys: &str, calls: &str, last: Option<&str>) -> Option<T
     }))
 }
 
+// What the words after the program's name ask for.
+fn task_of(words: &[String]) -> Option<Task> {
+    match words {
+        [_, count] => number(count.as_str()).map(Task::TimeAll),
+        [_, kind, keys, calls] => calls_of(kind.as_str(), keys.as_str(), calls.as_str(), None),
+        [_, kind, keys, calls, last] => calls_of(
+            kind.as_str(),
+            keys.as_str(),
+            calls.as_str(),
+            Some(last.as_str()),
+        ),
+        _ => None,
+    }
+}
+
 /// What the command line asks for; help if no words do.
 pub fn asked(rt: &HostRuntime) -> io::Result<Task> {
-    let mut words = env::args(rt)?;
-    let _ = words.next();
-    let (first, second, third) = (words.next(), words.next(), words.next());
-    let (last, more) = (words.next(), words.next());
-    let task = match (&first, &second, &third, &more) {
-        (Some(count), None, None, None) => number(count.as_str()).map(Task::TimeAll),
-        (Some(kind), Some(keys), Some(count), None) => {
-            let last = last.as_ref().map(|word| word.as_str());
-            calls_of(kind.as_str(), keys.as_str(), count.as_str(), last)
-        }
-        _ => None,
-    };
-    Ok(task.unwrap_or(Task::Help))
+    let words: Vec<String> = env::args(rt)?.collect(rt.alloc())?;
+    Ok(task_of(words.as_slice()).unwrap_or(Task::Help))
 }
