@@ -10,8 +10,8 @@ from .maps import TOP
 LEFT, RIGHT, UPPER, LOWER = 110, 790, 64, 524
 MARKS = ["disc", "square", "ring", "diamond"]
 CAPTION = [
-    "Keys of 16 bytes, values of 32, one pass; a proved build on an x86-64 machine at 2.5 GHz.",
-    "Each figure is the mean of 10,000 calls. Both scales are of powers of ten.",
+    "Keys of 16 bytes, values of 32, from C; a proved build on an x86-64 machine at 2.5 GHz.",
+    "The means of the fastest rounds. Both scales are of powers of ten.",
 ]
 STYLES = ["thin", "thick", "dotted", "dashed"]
 
@@ -69,7 +69,7 @@ def draw_curve(canvas, rows, index, call):
 
 def picture():
     calls, rows = figures()
-    canvas = Canvas("speed", "Microseconds of one call of a pass by the number of keys", 664)
+    canvas = Canvas("speed", "Microseconds of one call by the number of keys", 664)
     draw_scales(canvas, rows)
     for index, call in enumerate(calls, 1):
         draw_curve(canvas, rows, index, call)

@@ -4,13 +4,11 @@ ghost use Rattle.std.specs.Prelude.{◌<◌, ◌≤◌, length};
 use crate::alone;
 use crate::calls::{FIRST_NEW_VALUE, picked};
 use crate::keys::value;
-use crate::stores::{one_pass, opened};
-use crate::timing::tell;
+use crate::stores::{one_pass, opened, tell};
 use mst_key::{Edit, Format, Key, Value};
 use mst_store::Pass;
 use std::alloc::{AllocError, Global};
 use std::io;
-use std::time::Instant;
 
 // The value of a call. Those of batches of other sizes are other values, so that one kind of calls
 // after another changes the map.
@@ -79,32 +77,19 @@ fn edits_of_all(alloc: Global, keys: &[Key]) -> Result<Vec<Edit>, AllocError> {
     Ok(edits)
 }
 
-// Times the batch of these edits, one for each key of a map.
-fn time_batch(
-    rt: &HostRuntime,
-    pass: &mut Pass<'_, Global>,
-    edits: &[Edit],
-    keys: u32,
-) -> io::Result<()> {
-    let start = Instant::now(rt)?;
-    let done = pass.try_apply(rt.alloc(), edits).is_ok();
-    tell(rt, "load", keys, 1, start, done)
-}
-
-// Opens a store, and times the batch of these edits in it.
-fn time_load(rt: &HostRuntime, edits: &[Edit], keys: u32, format: Format) -> io::Result<()> {
+// Opens a store, and makes the batch of these edits, one for each key.
+fn load_one(rt: &HostRuntime, edits: &[Edit], format: Format) -> io::Result<()> {
     let (store, seats) = opened(rt.alloc(), alone::shape(format))?;
     let mut pass = one_pass(rt.alloc(), &store, seats)?;
-    time_batch(rt, &mut pass, edits, keys)
+    let done = pass.try_apply(rt.alloc(), edits).is_ok();
+    tell(rt, "load", edits.len() as u32, 1, done)
 }
 
 /// Puts all keys by one batch into an empty store, so many times, each in a store of its own.
-pub fn load(rt: &HostRuntime, keys: &[Key], calls: u32, format: Format) -> io::Result<()>
-    requires few { length keys.now ≤ 65535 }
-{
+pub fn load(rt: &HostRuntime, keys: &[Key], calls: u32, format: Format) -> io::Result<()> {
     let edits = edits_of_all(rt.alloc(), keys)?;
     for _ in 0..calls {
-        time_load(rt, edits.as_slice(), keys.len() as u32, format)?;
+        load_one(rt, edits.as_slice(), format)?;
     }
     Ok(())
 }

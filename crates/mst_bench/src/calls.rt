@@ -2,7 +2,7 @@
 ghost use Rattle.std.specs.Prelude.{◌<◌, ◌≤◌, ◌^◌, length};
 
 use crate::keys::value;
-use mst_key::Key;
+use mst_key::{Format, Key};
 use mst_store::Pass;
 use std::alloc::Global;
 
@@ -59,6 +59,21 @@ pub fn remove_and_put_back(pass: &mut Pass<'_, Global>, keys: &[Key], calls: u32
         let Ok(None) = pass.try_put(key, &old) else {
             return false;
         };
+    }
+    true
+}
+
+/// Makes so many migrations, each to the format that is not the current one. Returns true if each
+/// call went through.
+pub fn migrate(alloc: Global, pass: &mut Pass<'_, Global>, calls: u32) -> bool {
+    for _ in 0..calls {
+        let to = match pass.format() {
+            Format::One => Format::Two,
+            Format::Two => Format::One,
+        };
+        if pass.try_migrate(alloc, to).is_err() {
+            return false;
+        }
     }
     true
 }

@@ -1,7 +1,7 @@
-//! The kinds of calls that are timed and counted.
+//! The kinds of calls.
 ghost use Rattle.std.specs.Prelude.{◌<◌, length};
 
-use crate::{batches, calls, moving, reads};
+use crate::{batches, calls, reads};
 use mst_key::Key;
 use mst_store::Pass;
 use std::alloc::Global;
@@ -9,7 +9,6 @@ use std::alloc::Global;
 /// A kind of call of a pass.
 #[derive(Clone, Copy)]
 pub enum Kind {
-    FirstPut,
     Put,
     /// Puts, so many in each batch.
     PutInBatches(u32),
@@ -24,13 +23,14 @@ pub enum Kind {
     Migrate,
 }
 
-/// The kinds that are timed, one after the other, with what their lines call them.
-pub const KINDS: &[(Kind, &str)] = &[
-    (Kind::FirstPut, "first put"),
+/// The kinds, with what the command line calls them.
+const KINDS: &[(Kind, &str)] = &[
     (Kind::Put, "put"),
+    (Kind::PutInBatches(1), "put in batches of 1"),
     (Kind::PutInBatches(10), "put in batches of 10"),
     (Kind::PutInBatches(100), "put in batches of 100"),
     (Kind::PutInBatches(1_000), "put in batches of 1000"),
+    (Kind::PutInBatches(10_000), "put in batches of 10000"),
     (Kind::RemoveAndPutBack, "remove and put back"),
     (Kind::Version, "version"),
     (Kind::Get, "get"),
@@ -39,32 +39,17 @@ pub const KINDS: &[(Kind, &str)] = &[
     (Kind::Range, "range of 100"),
     (Kind::Prove, "prove"),
     (Kind::Verify, "verify"),
-];
-
-/// The kinds that are made alone. At the greatest size the rows do not suffice for two trees, as a
-/// migration of a full store and the largest batches want them.
-const ALONE: &[(Kind, &str)] = &[
-    (Kind::PutInBatches(1), "put in batches of 1"),
-    (Kind::PutInBatches(10_000), "put in batches of 10000"),
     (Kind::Migrate, "migrate"),
 ];
 
-// The kind of these with this name.
-fn named_among(kinds: &[(Kind, &'static str)], name: &str) -> Option<(Kind, &'static str)> {
-    for (kind, its_name) in kinds {
+/// The kind with this name, and what lines call it.
+pub fn named(name: &str) -> Option<(Kind, &'static str)> {
+    for (kind, its_name) in KINDS {
         if *its_name == name {
             return Some((*kind, *its_name));
         }
     }
     None
-}
-
-/// The kind with this name, and what lines call it.
-pub fn named(name: &str) -> Option<(Kind, &'static str)> {
-    match named_among(KINDS, name) {
-        Some(found) => Some(found),
-        None => named_among(ALONE, name),
-    }
 }
 
 // Makes gets of the version that the pass pins now, and ends the pin.
@@ -88,7 +73,6 @@ fn make_in_place(
     requires some { 0 < length keys.now }
 {
     match kind {
-        Kind::FirstPut => calls::fill(pass, keys),
         Kind::Put => calls::put(pass, keys, calls, calls::FIRST_NEW_VALUE),
         Kind::PutInBatches(size) => batches::put(alloc, pass, keys, calls, size),
         Kind::RemoveAndPutBack => calls::remove_and_put_back(pass, keys, calls),
@@ -98,12 +82,11 @@ fn make_in_place(
         Kind::Range => reads::range(alloc, pass, keys, calls),
         Kind::Prove => reads::prove(alloc, pass, keys, calls),
         Kind::Verify => reads::verify(alloc, pass, keys, calls),
-        Kind::Migrate => moving::to_and_fro(alloc, pass, calls),
+        Kind::Migrate => calls::migrate(alloc, pass, calls),
     }
 }
 
-/// Makes so many calls of a kind; of first puts one for each key. Returns the pass, and whether
-/// each call went through.
+/// Makes so many calls of a kind. Returns the pass, and whether each call went through.
 pub fn make<'a>(
     alloc: Global,
     mut pass: Pass<'a, Global>,

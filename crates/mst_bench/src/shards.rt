@@ -5,7 +5,7 @@ ghost use Rattle.mst_sharded.specs.Opening.{seats_of};
 
 use crate::calls::{FIRST_NEW_VALUE, picked};
 use crate::keys::{listing, value};
-use crate::timing::tell;
+use crate::stores::tell;
 use crate::words::{Calls, ShardedCalls};
 use crate::{alone, kinds, stores};
 use mst_key::{Format, Key};
@@ -13,7 +13,6 @@ use mst_sharded::{AllSeats, Handle, Sharded, ShardsFault};
 use mst_store::{Pass, Shape};
 use std::alloc::{AllocError, Global};
 use std::io;
-use std::time::Instant;
 
 /// How many shards the map has.
 const SHARDS: usize = 32;
@@ -229,8 +228,8 @@ fn make(
     }
 }
 
-// Puts all keys, and times calls of one kind.
-fn time_handle(
+// Puts all keys, and makes calls of one kind.
+fn make_filled(
     rt: &HostRuntime,
     mut handle: Handle<'_, Global, Global>,
     keys: &[Key],
@@ -238,26 +237,22 @@ fn time_handle(
 ) -> io::Result<()>
     requires some { 0 < length keys.now }
 {
-    let filled = fill(&mut handle, keys);
-    let start = Instant::now(rt)?;
-    let done = make(rt.alloc(), handle, keys, of);
-    tell(rt, of.name, of.keys, of.calls, start, filled && done)
+    let done = fill(&mut handle, keys) && make(rt.alloc(), handle, keys, of);
+    tell(rt, of.name, of.keys, of.calls, done)
 }
 
-// Times calls of one kind of a sharded map.
+// Makes calls of one kind of a sharded map.
 fn run_handle(rt: &HostRuntime, keys: &[Key], of: ShardedCalls) -> io::Result<()>
     requires some { 0 < length keys.now }
     requires few { length keys.now ≤ 65535 }
 {
     let (sharded, seats) = opened(rt.alloc(), keys, of.format)?;
     let handle = one_handle(rt.alloc(), &sharded, seats)?;
-    time_handle(rt, handle, keys, of)
+    make_filled(rt, handle, keys, of)
 }
 
-// Times gets in a store that has the keys of this shard.
-fn run_pass(rt: &HostRuntime, keys: &[Key], of: ShardedCalls) -> io::Result<()>
-    requires few { length keys.now ≤ 65535 }
-{
+// Makes gets in a store that has the keys of this shard.
+fn run_pass(rt: &HostRuntime, keys: &[Key], of: ShardedCalls) -> io::Result<()> {
     if keys.is_empty() {
         return Err(io::ErrorKind::InvalidInput.into());
     }
@@ -268,13 +263,11 @@ fn run_pass(rt: &HostRuntime, keys: &[Key], of: ShardedCalls) -> io::Result<()>
         calls: of.calls / SHARDS as u32,
         format: of.format,
     };
-    alone::run_one(rt, keys, gets)
+    alone::run(rt, keys, gets)
 }
 
-// Times gets in stores of their own, one after the other, each of which has the keys of a shard.
-fn run_passes(rt: &HostRuntime, keys: &[Key], of: ShardedCalls) -> io::Result<()>
-    requires few { length keys.now ≤ 65535 }
-{
+// Makes gets in stores of their own, one after the other, each of which has the keys of a shard.
+fn run_passes(rt: &HostRuntime, keys: &[Key], of: ShardedCalls) -> io::Result<()> {
     let part = keys.len() / SHARDS;
     for shard in 0..SHARDS {
         let Some(its_keys) = keys.get(part * shard..part * (shard + 1)) else {
@@ -320,8 +313,8 @@ fn put_listings(pass: &mut Pass<'_, Global>, bounds: &[Key], calls: u32) -> bool
     true
 }
 
-// Times puts of listings, of which there is one at each bound.
-fn time_listings(
+// Makes puts of listings, of which there is one at each bound.
+fn make_listings(
     rt: &HostRuntime,
     pass: &mut Pass<'_, Global>,
     bounds: &[Key],
@@ -329,27 +322,26 @@ fn time_listings(
 ) -> io::Result<()>
     requires some { 0 < length bounds.now }
 {
-    let start = Instant::now(rt)?;
     let done = fill_listings(pass, bounds) && put_listings(pass, bounds, of.calls);
-    tell(rt, of.name, of.keys, of.calls, start, done)
+    tell(rt, of.name, of.keys, of.calls, done)
 }
 
-// Times them in a store of its own.
+// Makes them in a store of its own.
 fn run_store(rt: &HostRuntime, bounds: &[Key], of: ShardedCalls) -> io::Result<()>
     requires some { 0 < length bounds.now }
 {
     let (store, seats) = stores::opened(rt.alloc(), alone::shape(of.format))?;
     let mut pass = stores::one_pass(rt.alloc(), &store, seats)?;
-    time_listings(rt, &mut pass, bounds, of)
+    make_listings(rt, &mut pass, bounds, of)
 }
 
-// Times puts into a store that has what the directory has.
+// Makes puts into a store that has what the directory has.
 fn run_listings(rt: &HostRuntime, keys: &[Key], of: ShardedCalls) -> io::Result<()> {
     let bounds = bounds(rt.alloc(), keys)?;
     run_store(rt, bounds.as_slice(), of)
 }
 
-/// Puts all keys, which rise, and times calls of one kind.
+/// Puts all keys, which rise, and makes calls of one kind.
 pub fn run(rt: &HostRuntime, keys: &[Key], of: ShardedCalls) -> io::Result<()>
     requires some { 0 < length keys.now }
     requires few { length keys.now ≤ 65535 }

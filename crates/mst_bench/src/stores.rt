@@ -1,4 +1,4 @@
-//! Stores and their passes.
+//! Stores and their passes, and the lines that are printed.
 ghost use Rattle.std.specs.Prelude.{◌≡◌, IfOk};
 
 use mst_store::{OpenFault, Pass, Seats, Shape, Store};
@@ -16,21 +16,7 @@ pub fn opened(alloc: Global, shape: Shape) -> io::Result<(Store<Global>, Seats<G
     }
 }
 
-/// The passes of a store.
-pub fn dealt<'a>(
-    alloc: Global,
-    store: &'a Store<Global>,
-    seats: Seats<Global>,
-) -> io::Result<Vec<Pass<'a, Global>>>
-    requires own { seats ≡ store.now }
-{
-    match store.deal(alloc, seats) {
-        Ok(passes) => Ok(passes),
-        Err((refused, _)) => Err(refused.into()),
-    }
-}
-
-/// One pass of a store.
+/// The one pass of a store.
 pub fn one_pass<'a>(
     alloc: Global,
     store: &'a Store<Global>,
@@ -38,25 +24,9 @@ pub fn one_pass<'a>(
 ) -> io::Result<Pass<'a, Global>>
     requires own { seats ≡ store.now }
 {
-    let mut passes = dealt(alloc, store, seats)?;
-    match passes.pop() {
-        Some(pass) => Ok(pass),
-        None => Err(io::ErrorKind::Other.into()),
-    }
-}
-
-/// Two passes of a store.
-pub fn two_passes<'a>(
-    alloc: Global,
-    store: &'a Store<Global>,
-    seats: Seats<Global>,
-) -> io::Result<(Pass<'a, Global>, Pass<'a, Global>)>
-    requires own { seats ≡ store.now }
-{
-    let mut passes = dealt(alloc, store, seats)?;
-    match (passes.pop(), passes.pop()) {
-        (Some(one), Some(other)) => Ok((one, other)),
-        _ => Err(io::ErrorKind::Other.into()),
+    match store.deal(alloc, seats) {
+        Ok(mut passes) => passes.pop().ok_or_else(|| io::ErrorKind::Other.into()),
+        Err((refused, _)) => Err(refused.into()),
     }
 }
 
@@ -67,4 +37,10 @@ pub fn all_well(done: bool) -> io::Result<()> {
     } else {
         Err(io::ErrorKind::Other.into())
     }
+}
+
+/// Prints the line of calls; an error if one of them was refused.
+pub fn tell(rt: &HostRuntime, call: &str, keys: u32, calls: u32, done: bool) -> io::Result<()> {
+    all_well(done)?;
+    println!(rt; "{call}: {keys} keys, {calls} calls")
 }

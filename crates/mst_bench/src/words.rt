@@ -7,8 +7,6 @@ use std::{env, io};
 /// What the words ask for.
 #[derive(Clone, Copy)]
 pub enum Task {
-    /// Times all kinds of calls, so many of each.
-    TimeAll(u32),
     /// Makes calls of one kind.
     Make(Calls),
     /// Loads empty stores.
@@ -52,14 +50,12 @@ const LOAD: &str = "load";
 
 /// How the program is called.
 pub const HELP: &str = "\
-mst_bench CALLS
-  times so many calls of each kind at 1,000, 10,000 and 30,000 keys
 mst_bench KIND KEYS CALLS [1|2]
-  puts so many keys, makes so many calls of one kind in a store of the format, and times them;
+  puts so many keys, and makes so many calls of one kind in a store of the format;
   tools/counts counts their instructions
 mst_bench load KEYS CALLS [1|2]
-  puts so many keys by one batch into an empty store, so many times, and times each
-KIND is one of: first put, put, put in batches of N (1, 10, 100, 1000 or 10000; each put is a call),
+  puts so many keys by one batch into an empty store, so many times
+KIND is one of: put, put in batches of N (1, 10, 100, 1000 or 10000; each put is a call),
   remove and put back, version, get, get of a pinned version, next, range of 100, prove, verify,
   migrate (to the other format, and back); of a map of 32 shards, or of stores that have its keys:
   get of a handle, get in stores of one shard, put of a listing, snapshot, snapshot with its root,
@@ -114,7 +110,6 @@ fn calls_of(kind: &str, keys: &str, calls: &str, last: Option<&str>) -> Option<T
 // What the words after the program's name ask for.
 fn task_of(words: &[String]) -> Option<Task> {
     match words {
-        [_, count] => number(count.as_str()).map(Task::TimeAll),
         [_, kind, keys, calls] => calls_of(kind.as_str(), keys.as_str(), calls.as_str(), None),
         [_, kind, keys, calls, last] => calls_of(
             kind.as_str(),
