@@ -1,3 +1,2 @@
-//! All of a kind: each short script of three passes, and each growth that is refused.
-mod at_rest;
+//! All of a kind: each growth that is refused.
 mod growths;

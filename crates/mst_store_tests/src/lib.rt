@@ -1,7 +1,7 @@
 //! Tests of the store and of its table over their public calls: opening, reads and writes of
-//! several passes, pins, settling, threads, memory that is refused, and all of a kind: each short
-//! script, each growth that is refused. What a script of the program says too is a transcript
-//! (`tests/transcripts`): room, random calls, all short batches, a deep tree, numbers of passes.
+//! several passes, pins, settling, threads, memory that is refused. What a script of the program
+//! says too is a transcript (`tests/transcripts`): room, random calls, all short batches, a deep
+//! tree, numbers of passes. What a caller in C sees is tested there (`tests/store`).
 #![tactic(auto)]
 
 #[cfg(test)]
