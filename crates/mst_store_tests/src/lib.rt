@@ -23,8 +23,6 @@ mod exhaustive;
 #[cfg(test)]
 mod fixtures;
 #[cfg(test)]
-mod full_loads;
-#[cfg(test)]
 mod memory;
 #[cfg(test)]
 mod migrations;
