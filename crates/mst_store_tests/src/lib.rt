@@ -9,8 +9,6 @@ mod ample;
 #[cfg(test)]
 mod answers;
 #[cfg(test)]
-mod auditing;
-#[cfg(test)]
 mod batches;
 #[cfg(test)]
 mod bouts;
@@ -50,7 +48,5 @@ mod stores;
 mod table;
 #[cfg(test)]
 mod waiting;
-#[cfg(test)]
-mod whole_batches;
 #[cfg(test)]
 mod writes;
