@@ -1,8 +1,12 @@
-/* A malloc that counts, and that refuses its n-th call. It stands before glibc's own. */
+/*
+ * A malloc that counts, and that refuses its n-th call, or what would have too many bytes held at a
+ * time. It stands before glibc's own.
+ */
 #ifndef HEAP_H
 #define HEAP_H
 
 #include <malloc.h>
+#include <stdint.h>
 #include <stdlib.h>
 
 extern void *__libc_malloc(size_t size);
@@ -15,9 +19,12 @@ static long live = 0;   /* how many blocks were taken and not given back while c
 static size_t held = 0; /* how many bytes they have */
 static size_t peak = 0; /* how many they had at most */
 static long left = -1;  /* how many calls more are granted; -1: all */
+static size_t room_for = SIZE_MAX; /* how many bytes may be held; SIZE_MAX: any number */
 
-static int refuses(void) {
+static int refuses(size_t size) {
     asked += counting;
+    if (counting && (held > room_for || size > room_for - held))
+        return 1;
     return counting && left >= 0 && left-- == 0;
 }
 
@@ -27,7 +34,7 @@ static void take(void *at) {
 }
 
 void *malloc(size_t size) {
-    if (refuses())
+    if (refuses(size))
         return NULL;
     void *at = __libc_malloc(size);
     if (counting && at) {
@@ -38,7 +45,7 @@ void *malloc(size_t size) {
 }
 
 void *realloc(void *old, size_t size) {
-    if (refuses())
+    if (refuses(size))
         return NULL;
     size_t before = old ? malloc_usable_size(old) : 0;
     void *at = __libc_realloc(old, size);
@@ -66,6 +73,15 @@ static inline void count_from(long calls) {
 
 static inline void count_on(void) {
     left = -1;
+}
+
+/* From here on no more than this number of bytes may be held in addition. */
+static inline void grant(size_t bytes) {
+    room_for = held + bytes;
+}
+
+static inline void grant_all(void) {
+    room_for = SIZE_MAX;
 }
 
 #endif

@@ -1,7 +1,8 @@
 /*
- * The most memory that a call holds at any time in addition to what the store had before, at 1,000 and at
- * 28,000 keys, the most of which the trees of both formats have room, and of a proof in a node of
- * 1,000 entries. Nothing of it stays: only mst_open takes what mst_close gives back.
+ * The most memory that a call holds at any time in addition to what the store had before, at 1,000
+ * and at 28,000 keys, the most of which the trees of both formats have room, that a read holds at
+ * 60,000, and a proof in a node of 1,000 entries. Nothing of it stays: only mst_open takes what
+ * mst_close gives back.
  */
 #include "heap.h"
 #include "tests.h"
@@ -11,6 +12,7 @@
 #define PROOF 32768
 #define PAIR 256  /* bytes for each pair of a range, while its list grows */
 #define MOVE 512  /* and of a migration, for that list and the tree */
+#define STRIDE 97 /* how many keys are passed over from one proof to the next */
 #define ENTRY 256 /* bytes for each entry of a node that is proved */
 #define EDIT 600  /* bytes for each edit of a batch in the empty map */
 /* For a batch in another map a byte for each row, and the less of two: */
@@ -65,7 +67,7 @@ static int32_t applies(uint32_t edits) {
     return mst_try_apply(&pass, room, length, &place);
 }
 
-/* Whether a call with this argument ends well and holds at most this many bytes more than before. */
+/* Whether a call with this argument ends well and holds at most so many bytes more than before. */
 static void takes(int32_t (*call)(uint32_t), uint32_t argument, size_t most, int stays) {
     size_t before = held;
     peak = held;
@@ -79,11 +81,24 @@ static void puts_key(uint32_t number) {
            == MST_ABSENT);
 }
 
+/* No pair, some and all; and proofs of some of twice as many keys, half of which are not there. */
 static void reads(uint32_t keys) {
+    takes(ranges, 0, 0, 0);
     takes(ranges, 100, 100 * PAIR, 0);
     takes(ranges, keys, keys * (size_t)PAIR, 0);
-    for (uint32_t number = 0; number < 2 * keys; number += keys / 16)
+    for (uint32_t number = 0; number < 2 * keys; number += STRIDE)
         takes(proves, number, PROOF, 0);
+}
+
+/* By a free pass and by a pinned one, of more keys than a migration finds room for. */
+static void reads_of_many(uint32_t keys) {
+    EXPECT(opens(ROWS) == MST_OK);
+    for (uint32_t number = 0; number < keys; number++)
+        puts_key(number);
+    reads(keys);
+    EXPECT(mst_pin(&pass) == MST_OK);
+    reads(keys);
+    EXPECT(mst_close(&pass) == MST_OK && live == 0);
 }
 
 /* Batches of a number of edits in a map of a number of keys, all over it, and side by side. */
@@ -161,6 +176,7 @@ int main(void) {
     count_from(-1);
     calls(1000);
     calls(28000);
+    reads_of_many(60000);
     /* the lists of this many have just grown */
     loads_of(33);
     loads_of(1025);

@@ -3,13 +3,12 @@ ghost use Rattle.std.specs.Prelude.{◌≡◌};
 ghost use Rattle.mst_store.specs.Passes.{IsSamePass};
 ghost use Rattle.mst_store.specs.Settling.{AreAllPasses};
 
-use crate::answers::{gets, has_root, has_version};
+use crate::answers::gets;
 use crate::confirming::{confirm, confirm_at};
-use crate::fixtures::ROOT_OF_BOTH;
 use crate::stores::{dealt, opened};
 use mst_key::{Format, Key, Value};
 use mst_store::{Pass, Shape, meet, settle};
-use std::alloc::{Allocator, Global};
+use std::alloc::Allocator;
 use std::process::Abort;
 
 const LARGER: Shape = Shape {
@@ -81,21 +80,6 @@ pub(crate) fn each_gets_what_all_put<A: Allocator + Copy>(
 }
 
 #[test]
-fn settled_passes_get_what_each_put(rt: HostRuntime) {
-    let (store, seats) = opened(
-        &rt,
-        rt.alloc(),
-        Shape {
-            rows: 9,
-            passes: 2,
-            format: Format::One,
-        },
-    );
-    let mut passes = dealt(&rt, rt.alloc(), &store, seats);
-    each_gets_what_all_put(&rt, &mut passes, &[1, 2]);
-}
-
-#[test]
 fn passes_settle_in_any_order(rt: HostRuntime) {
     let (store, seats) = opened(&rt, rt.alloc(), LARGER);
     let mut passes = dealt(&rt, rt.alloc(), &store, seats);
@@ -125,53 +109,4 @@ fn passes_that_met_get_what_both_put(rt: HostRuntime) {
     assert!(rt; passes.len() == 3);
     let (front, back) = passes.split_at_mut(1);
     both_get_both(&rt, &mut front[0], &mut back[1]);
-}
-
-// Puts abc by the first pass, and a by another.
-fn adds_its_own(pass: &mut Pass<Global>) -> bool
-    ensures same { IsSamePass pass.old pass.new }
-{
-    let (key, value): (&[u8], &[u8]) = if pass.number() == 1 {
-        (b"abc", b"x")
-    } else {
-        (b"a", b"1")
-    };
-    adds(pass, key, value)
-}
-
-// The first pass puts abc and the other a.
-fn each_puts_its_pair(rt: &impl Abort, passes: &mut [Pass<Global>])
-    requires whole { AreAllPasses passes.old }
-    ensures whole { AreAllPasses passes.new }
-{
-    for pass in passes.iter_mut() {
-        confirm(rt, adds_its_own(pass), "a put");
-    }
-}
-
-// The first pass puts abc and the other a. Settled, both have the version and the root of both.
-fn all_have_the_root_of_both(rt: &impl Abort, passes: &mut [Pass<Global>])
-    requires whole { AreAllPasses passes.old }
-{
-    each_puts_its_pair(rt, passes);
-    settle_free(passes);
-    for pass in passes.iter_mut() {
-        let right = has_version(pass, 2) && has_root(pass, &ROOT_OF_BOTH);
-        confirm(rt, right, "both pairs");
-    }
-}
-
-#[test]
-fn settled_passes_have_one_version_and_root(rt: HostRuntime) {
-    let (store, seats) = opened(
-        &rt,
-        rt.alloc(),
-        Shape {
-            rows: 9,
-            passes: 2,
-            format: Format::One,
-        },
-    );
-    let mut passes = dealt(&rt, rt.alloc(), &store, seats);
-    all_have_the_root_of_both(&rt, &mut passes);
 }

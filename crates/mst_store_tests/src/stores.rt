@@ -4,8 +4,8 @@ ghost use Rattle.mst_store.specs.Passes.{new_passes};
 
 use crate::confirming::confirm;
 use linked_list_allocator::LocalHeap;
-use mst_store::{Format, Pass, Pinned, Seats, Shape, Store};
-use std::alloc::{Allocator, Global};
+use mst_store::{Format, Pass, Seats, Shape, Store};
+use std::alloc::Allocator;
 use std::process::Abort;
 
 pub(crate) const SMALL: Shape = Shape {
@@ -93,11 +93,4 @@ pub(crate) fn both_passes<'a, A: Allocator + Copy>(
         (Some(second), Some(first)) => (first, second),
         _ => panic!(rt; "two passes"),
     }
-}
-
-/// A pass, free or pinned.
-#[derive(Drop)]
-pub(crate) enum Seat<'a> {
-    Free(Pass<'a, Global>),
-    Held(Pinned<'a, Global>),
 }

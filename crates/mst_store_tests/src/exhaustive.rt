@@ -1,2 +1,0 @@
-//! All of a kind: each growth that is refused.
-mod growths;
