@@ -1,6 +1,6 @@
 """Cases whose texts are computed: by other programs for nodes and proofs (vectors/nodes.py, the
 verifier in Python), at random, from what an earlier run has answered, or by a plain model of a store
-(modelled.py, longer.py)."""
+(modelled.py, longer.py) or of a sharded map (sharded.py)."""
 import hashlib
 import itertools
 import os
@@ -10,6 +10,7 @@ import sys
 
 import longer
 import modelled
+import sharded
 from transcript import Case
 
 HERE = os.path.dirname(os.path.abspath(__file__))
@@ -214,3 +215,4 @@ def cases(run):
     yield from shards_next_to_a_list()
     yield from modelled.cases()
     yield from longer.cases()
+    yield from sharded.cases()

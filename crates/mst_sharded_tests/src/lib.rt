@@ -1,6 +1,7 @@
-//! Tests of sharded maps over their public calls: opening, reads and writes beside a plain list,
-//! batches of edits, migrations, snapshots with their proofs, on threads beside writers too,
-//! handles beside a share of their map, and each growth that is refused.
+//! Tests of what Rattle alone sees of sharded maps: opening, maps of one shard, directories and
+//! versions of snapshots, handles that wait, on threads beside snapshots, handles beside a share of
+//! their map, and each growth that is refused. All else is tested of handles by transcripts
+//! (`tests/transcripts/sharded.py`).
 #![tactic(auto)]
 
 #[cfg(test)]

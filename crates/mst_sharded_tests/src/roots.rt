@@ -1,55 +1,8 @@
-//! Root digests and directories of snapshots.
-use crate::confirming::confirm;
+//! Root digests of snapshots without memory, and directories of shards in two formats.
 use crate::maps::{SHAPE, heap_of, numbered, one_dealt, opened};
-use crate::plain::{edits_of, value};
-use mst_sharded::{DirectoryFault, Handle};
-use std::alloc::Global;
-use std::process::Abort;
-
-// Makes edits of so many numbers in batches of so many, with a root digest after each, and returns
-// the last one.
-fn root_after<'a>(
-    rt: &(impl Abort + AllocGlobal),
-    handle: Handle<'a, Global, Global>,
-    count: u32,
-    by: u32,
-) -> [u8; 32] {
-    let mut handle = handle;
-    let mut root = [0; 32];
-    for batch in 0..count / by.max(1) {
-        let edits = edits_of(rt, batch.wrapping_mul(by), by);
-        confirm(
-            rt,
-            handle.try_apply(rt.alloc(), edits.as_slice()) == Ok(()),
-            "the batch is made",
-        );
-        let mut snapshot = handle.snapshot();
-        let Ok(digest) = snapshot.root(rt.alloc()) else {
-            panic!(rt; "no root")
-        };
-        root = digest;
-        handle = snapshot.release();
-    }
-    root
-}
-
-// The root digest of a map of so many shards, after the same edits.
-fn root_in(rt: &(impl Abort + AllocGlobal), shards: usize, by: u32) -> [u8; 32] {
-    let (sharded, seats) = opened(rt, shards, SHAPE);
-    let handle = one_dealt(rt, &sharded, seats);
-    root_after(rt, handle, 96, by)
-}
-
-#[test]
-fn a_directory_that_is_kept_is_that_of_one_batch(rt: HostRuntime) {
-    assert!(rt; root_in(&rt, 7, 8) == root_in(&rt, 7, 96));
-    assert!(rt; root_in(&rt, 1, 8) == root_in(&rt, 1, 96));
-}
-
-#[test]
-fn other_splits_have_another_root(rt: HostRuntime) {
-    assert!(rt; root_in(&rt, 7, 96) != root_in(&rt, 2, 96));
-}
+use crate::plain::value;
+use mst_sharded::DirectoryFault;
+use mst_store::{Format, Shape};
 
 #[test]
 fn a_snapshot_without_changes_takes_no_memory(rt: HostRuntime) {
@@ -64,4 +17,18 @@ fn a_snapshot_without_changes_takes_no_memory(rt: HostRuntime) {
     assert!(rt; snapshot.root(&heap) == root);
     let mut again = snapshot.release().snapshot();
     assert!(rt; again.root(&heap) == root);
+}
+
+// The second shard has no rows for a second tree, so the first one alone is migrated.
+#[test]
+fn shards_in_two_formats_have_no_directory(rt: HostRuntime) {
+    let (sharded, seats) = opened(&rt, 2, Shape { rows: 5, ..SHAPE });
+    let mut handle = one_dealt(&rt, &sharded, seats);
+    let one = value(&rt, 1);
+    assert!(rt; handle.try_put(&numbered(&rt, 64), &one).is_ok());
+    assert!(rt; handle.try_put(&numbered(&rt, 65), &one).is_ok());
+    assert!(rt; handle.try_migrate(rt.alloc(), Format::Two).is_err());
+    let mut snapshot = handle.snapshot();
+    assert!(rt; snapshot.format().is_none());
+    assert!(rt; snapshot.directory(rt.alloc()).err() == Some(DirectoryFault::Mixed));
 }

@@ -1,75 +1,13 @@
-//! Snapshots beside a plain list: reads across shards, root digests, proofs and directories.
-use crate::confirming::confirm;
+//! Snapshots of maps of one shard to 64: proofs, directories and versions, through a migration.
+//! What else a snapshot reads, transcripts show, of two shards on (`tests/transcripts/sharded.py`).
+use crate::confirming::confirm_at;
 use crate::maps::{SHAPE, numbered, one_dealt, opened};
-use crate::plain::{NOTHING, Plain, after, edits_of, is_left};
-use mst_key::Key;
-use mst_sharded::{DirectoryFault, Handle, Snapshot};
+use crate::plain::{NOTHING, Plain, after, agrees, edits_of, is_left};
+use mst_sharded::{Handle, Snapshot};
 use mst_sharded_proof::{audit_directory, verify_sharded};
-use mst_store::{Format, Shape};
+use mst_store::Format;
 use std::alloc::Global;
 use std::process::Abort;
-
-// Whether the snapshot gets at each key what the plain list has.
-fn gets(rt: &impl Abort, snapshot: &mut Snapshot<'_, Global, Global>, plain: &Plain) -> bool {
-    for (number, left) in plain.iter().enumerate() {
-        if !is_left(&snapshot.get(&numbered(rt, number)), *left) {
-            return false;
-        }
-    }
-    true
-}
-
-// Whether its pairs, one after another, are those of the plain list.
-fn steps(rt: &impl Abort, snapshot: &mut Snapshot<'_, Global, Global>, plain: &Plain) -> bool {
-    let mut last: Option<Key> = None;
-    for (number, left) in plain.iter().enumerate() {
-        if *left != 0 {
-            match snapshot.next(last.as_ref()) {
-                Some((key, value)) => {
-                    if key != numbered(rt, number) || !is_left(&Some(value), *left) {
-                        return false;
-                    }
-                    last = Some(key);
-                }
-                None => return false,
-            }
-        }
-    }
-    snapshot.next(last.as_ref()).is_none()
-}
-
-// How many keys from one number on and below another the plain list has, at most a limit.
-fn count_between(plain: &Plain, from: usize, to: usize, limit: usize) -> usize {
-    let mut count = 0usize;
-    for (number, left) in plain.iter().enumerate() {
-        if *left != 0 && from <= number && number < to && count < limit {
-            count = count.saturating_add(1);
-        }
-    }
-    count
-}
-
-// Whether a range lists as many pairs as the plain list has, in the order of their keys.
-fn ranges(
-    rt: &(impl Abort + AllocGlobal),
-    snapshot: &mut Snapshot<'_, Global, Global>,
-    plain: &Plain,
-    bounds: (usize, usize),
-    limit: usize,
-) -> bool {
-    let (from, to) = (numbered(rt, bounds.0), numbered(rt, bounds.1));
-    let Ok(found) = snapshot.range(rt.alloc(), Some(&from), Some(&to), limit) else {
-        return false;
-    };
-    let mut last: Option<&Key> = None;
-    for pair in &found {
-        if pair.0 < from || pair.0 >= to || last.is_some_and(|key| *key >= pair.0) {
-            return false;
-        }
-        last = Some(&pair.0);
-    }
-    found.len() == count_between(plain, bounds.0, bounds.1, limit)
-}
 
 // Whether the proof of each key shows what the plain list has.
 fn proves(
@@ -84,31 +22,14 @@ fn proves(
         let Ok(proof) = snapshot.prove(rt.alloc(), &key) else {
             return false;
         };
-        match verify_sharded(format, root, &key, proof.as_slice()) {
-            Ok(found) => {
-                if !is_left(&found, *left) {
-                    return false;
-                }
-            }
-            Err(_) => return false,
+        let Ok(found) = verify_sharded(format, root, &key, proof.as_slice()) else {
+            return false;
+        };
+        if !is_left(&found, *left) || !is_left(&snapshot.get(&key), *left) {
+            return false;
         }
     }
     true
-}
-
-// Compares the reads of a snapshot with the plain list.
-fn read_all(
-    rt: &(impl Abort + AllocGlobal),
-    snapshot: &mut Snapshot<'_, Global, Global>,
-    plain: &Plain,
-) {
-    assert!(rt; gets(rt, snapshot, plain));
-    assert!(rt; steps(rt, snapshot, plain));
-    assert!(rt; ranges(rt, snapshot, plain, (0, 127), 200));
-    assert!(rt; ranges(rt, snapshot, plain, (17, 101), 1));
-    assert!(rt; ranges(rt, snapshot, plain, (63, 64), 5));
-    assert!(rt; ranges(rt, snapshot, plain, (64, 32), 5));
-    assert!(rt; ranges(rt, snapshot, plain, (3, 120), 40));
 }
 
 /// The root digest of a snapshot.
@@ -122,7 +43,7 @@ pub(crate) fn digest_of(
     root
 }
 
-// Whether the directory passes an audit.
+// Whether the directory lists each shard, and passes an audit.
 fn audits(
     rt: &(impl Abort + AllocGlobal),
     snapshot: &mut Snapshot<'_, Global, Global>,
@@ -132,125 +53,45 @@ fn audits(
     let Ok(pairs) = snapshot.directory(rt.alloc()) else {
         return false;
     };
-    audit_directory(format, root, pairs.as_slice()) == Ok(())
+    pairs.len() == snapshot.shards() && audit_directory(format, root, pairs.as_slice()) == Ok(())
 }
 
-// The root digest of a snapshot whose proofs show the plain list, and whose directory passes an
-// audit.
-fn root_of(
-    rt: &(impl Abort + AllocGlobal),
-    snapshot: &mut Snapshot<'_, Global, Global>,
-    plain: &Plain,
-    format: Format,
-) -> [u8; 32] {
-    let root = digest_of(rt, snapshot);
-    assert!(rt; snapshot.format() == Some(format));
-    assert!(rt; proves(rt, snapshot, plain, format, &root));
-    assert!(rt; audits(rt, snapshot, format, &root));
-    root
-}
-
-// Compares a snapshot of the handle with the plain list, and returns its root digest.
-fn looked<'a>(
+// Whether a snapshot of the handle is of this map, in this format, and so many changes old.
+fn looks<'a>(
     rt: &(impl Abort + AllocGlobal),
     handle: Handle<'a, Global, Global>,
     plain: &Plain,
     format: Format,
-) -> (Handle<'a, Global, Global>, [u8; 32]) {
+    changes: u64,
+) -> (Handle<'a, Global, Global>, bool) {
     let mut snapshot = handle.snapshot();
-    read_all(rt, &mut snapshot, plain);
-    let root = root_of(rt, &mut snapshot, plain, format);
-    (snapshot.release(), root)
-}
-
-// Makes a batch of edits.
-fn changed<'a>(
-    rt: &(impl Abort + AllocGlobal),
-    mut handle: Handle<'a, Global, Global>,
-    from: u32,
-    count: u32,
-) -> Handle<'a, Global, Global> {
-    let edits = edits_of(rt, from, count);
-    assert!(rt; handle.try_apply(rt.alloc(), edits.as_slice()) == Ok(()));
-    handle
-}
-
-// Migrates all shards.
-fn migrated<'a>(
-    rt: &(impl Abort + AllocGlobal),
-    mut handle: Handle<'a, Global, Global>,
-    to: Format,
-) -> Handle<'a, Global, Global> {
-    assert!(rt; handle.try_migrate(rt.alloc(), to).is_ok());
-    handle
-}
-
-// Snapshots of a map of so many shards, one after another, through a migration.
-fn snapshots_in(rt: &(impl Abort + AllocGlobal), shards: usize) {
-    let (sharded, seats) = opened(rt, shards, SHAPE);
-    let handle = one_dealt(rt, &sharded, seats);
-    let (handle, empty) = looked(rt, handle, &NOTHING, Format::One);
-    let plain = after(&NOTHING, 0, 150);
-    let (handle, first) = looked(rt, changed(rt, handle, 0, 150), &plain, Format::One);
-    // one edit more changes one shard
-    let plain = after(&plain, 150, 1);
-    let (handle, second) = looked(rt, changed(rt, handle, 150, 1), &plain, Format::One);
-    assert!(rt; empty != first && first != second);
-    let (handle, third) = looked(rt, migrated(rt, handle, Format::Two), &plain, Format::Two);
-    assert!(rt; second != third);
-    let (_handle, last) = looked(rt, migrated(rt, handle, Format::One), &plain, Format::One);
-    assert!(rt; last == second);
+    let Ok(root) = snapshot.root(rt.alloc()) else {
+        return (snapshot.release(), false);
+    };
+    let shards = snapshot.shards();
+    let right = snapshot.format() == Some(format)
+        && proves(rt, &mut snapshot, plain, format, &root)
+        && audits(rt, &mut snapshot, format, &root)
+        && snapshot.version_at(0) == Some(changes)
+        && snapshot.version_at(shards).is_none();
+    (snapshot.release(), right)
 }
 
 #[test]
-fn snapshots_of_one_shard(rt: HostRuntime) {
-    snapshots_in(&rt, 1);
-}
-
-#[test]
-fn snapshots_of_two_shards(rt: HostRuntime) {
-    snapshots_in(&rt, 2);
-}
-
-#[test]
-fn snapshots_of_seven_shards(rt: HostRuntime) {
-    snapshots_in(&rt, 7);
-}
-
-#[test]
-fn snapshots_of_64_shards(rt: HostRuntime) {
-    snapshots_in(&rt, 64);
-}
-
-// Puts too many keys into the second of two shards for it to be migrated in its rows.
-fn fill_second(rt: &impl Abort, handle: &mut Handle<'_, Global, Global>) {
-    for number in 64..104 {
-        let value = crate::plain::value(rt, 1);
-        confirm(
-            rt,
-            handle.try_put(&numbered(rt, number), &value).is_ok(),
-            "the pair is put",
-        );
+fn snapshots_are_proved_before_and_after_a_migration(rt: HostRuntime) {
+    for shards in [1usize, 2, 7, 64] {
+        let (sharded, seats) = opened(&rt, shards, SHAPE);
+        let handle = one_dealt(&rt, &sharded, seats);
+        confirm_at(&rt, handle.shards() == shards, shards);
+        let (mut handle, empty) = looks(&rt, handle, &NOTHING, Format::One, 0);
+        let edits = edits_of(&rt, 0, 150);
+        let applied = handle.try_apply(rt.alloc(), edits.as_slice());
+        confirm_at(&rt, empty && applied == Ok(()), shards);
+        let plain = after(&NOTHING, 0, 150);
+        confirm_at(&rt, agrees(&rt, &mut handle, &plain), shards);
+        let (mut handle, first) = looks(&rt, handle, &plain, Format::One, 1);
+        let moved = handle.try_migrate(rt.alloc(), Format::Two).is_ok();
+        let (_handle, second) = looks(&rt, handle, &plain, Format::Two, 2);
+        confirm_at(&rt, first && moved && second, shards);
     }
-}
-
-// Asks a snapshot of shards in two formats for all that needs one.
-fn is_mixed(rt: &(impl Abort + AllocGlobal), snapshot: &mut Snapshot<'_, Global, Global>) {
-    assert!(rt; snapshot.format().is_none());
-    assert!(rt; snapshot.root(rt.alloc()) == Err(DirectoryFault::Mixed));
-    let key = numbered(rt, 70);
-    assert!(rt; snapshot.get(&key).is_some());
-    assert!(rt; snapshot.prove(rt.alloc(), &key).err() == Some(DirectoryFault::Mixed));
-    assert!(rt; snapshot.directory(rt.alloc()).err() == Some(DirectoryFault::Mixed));
-}
-
-#[test]
-fn shards_in_two_formats_have_no_root_digest(rt: HostRuntime) {
-    let shape = Shape { rows: 64, ..SHAPE };
-    let (sharded, seats) = opened(&rt, 2, shape);
-    let mut handle = one_dealt(&rt, &sharded, seats);
-    fill_second(&rt, &mut handle);
-    assert!(rt; handle.try_migrate(rt.alloc(), Format::Two).is_err());
-    let mut snapshot = handle.snapshot();
-    is_mixed(&rt, &mut snapshot);
 }
