@@ -24,11 +24,11 @@ class Node:
         return Node(self.layer, self.keys, self.values, self.children, self.format)
 
     def text(self):
-        text = bytes([self.format, self.layer]) + len(self.keys).to_bytes(2, "big")
-        text += child_text(self.children[0])
+        parts = [bytes([self.format, self.layer]) + len(self.keys).to_bytes(2, "big")]
+        parts.append(child_text(self.children[0]))
         for key, value, child in zip(self.keys, self.values, self.children[1:]):
-            text += bytes([len(key)]) + key + self.held_text(value) + child_text(child)
-        return text
+            parts.append(bytes([len(key)]) + key + self.held_text(value) + child_text(child))
+        return b"".join(parts)
 
     def held_text(self, value):
         return bytes([len(value)]) + value if self.format == 1 else sha256(value).digest()

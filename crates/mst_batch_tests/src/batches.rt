@@ -1,4 +1,5 @@
-//! Batches by worked rows, against edits made one by one, and with each growth refused.
+//! Batches by worked rows, and with each growth refused. Transcripts (`tests/transcripts`) have all
+//! batches of up to three edits.
 use crate::confirming::{confirm, confirm_at};
 use linked_list_allocator::LocalHeap;
 use mst_batch::{edited_pairs, normal_edits};
@@ -8,7 +9,7 @@ use std::alloc::{Allocator, Global};
 use std::process::Abort;
 
 /// An edit as it is spelt: its key, and the value that it puts, or none if it removes the key.
-pub(crate) type Spelt = (&'static str, Option<&'static str>);
+type Spelt = (&'static str, Option<&'static str>);
 
 /// A batch by hand: the pairs before it, its edits, what is left of them, and the pairs after it.
 struct Worked {
@@ -68,14 +69,14 @@ pub(crate) fn value_of(rt: &impl Abort, text: &str) -> Value {
     Value::new(text.as_bytes()).expect(rt, "at most 64 bytes")
 }
 
-pub(crate) fn edit_of(rt: &impl Abort, spelt: &Spelt) -> Edit {
+fn edit_of(rt: &impl Abort, spelt: &Spelt) -> Edit {
     match spelt.1 {
         Some(value) => Edit::Put(key_of(rt, spelt.0), value_of(rt, value)),
         None => Edit::Remove(key_of(rt, spelt.0)),
     }
 }
 
-pub(crate) fn edits_of(rt: &impl Abort, alloc: Global, spelt: &[Spelt]) -> Vec<Edit> {
+fn edits_of(rt: &impl Abort, alloc: Global, spelt: &[Spelt]) -> Vec<Edit> {
     let mut edits = Vec::new(alloc);
     for one in spelt {
         edits.push(edit_of(rt, one)).expect(rt, "memory");
@@ -83,11 +84,7 @@ pub(crate) fn edits_of(rt: &impl Abort, alloc: Global, spelt: &[Spelt]) -> Vec<E
     edits
 }
 
-pub(crate) fn pairs_of(
-    rt: &impl Abort,
-    alloc: Global,
-    spelt: &[(&str, &str)],
-) -> Vec<(Key, Value)> {
+fn pairs_of(rt: &impl Abort, alloc: Global, spelt: &[(&str, &str)]) -> Vec<(Key, Value)> {
     let mut pairs = Vec::new(alloc);
     for (key, value) in spelt {
         let pair = (key_of(rt, key), value_of(rt, value));
@@ -137,97 +134,6 @@ fn holds(rt: &impl Abort, alloc: Global, batch: &Worked) -> bool {
 fn worked_batches(rt: HostRuntime) {
     for (place, batch) in BATCHES.iter().enumerate() {
         confirm_at(&rt, holds(&rt, rt.alloc(), batch), place);
-    }
-}
-
-/// The edits of which all batches are tried.
-const EDITS: [Spelt; 9] = [
-    ("a", Some("x")),
-    ("a", Some("y")),
-    ("a", None),
-    ("b", Some("x")),
-    ("b", Some("y")),
-    ("b", None),
-    ("c", Some("x")),
-    ("c", Some("y")),
-    ("c", None),
-];
-
-/// The maps before them.
-const MAPS: [&[(&str, &str)]; 8] = [
-    &[],
-    &[("a", "x")],
-    &[("b", "x")],
-    &[("c", "x")],
-    &[("a", "x"), ("b", "x")],
-    &[("a", "x"), ("c", "x")],
-    &[("b", "x"), ("c", "x")],
-    &[("a", "x"), ("b", "x"), ("c", "x")],
-];
-
-/// The batch of a number below 1,000: an edit for each digit but 0.
-fn numbered(rt: &impl Abort, alloc: Global, number: usize) -> Vec<Edit> {
-    let mut edits = Vec::new(alloc);
-    for digit in [number / 100 % 10, number / 10 % 10, number % 10] {
-        if let Some(place) = digit.checked_sub(1) {
-            edits.push(edit_of(rt, &EDITS[place])).expect(rt, "memory");
-        }
-    }
-    edits
-}
-
-/// The value that the last edit of a key leaves it, or the one that it has before them.
-fn last_value<'e>(pairs: &'e [(Key, Value)], edits: &'e [Edit], key: &Key) -> Option<&'e Value> {
-    for edit in edits.iter().rev() {
-        if edit.key() == key {
-            return match edit {
-                Edit::Put(_, value) => Some(value),
-                Edit::Remove(_) => None,
-            };
-        }
-    }
-    for pair in pairs {
-        if pair.0 == *key {
-            return Some(&pair.1);
-        }
-    }
-    None
-}
-
-/// The pairs of the keys of all batches after these edits.
-fn looked_up(
-    rt: &impl Abort,
-    alloc: Global,
-    pairs: &[(Key, Value)],
-    edits: &[Edit],
-) -> Vec<(Key, Value)> {
-    let mut after = Vec::new(alloc);
-    for text in ["a", "b", "c"] {
-        let key = key_of(rt, text);
-        if let Some(value) = last_value(pairs, edits, &key) {
-            after.push((key, value.copy())).expect(rt, "memory");
-        }
-    }
-    after
-}
-
-/// Whether all batches of up to three edits leave a map what its look-ups say.
-fn all_hold(rt: &impl Abort, alloc: Global, map: &[(&str, &str)]) -> bool {
-    let pairs = pairs_of(rt, alloc, map);
-    for number in 0..1000usize {
-        let edits = numbered(rt, alloc, number);
-        let after = looked_up(rt, alloc, &pairs, &edits);
-        if !are_after(alloc, &pairs, &edits, &after).expect(rt, "memory") {
-            return false;
-        }
-    }
-    true
-}
-
-#[test]
-fn all_batches_of_three_edits(rt: HostRuntime) {
-    for map in MAPS {
-        confirm_at(&rt, all_hold(&rt, rt.alloc(), map), map.len());
     }
 }
 

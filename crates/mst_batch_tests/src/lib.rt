@@ -1,12 +1,10 @@
-//! Tests of batches over plain rows: by worked rows, against edits made one by one, and with each
-//! growth refused; plans that are carried out; batches in the empty map and batches of one edit.
+//! Tests of batches: the pairs after them, by worked rows and with each growth refused; plans that
+//! are carried out over plain rows.
 #![tactic(auto)]
 
 #[cfg(test)]
 mod batches;
 #[cfg(test)]
 mod confirming;
-#[cfg(test)]
-mod loads;
 #[cfg(test)]
 mod plans;
