@@ -115,6 +115,45 @@ static size_t ten_edits(uint8_t *edits, int are_puts) {
     return mst_edit_put(edits, length, TEXT("key"), TEXT("value"));
 }
 
+/* Whether the map has this value of one byte at "1", or none, and this pair behind it. */
+static void has_behind(mst_pass *pass, int value, const char *next, char next_value) {
+    uint8_t room[64], key[32];
+    size_t length = 0;
+    int32_t told = mst_get(pass, TEXT("1"), room, sizeof room);
+    EXPECT(value < 0 ? told == MST_ABSENT : told == 1 && room[0] == value);
+    EXPECT(mst_next(pass, TEXT("1"), key, 32, &length, room, 64) == 1 && room[0] == next_value);
+    EXPECT(length == strlen(next) && memcmp(key, next, length) == 0);
+}
+
+/*
+ * Changes of nodes in two layers, with room and without. The key 39 stands above 1 and a, so its
+ * put splits their node, and its removal joins the two. Five keys in one node leave six of 12 rows,
+ * and a sixth key needs seven.
+ */
+static void changes_without_memory(void) {
+    mst_pass pass = MST_PASS_CLOSED;
+    uint8_t room[64];
+    EXPECT(mst_open(1, 12, &pass, 1) == MST_OK);
+    asked = 0;
+    EXPECT(mst_try_put(&pass, TEXT("1"), TEXT("x"), room, 64) == MST_ABSENT);
+    EXPECT(mst_try_put(&pass, TEXT("a"), TEXT("z"), room, 64) == MST_ABSENT);
+    EXPECT(mst_try_put(&pass, TEXT("39"), TEXT("y"), room, 64) == MST_ABSENT);
+    has_behind(&pass, 'x', "39", 'y');
+    EXPECT(mst_try_put(&pass, TEXT("1"), TEXT("z"), room, 64) == 1 && room[0] == 'x');
+    EXPECT(mst_pin(&pass) == MST_OK);
+    has_behind(&pass, 'z', "39", 'y');
+    EXPECT(mst_unpin(&pass) == MST_OK);
+    EXPECT(mst_try_remove(&pass, TEXT("39"), room, 64) == 1 && room[0] == 'y');
+    EXPECT(mst_try_remove(&pass, TEXT("39"), room, 64) == MST_ABSENT);
+    EXPECT(mst_try_remove(&pass, TEXT("1"), room, 64) == 1 && room[0] == 'z');
+    has_behind(&pass, -1, "a", 'z');
+    for (uint8_t key = 'b'; key <= 'd'; key++)
+        EXPECT(mst_try_put(&pass, &key, 1, TEXT(""), room, 64) == MST_ABSENT);
+    EXPECT(mst_try_put(&pass, TEXT("e"), TEXT(""), room, 64) == MST_ABSENT);
+    EXPECT(mst_try_put(&pass, TEXT("g"), TEXT(""), room, 64) == MST_NO_FREE_ROWS);
+    EXPECT(asked == 0 && mst_close(&pass) == MST_OK);
+}
+
 /* Whether these calls ask for no memory, not even to give it back at once. */
 static void without_memory(mst_pass *pass) {
     uint8_t room[64], key[32] = {0};
@@ -158,6 +197,7 @@ int main(void) {
     long made = batches(&pass, edits, ten_edits(edits, 1));
     EXPECT(made > 0 && batches(&pass, edits, ten_edits(edits, 0)) > 0);
     without_memory(&pass);
+    changes_without_memory();
     EXPECT(mst_close(&pass) == MST_OK);
     counting = 0;
     EXPECT(live == 0);

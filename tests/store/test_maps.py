@@ -114,6 +114,13 @@ class Maps(unittest.TestCase):
         for count in range(2_001):
             self.finds_all(pairs[:count], 4_000)
 
+    def test_roots_of_numbers(self):
+        for count in (*range(301), 1_000, 1_001, 4_095, 4_096, 8_191, 16_385, 30_000, 30_001,
+                      32_768, 60_000):
+            keys = [number.to_bytes(3, "big") for number in range(count)]
+            pairs = [(key, key[1:]) for key in keys]
+            self.assertEqual(loaded(pairs).root(), tree_of(pairs)[0])
+
     def test_large_maps(self):
         for count, seed in ((4_096, 5), (30_001, 6), (60_000, 7)):
             pairs = longer.generated(count, seed)

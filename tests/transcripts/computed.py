@@ -9,8 +9,10 @@ import re
 import sys
 
 import longer
+import model
 import modelled
 import sharded
+from model import Version
 from transcript import Case
 
 HERE = os.path.dirname(os.path.abspath(__file__))
@@ -105,7 +107,68 @@ def a_large_node():
     yield case(title, f"mst verify {root} 0000", proof, f"present {'00' * 64}\n")
 
 
+# Keys, each with its layer in format 1.
+LAYERS = {b"1": 0, b"a": 0, b"abc": 0, b"0": 0, b"hello": 0, b"merkle search tree keys 32 bytes": 0,
+          b"39": 1, b"49": 1, b"286": 2, b"671": 2, b"886": 3, b"1039": 3, b"88484": 4,
+          b"172608": 4, b"596138": 5, b"665782": 7}
+
+
+def layers_of_keys():
+    """The node of one key says its layer."""
+    for key, layer in LAYERS.items():
+        assert nodes.layer_of(key) == layer
+        for format in (1, 2):
+            node = nodes.Node(nodes.layer_of(key, format), [key], [b""], [None] * 2, format)
+            script = f"1 put {key.hex()} -\n1 node\n"
+            answers = f"none\n{node.text().hex()}\n"
+            yield case("layers of keys", f"mst run --format {format}", script, answers)
+
+
+# Keys that rise: a key is below each that it begins, and bytes have no sign.
+RISING = [b"\0", b"\0\0", b"a", b"ab", b"b", b"\x7f\xff", b"\x80"]
+
+
+def rising_keys():
+    """Behind each key the next one follows, in whatever order they were put."""
+    for order in (RISING, RISING[::-1]):
+        script = "".join(f"1 put {key.hex()} -\n" for key in order)
+        answers = "none\n" * len(order)
+        for key, above in zip([b"", *RISING], [*RISING, None]):
+            script += f"1 next {model.spelt(key)}\n"
+            answers += f"pair {above.hex()} -\n" if above else "none\n"
+        yield case("keys that rise", "mst run", script, answers)
+
+
+def the_largest_node():
+    """A map of one node that takes all rows of the largest store: one for each pair, and a head."""
+    keys = [number.to_bytes(3, "big") for number in range(69_815)]
+    pairs = [(key, key[2:] * 64) for key in keys if nodes.layer_of(key) == 0]
+    assert len(pairs) == 65_534
+    version = Version(pairs, 1)
+    for key, value in (pairs[len(pairs) // 2], (b"\xff", None)):
+        yield proved("the largest node", version, key, value)
+
+
 # ---- proofs
+
+
+def proved(title, version, key, value):
+    """The proof of a map shows this value of the key, or none."""
+    said = "absent" if value is None else f"present {model.spelt(value)}"
+    line = f"mst verify --format {version.format} {version.root.hex()} {key.hex()}"
+    return case(title, line, version.proof(key).hex(), said + "\n")
+
+
+def proofs_of_maps():
+    """Maps of the first numbers in three bytes, each number with its two low bytes, asked for
+    numbers, two of which they lack, and for their four bytes."""
+    for format, (count, step) in itertools.product((1, 2), ((0, 1), (1, 1), (17, 1), (1_000, 251))):
+        numbers = [number.to_bytes(3, "big") for number in range(count)]
+        version = Version([(key, key[1:]) for key in numbers], format)
+        for number in range(0, count + 2, step):
+            key = number.to_bytes(3, "big")
+            yield proved("proofs of maps", version, key, key[1:] if number < count else None)
+            yield proved("proofs of maps", version, b"\0" + key, None)
 
 
 def each_byte_counts():
@@ -209,6 +272,10 @@ def cases(run):
     yield from options_of_a_load()
     yield from all_passes_pin()
     yield from a_large_node()
+    yield from the_largest_node()
+    yield from layers_of_keys()
+    yield from rising_keys()
+    yield from proofs_of_maps()
     yield from each_byte_counts()
     yield from proofs_of_shards(run)
     yield from shards_next_to_a_store(run)

@@ -157,7 +157,7 @@ def reads(script, keys_apart, places_apart):
 
 def whole_maps():
     for count, keys_apart, places_apart in ((0, 1, 1), (1, 1, 1), (2, 1, 1), (17, 1, 1),
-                                            (1_000, 1, 157)):
+                                            (1_000, 1, 157), (20_000, 997, 7_919)):
         script = planted(generated(count, 1 + count), 65_535, 1)
         reads(script, keys_apart, places_apart)
         yield script.case(f"reads of {count} pairs")

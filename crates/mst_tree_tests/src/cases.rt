@@ -3,11 +3,8 @@
 //! A table that is a constant costs its test's proof next to nothing, and the runner is proved
 //! once.
 use crate::confirming::confirm_at;
-use crate::keys::{edits_are_compared, has_layer, has_sizes, key_is_cloned, value_is_cloned};
-use crate::nodes::{
-    has_entries, has_text, is_first, is_text_of_39, numbers_are_rooted, one_gap_is_rooted,
-    two_are_rooted,
-};
+use crate::keys::{edits_are_compared, key_is_cloned, value_is_cloned};
+use crate::nodes::{has_entries, is_first, numbers_are_rooted, one_gap_is_rooted};
 use crate::pairs::prints;
 use crate::reports::is_not_hex;
 use mst_key::{KeySize, Memory, ValueSize};
@@ -24,10 +21,6 @@ type Text = &'static str;
 /// A question with its expected answer.
 #[derive(Clone, Copy)]
 pub enum Case {
-    /// A number of bytes, whether they are a key, and whether they are a value.
-    Sizes(usize, bool, bool),
-    /// The layer of a key.
-    Layer(Text, u8),
     /// A key whose clone and copy are the same.
     KeyClone(Bytes),
     /// A value whose clone and copy are the same.
@@ -44,14 +37,8 @@ pub enum Case {
     ShardedFaultPrints(ShardedFault, Text),
     /// The root digest of the first so many numbers.
     NumbersRoot(u32, Text),
-    /// The root digest of a and abc.
-    TwoRoot(Text),
     /// The root digest of 65,535 pairs of which all but one lie in one gap.
     OneGapRoot(Text),
-    /// The text of the top node of 1, 39 and a.
-    ThreeText(Text),
-    /// A text of a node of 39 between those of 1 and of a.
-    NodeOf39(Text),
     /// How many entries a text's node has; `None` if it is no text of a node.
     Entries(Text, Option<usize>),
     /// The first text of a proof.
@@ -64,8 +51,6 @@ pub enum Case {
 /// Whether a question of a text has its answer; false for any other question.
 fn texts_hold(rt: &impl Abort, alloc: Global, case: Case) -> bool {
     match case {
-        Case::ThreeText(digits) => has_text(rt, alloc, digits),
-        Case::NodeOf39(digits) => is_text_of_39(rt, alloc, digits),
         Case::Entries(text, count) => has_entries(rt, alloc, text, count),
         Case::First(proof, text) => is_first(rt, alloc, proof, text),
         Case::NotHex(zeros, more, said) => is_not_hex(rt, alloc, zeros, more) == said,
@@ -77,7 +62,6 @@ fn texts_hold(rt: &impl Abort, alloc: Global, case: Case) -> bool {
 fn roots_hold(rt: &impl Abort, alloc: Global, case: Case) -> bool {
     match case {
         Case::NumbersRoot(count, digits) => numbers_are_rooted(rt, alloc, count, digits),
-        Case::TwoRoot(digits) => two_are_rooted(rt, alloc, digits),
         Case::OneGapRoot(digits) => one_gap_is_rooted(rt, alloc, digits),
         other => texts_hold(rt, alloc, other),
     }
@@ -99,8 +83,6 @@ fn prints_hold(rt: &impl Abort, alloc: Global, case: Case) -> bool {
 /// Whether a question of keys and values has its answer; others are left to `prints_hold`.
 fn holds(rt: &impl Abort, alloc: Global, case: Case) -> bool {
     match case {
-        Case::Sizes(len, is_key, is_value) => has_sizes(len, is_key, is_value),
-        Case::Layer(key, layer) => has_layer(rt, key, layer),
         Case::KeyClone(bytes) => key_is_cloned(rt, bytes),
         Case::ValueClone(bytes) => value_is_cloned(rt, bytes),
         Case::Edits(key, value) => edits_are_compared(rt, key, value),

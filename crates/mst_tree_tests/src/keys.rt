@@ -1,11 +1,11 @@
-//! What no clause says: printed texts, and examples worked out elsewhere. The functions above the
-//! tests show by their clauses what a caller knows of `==` and `cmp`.
+//! The order of keys, clones and copies. The functions above the tests show by their clauses what a
+//! caller knows of `==` and `cmp`. Transcripts (`tests/transcripts`) have the layers of keys.
 ghost use Rattle.std.specs.Prelude.{◌≡◌, ◌↔◌, IsTrue, OnOk, IsSorted};
 ghost use Rattle.std.specs.declared.cmp.Ordering.TheVariants.{Less};
 ghost use Rattle.mst_key.specs.Map.{key_cmp};
 
 use crate::cases::{Case, ask};
-use crate::confirming::confirm_at;
+use crate::confirming::{confirm, confirm_at};
 use crate::pairs::{key_of, value_of};
 use mst_key::{Edit, Key, Value};
 use std::alloc::{AllocError, Allocator, Global};
@@ -64,38 +64,6 @@ fn sort_keys<A: Allocator>(alloc: A, keys: &mut [Key]) -> Result<(), AllocError>
     keys.sort(alloc)
 }
 
-const CAUSES: &[Case] = &[
-    Case::KeySizePrints("a key has 1 to 32 bytes"),
-    Case::ValueSizePrints("a value has at most 64 bytes"),
-    Case::MemoryPrints("no memory"),
-];
-
-#[test]
-fn refusals_print_their_causes(rt: HostRuntime) {
-    ask(&rt, CAUSES);
-}
-
-/// Whether so many bytes can be a key, and whether they can be a value.
-pub fn has_sizes(len: usize, is_key: bool, is_value: bool) -> bool {
-    let bytes = [0x61; 65];
-    let bytes = &bytes[..len.min(65)];
-    Key::new(bytes).is_ok() == is_key && Value::new(bytes).is_ok() == is_value
-}
-
-const SIZES: &[Case] = &[
-    Case::Sizes(0, false, true),
-    Case::Sizes(1, true, true),
-    Case::Sizes(32, true, true),
-    Case::Sizes(33, false, true),
-    Case::Sizes(64, false, true),
-    Case::Sizes(65, false, false),
-];
-
-#[test]
-fn sizes_at_the_limits(rt: HostRuntime) {
-    ask(&rt, SIZES);
-}
-
 const RISING: &[&[u8]] = &[
     b"\x00",
     b"\x00\x00",
@@ -106,36 +74,32 @@ const RISING: &[&[u8]] = &[
     b"\x80",
 ];
 
-/// Whether the key of the least bytes is first when the two are sorted.
-fn comes_first(rt: &impl Abort, alloc: Global, one: &[u8], other: &[u8], least: &[u8]) -> bool {
-    let mut pair = [key_of(rt, other), key_of(rt, one)];
-    sort_keys(alloc, &mut pair).expect(rt, "memory");
-    pair[0].bytes() == least
-}
-
-/// Whether keys of these bytes stand in this order, and are sorted by it.
-fn is_order(rt: &impl Abort, alloc: Global, one: &[u8], other: &[u8], order: Ordering) -> bool {
-    let stand = stand_so(&key_of(rt, one), &key_of(rt, other), order);
-    stand && comes_first(rt, alloc, one, other, least_of(one, other, order))
-}
-
-/// The bytes of the least of two keys in this order.
-fn least_of<'a>(one: &'a [u8], other: &'a [u8], order: Ordering) -> &'a [u8] {
-    if order == Ordering::Less { one } else { other }
+/// Whether the rising keys are sorted from falling ones.
+fn are_sorted(rt: &impl Abort, alloc: Global) -> bool {
+    let mut keys = Vec::new(alloc);
+    for bytes in RISING.iter().rev() {
+        keys.push(key_of(rt, bytes)).expect(rt, "memory");
+    }
+    sort_keys(alloc, &mut keys).expect(rt, "memory");
+    keys.iter()
+        .zip(RISING)
+        .all(|(key, bytes)| key.bytes() == *bytes)
 }
 
 /// Compares the key at a place among the rising ones with each of them.
-fn compare_with_each(rt: &impl Abort, alloc: Global, i: usize, one: &[u8]) {
+fn compare_with_each(rt: &impl Abort, i: usize, one: &[u8]) {
     for (j, other) in RISING.iter().enumerate() {
-        confirm_at(rt, is_order(rt, alloc, one, other, i.cmp(&j)), j);
+        let right = stand_so(&key_of(rt, one), &key_of(rt, other), i.cmp(&j));
+        confirm_at(rt, right, j);
     }
 }
 
 #[test]
 fn keys_in_ascending_order(rt: HostRuntime) {
     for (i, one) in RISING.iter().enumerate() {
-        compare_with_each(&rt, rt.alloc(), i, one);
+        compare_with_each(&rt, i, one);
     }
+    confirm(&rt, are_sorted(&rt, rt.alloc()), "sorted");
 }
 
 pub fn key_is_cloned(rt: &impl Abort, bytes: &[u8]) -> bool {
@@ -167,34 +131,4 @@ const CLONES: &[Case] = &[
 #[test]
 fn clones_are_the_same(rt: HostRuntime) {
     ask(&rt, CLONES);
-}
-
-/// Layers by another SHA-256 (Python's hashlib).
-const LAYERS: &[Case] = &[
-    Case::Layer("1", 0),
-    Case::Layer("a", 0),
-    Case::Layer("abc", 0),
-    Case::Layer("0", 0),
-    Case::Layer("hello", 0),
-    Case::Layer("merkle search tree keys 32 bytes", 0),
-    Case::Layer("39", 1),
-    Case::Layer("49", 1),
-    Case::Layer("286", 2),
-    Case::Layer("671", 2),
-    Case::Layer("886", 3),
-    Case::Layer("1039", 3),
-    Case::Layer("88484", 4),
-    Case::Layer("172608", 4),
-    Case::Layer("596138", 5),
-    Case::Layer("665782", 7),
-];
-
-/// Whether the key has this layer.
-pub fn has_layer(rt: &impl Abort, key: &str, layer: u8) -> bool {
-    key_of(rt, key.as_bytes()).layer() == layer
-}
-
-#[test]
-fn layers(rt: HostRuntime) {
-    ask(&rt, LAYERS);
 }

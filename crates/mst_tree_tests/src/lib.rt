@@ -17,6 +17,8 @@ mod nodes;
 #[cfg(test)]
 mod pairs;
 #[cfg(test)]
+mod printing;
+#[cfg(test)]
 mod proving;
 #[cfg(test)]
 mod reports;

@@ -1,27 +1,17 @@
-//! Values from another program (Python's hashlib), large lists, texts outside the grammar, and
-//! refused growths.
+//! Roots by another program (Python's hashlib) of lists that are larger than a store's map, texts
+//! outside the grammar, and the first texts of proofs.
 ghost use Rattle.std.specs.Prelude.{◌≡◌};
 ghost use Rattle.mst_key.specs.declared.format.Format.TheVariants.{One};
 
 use crate::cases::{Case, ask};
-use crate::confirming::confirm;
-use crate::heaps::{heap_of, is_made};
-use crate::pairs::{
-    THREE_PAIRS, TWO_PAIRS, are_digits, bytes_of, numbered, pair, root, roots_agree, spelt,
-    text_of, top,
-};
-use linked_list_allocator::LocalHeap;
+use crate::pairs::{are_digits, bytes_of, numbered, pair, root, roots_agree};
 use mst_key::{Key, Value};
-use mst_node::{Flat, NodeFault, ascending, digest, is_map, read_text, top_text};
+use mst_node::{Flat, NodeFault, ascending, is_map, read_text, top_text};
 use std::alloc::Global;
 use std::process::Abort;
 
-/// Whether the list has this root digest, which is also that of its tree's text.
-pub fn has_root(rt: &impl Abort, alloc: Global, pairs: &[(Key, Value)], digits: &str) -> bool {
-    are_digits(rt, alloc, root(rt, pairs).as_slice(), digits) && roots_agree(rt, alloc, pairs)
-}
-
-/// Whether the same holds of a list of so many pairs, which are a map's.
+/// Whether the list is a map of so many pairs with this root digest, which is also that of its
+/// tree's text.
 fn is_rooted(
     rt: &impl Abort,
     alloc: Global,
@@ -29,36 +19,17 @@ fn is_rooted(
     count: usize,
     digits: &str,
 ) -> bool {
-    pairs.len() == count && ascending(pairs) && is_map(pairs) && has_root(rt, alloc, pairs, digits)
+    pairs.len() == count
+        && ascending(pairs)
+        && is_map(pairs)
+        && are_digits(rt, alloc, root(rt, pairs).as_slice(), digits)
+        && roots_agree(rt, alloc, pairs)
 }
 
 /// Whether so many numbers have this root digest.
 pub fn numbers_are_rooted(rt: &impl Abort, alloc: Global, count: u32, digits: &str) -> bool {
     let pairs = numbered(rt, alloc, count);
     is_rooted(rt, alloc, pairs.as_slice(), count as usize, digits)
-}
-
-/// Whether the keys `a` and `abc` have this root digest.
-pub fn two_are_rooted(rt: &impl Abort, alloc: Global, digits: &str) -> bool {
-    let pairs = spelt(rt, alloc, TWO_PAIRS);
-    is_rooted(rt, alloc, pairs.as_slice(), 2, digits)
-}
-
-const ROOTS: &[Case] = &[
-    Case::NumbersRoot(
-        0,
-        "e3b0c44298fc1c149afbf4c8996fb92427ae41e4649b934ca495991b7852b855",
-    ),
-    Case::TwoRoot("d4a8a9fc55058427163bd8a1f09ca5ec542de1cdaf28df100be5472e47b72503"),
-    Case::NumbersRoot(
-        1_000,
-        "e3ebf19010993996db63103ea8ed08a6d671d540853375cce026e9dfe3fdff56",
-    ),
-];
-
-#[test]
-fn roots(rt: HostRuntime) {
-    ask(&rt, ROOTS);
 }
 
 /// The pairs of the numbers below the end, in three bytes, whose keys are of layer 0.
@@ -80,7 +51,15 @@ pub fn one_gap_is_rooted(rt: &impl Abort, alloc: Global, digits: &str) -> bool {
     is_rooted(rt, alloc, pairs.as_slice(), 65_535, digits)
 }
 
-const ROOTS_OF_65535: &[Case] = &[
+const ROOTS: &[Case] = &[
+    Case::NumbersRoot(
+        0,
+        "e3b0c44298fc1c149afbf4c8996fb92427ae41e4649b934ca495991b7852b855",
+    ),
+    Case::NumbersRoot(
+        1_000,
+        "e3ebf19010993996db63103ea8ed08a6d671d540853375cce026e9dfe3fdff56",
+    ),
     Case::NumbersRoot(
         65_535,
         "88ccfa716643f985a7f35ecd029a20c7c6f96f8bc477c66a4ce70dbc3c992dc0",
@@ -89,13 +68,8 @@ const ROOTS_OF_65535: &[Case] = &[
 ];
 
 #[test]
-fn roots_of_65535_pairs(rt: HostRuntime) {
-    ask(&rt, ROOTS_OF_65535);
-}
-
-/// The digest of the bytes of a hexadecimal text.
-fn digest_of(rt: &impl Abort, alloc: Global, text: &str) -> [u8; 32] {
-    digest(bytes_of(rt, alloc, text).as_slice())
+fn roots(rt: HostRuntime) {
+    ask(&rt, ROOTS);
 }
 
 /// Whether a text is that of a node of layer 1 that has the one key `39`, with the value `y`,
@@ -125,33 +99,6 @@ fn has_children(flat: &Flat<'_>, left: [u8; 32], right: [u8; 32]) -> bool {
     }
     let (before, after) = (flat.child(0), flat.child(1));
     before == Some(left) && after == Some(right)
-}
-
-/// Whether the text of the top node of those three pairs is this one.
-pub fn has_text(rt: &impl Abort, alloc: Global, digits: &str) -> bool {
-    let pairs = spelt(rt, alloc, THREE_PAIRS);
-    let text = text_of(rt, alloc, pairs.as_slice());
-    pairs.len() == 3 && are_digits(rt, alloc, text.as_slice(), digits)
-}
-
-/// Whether this is the text of a node of 39 between the nodes of the two other pairs.
-pub fn is_text_of_39(rt: &impl Abort, alloc: Global, digits: &str) -> bool {
-    let left = digest_of(rt, alloc, "01000001000131017800");
-    let right = digest_of(rt, alloc, "01000001000161017a00");
-    is_node_of_39(bytes_of(rt, alloc, digits).as_slice(), left, right)
-}
-
-const TEXT_OF_THREE: &str =
-    "01010001017dfdf041db1f9c4de0e5e646a376510cfb7c4e47760ef8f74cb3181b74c061e6023339017901d2c0950048c47bae86f8557f6e7357048963954bbb6f1328ea6cc19d8898c5d8";
-
-const TEXTS_OF_THREE: &[Case] = &[
-    Case::ThreeText(TEXT_OF_THREE),
-    Case::NodeOf39(TEXT_OF_THREE),
-];
-
-#[test]
-fn text_of_three(rt: HostRuntime) {
-    ask(&rt, TEXTS_OF_THREE);
 }
 
 /// A text of one entry, and texts that are none.
@@ -184,13 +131,6 @@ fn texts_outside_the_grammar(rt: HostRuntime) {
     ask(&rt, OUTSIDE);
 }
 
-const CAUSE: &[Case] = &[Case::NodeFaultPrints("not a node text")];
-
-#[test]
-fn the_fault_of_a_text_prints_its_cause(rt: HostRuntime) {
-    ask(&rt, CAUSE);
-}
-
 /// Proofs, with the first of their texts.
 const FIRST: &[Case] = &[
     Case::First("0102000000020a0b000000010c", Some("0a0b")),
@@ -214,49 +154,4 @@ pub fn is_first(rt: &impl Abort, alloc: Global, proof: &str, want: Option<&str>)
 #[test]
 fn first_texts(rt: HostRuntime) {
     ask(&rt, FIRST);
-}
-
-/// Whether the text that is made in the heap is this one; `None` if memory is refused.
-fn text_in(heap: &LocalHeap, pairs: &[(Key, Value)], want: &[u8]) -> Option<bool> {
-    if pairs.len() > 65535 {
-        return Some(false);
-    }
-    match top(heap, pairs) {
-        Ok(Some(text)) => Some(text.as_slice() == want),
-        Ok(None) => Some(false),
-        Err(_) => None,
-    }
-}
-
-/// Whether so many bytes are enough for the text.
-fn are_enough(
-    rt: &impl Abort,
-    alloc: Global,
-    bytes: usize,
-    pairs: &[(Key, Value)],
-    want: &[u8],
-) -> bool {
-    let heap = heap_of(rt, alloc, bytes);
-    let found = text_in(&heap, pairs, want);
-    is_made(rt, &heap, found)
-}
-
-/// The least number of units of 16 bytes that are enough for the text of these pairs: 2,048 if each
-/// heap refused it.
-fn least_units(rt: &impl Abort, alloc: Global, pairs: &[(Key, Value)]) -> usize {
-    let want = text_of(rt, alloc, pairs);
-    for units in 1..2048usize {
-        if are_enough(rt, alloc, units * 16, pairs, want.as_slice()) {
-            return units;
-        }
-    }
-    2048
-}
-
-#[test]
-fn each_growth_is_refused(rt: HostRuntime) {
-    let pairs = numbered(&rt, rt.alloc(), 40);
-    let least = least_units(&rt, rt.alloc(), pairs.as_slice());
-    confirm(&rt, least > 16, "refused before");
-    confirm(&rt, least < 2048, "refused with ample memory");
 }

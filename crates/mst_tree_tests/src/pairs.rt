@@ -109,10 +109,3 @@ pub fn prints<T: Display>(rt: &impl Abort, alloc: Global, shown: &T, text: &str)
     let printed = format!(in alloc; "{shown}").expect(rt, "memory");
     printed.as_str() == text
 }
-
-/// The next of a sequence of random numbers.
-pub fn next_random(state: u64) -> u64 {
-    state
-        .wrapping_mul(6_364_136_223_846_793_005)
-        .wrapping_add(1_442_695_040_888_963_407)
-}

@@ -1,21 +1,20 @@
-//! What each fault prints, proofs of larger maps, and refused growths. Transcripts
-//! (`tests/transcripts`) have proofs that are spelt out, and forged ones.
+//! The search for a collision in proofs, and refused growths. Transcripts
+//! (`tests/transcripts`) have what proofs show, proofs that are spelt out, and forged ones.
 ghost use Rattle.std.specs.Prelude.{◌≤◌, length};
 ghost use Rattle.mst_key.specs.Map.{IsMap};
 
 mod collisions;
-mod faults;
 mod growths;
 mod maps;
-pub mod sizes;
+mod sizes;
 
 use crate::confirming::{confirm, few};
 use crate::heaps::heap_of;
 use crate::pairs::key_of;
 use linked_list_allocator::LocalHeap;
 use mst_key::{Format, Key, Memory, Value};
-use mst_node::{build_in, format_byte, is_map, root_of_in, text_in};
-use mst_proof::{collide_in, verify_in};
+use mst_node::{build_in, format_byte, is_map, text_in};
+use mst_proof::collide_in;
 use std::alloc::{Allocator, Global};
 use std::cmp::Ordering;
 use std::process::Abort;
@@ -163,36 +162,6 @@ fn proof_for(
     let mut proof = framed(rt, alloc, format, count, texts.as_slice());
     push_claim(rt, format, &mut proof, value_in(pairs, &key));
     proof
-}
-
-/// Whether the proof is accepted for the key, with this value or with none.
-fn is_accepted(
-    format: Format,
-    root: &[u8; 32],
-    key: &Key,
-    proof: &[u8],
-    value: Option<&[u8]>,
-) -> bool {
-    match (verify_in(format, root, key, proof), value) {
-        (Ok(Some(shown)), Some(wanted)) => shown.bytes() == wanted,
-        (Ok(None), None) => true,
-        _ => false,
-    }
-}
-
-/// Whether the proof for a key of the map is accepted with this value, or with none.
-fn proves(
-    rt: &impl Abort,
-    alloc: Global,
-    format: Format,
-    pairs: &[(Key, Value)],
-    key: &[u8],
-    value: Option<&[u8]>,
-) -> bool {
-    few(rt, pairs);
-    let root = root_of_in(format, pairs);
-    let proof = proof_for(rt, alloc, format, pairs, key);
-    is_accepted(format, &root, &key_of(rt, key), proof.as_slice(), value)
 }
 
 /// Whether `collide_in` finds a pair of texts beside no tree.

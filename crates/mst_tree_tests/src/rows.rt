@@ -1,15 +1,16 @@
-//! Tests of rows and of trees in rows: the words of rows, the desk, planted maps, reads and proofs,
-//! against the plain lists of their pairs. Changes are transcripts (`tests/transcripts`).
+//! Tests of rows and of trees in rows: the words of rows, the desk, planted maps, and what reads read.
+//! Changes are transcripts (`tests/transcripts`), and so are reads of whole maps, which
+//! `tests/store/test_maps.py` makes too.
 ghost use Rattle.std.specs.Prelude.{◌≡◌, ◌≤◌, IsSome, map};
 ghost use Rattle.mst_arena.specs.Content.{part_at};
 ghost use Rattle.mst_arena.specs.Lives.{swept_life};
 ghost use Rattle.mst_arena.specs.Row.{IsRow, entry_links, entry_value, head_digest, head_links};
 
 mod counted;
+mod counts;
 mod full_heap;
 mod plain;
 mod planting;
-mod reads;
 mod standing;
 mod words;
 

@@ -144,7 +144,9 @@ fn least_units(rt: &impl Abort, alloc: Global, format: Format, pairs: &[(Key, Va
 #[test]
 fn each_growth_of_a_text_is_refused(rt: HostRuntime) {
     let pairs = numbered(&rt, rt.alloc(), 40);
-    let least = least_units(&rt, rt.alloc(), Format::Two, pairs.as_slice());
-    confirm(&rt, least > 16, "refused before");
-    confirm(&rt, least < 2048, "refused with ample memory");
+    for format in [Format::One, Format::Two] {
+        let least = least_units(&rt, rt.alloc(), format, pairs.as_slice());
+        confirm(&rt, least > 16, "refused before");
+        confirm(&rt, least < 2048, "refused with ample memory");
+    }
 }

@@ -1,5 +1,5 @@
-//! The proofs of larger maps.
-use super::{collided, proof_for, proves};
+//! Collisions in the proofs of larger maps. Transcripts have what these proofs show.
+use super::{collided, proof_for};
 use crate::confirming::confirm_at;
 use crate::pairs::numbered;
 use mst_key::{Format, Key, Value};
@@ -23,28 +23,8 @@ fn is_free(
     }
 }
 
-/// Whether the map of some numbers proves its value of a number and the absence of the number's
-/// four bytes as a key, and nothing collides.
-fn is_proved(
-    rt: &impl Abort,
-    alloc: Global,
-    format: Format,
-    pairs: &[(Key, Value)],
-    i: u32,
-) -> bool {
-    let bytes = i.to_be_bytes();
-    let value = if (i as usize) < pairs.len() {
-        Some(&bytes[2..])
-    } else {
-        None
-    };
-    proves(rt, alloc, format, pairs, &bytes[1..], value)
-        && proves(rt, alloc, format, pairs, &bytes, None)
-        && is_free(rt, alloc, format, pairs, &bytes[1..])
-        && is_free(rt, alloc, format, pairs, &bytes)
-}
-
-/// Asks the map of so many numbers for each one of such steps, up to two that it does not have.
+/// Asks the map of so many numbers for each one of such steps, up to two that it does not have, and
+/// for the number's four bytes.
 fn ask(
     rt: &impl Abort,
     alloc: Global,
@@ -54,7 +34,10 @@ fn ask(
     step: usize,
 ) {
     for i in (0..count.saturating_add(2)).step_by(step.max(1)) {
-        confirm_at(rt, is_proved(rt, alloc, format, pairs, i), i as usize);
+        let bytes = i.to_be_bytes();
+        let number = is_free(rt, alloc, format, pairs, &bytes[1..]);
+        let free = number && is_free(rt, alloc, format, pairs, &bytes);
+        confirm_at(rt, free, i as usize);
     }
 }
 
@@ -71,7 +54,7 @@ const MAPS: &[(Format, u32, usize)] = &[
 ];
 
 #[test]
-fn proofs_of_maps(rt: HostRuntime) {
+fn no_collision_in_maps(rt: HostRuntime) {
     for (format, count, step) in MAPS {
         let pairs = numbered(&rt, rt.alloc(), *count);
         ask(&rt, rt.alloc(), *format, pairs.as_slice(), *count, *step);

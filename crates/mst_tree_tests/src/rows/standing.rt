@@ -1,4 +1,4 @@
-//! A map that stands in plain rows, and is read and changed.
+//! A map that is planted in plain rows, and is read.
 ghost use Rattle.std.specs.Prelude.{◌≡◌, ◌≤◌, ◌<◌, List, length, option_copied};
 ghost use Rattle.mst_key.specs.Map.{Pair, IsMap};
 ghost use Rattle.mst_arena.specs.Lives.{next, last_version};
@@ -8,15 +8,15 @@ ghost use Rattle.mst_tree_tests.specs.Ready.{IsPublished};
 
 use super::counted::{CountedRows, Reads};
 use crate::confirming::few;
-use mst_arena::{Desk, Root, VersionsSpent};
+use mst_arena::{Desk, Root};
 use mst_key::{Format, Key, Memory, Value};
 use mst_node::{Node, build, is_map};
-use mst_path::{NoRoom, plant, put, remove};
+use mst_path::plant;
 use std::alloc::{Allocator, Global};
 use std::marker::Model;
 use std::process::Abort;
 
-/// A map in rows. Each change is published at once, and then no earlier version is live.
+/// A map in rows, which is published at once.
 #[derive(Drop)]
 pub struct StandingMap<A: Allocator = Global> {
     rows: CountedRows<A>,
@@ -97,11 +97,6 @@ impl<A: Allocator + Copy> StandingMap<A> {
         StandingMap::new_beside(rt, alloc, alloc, pairs, size).expect(rt, "memory")
     }
 
-    /// How many rows are free.
-    pub fn free(&self) -> u32 {
-        self.desk.free()
-    }
-
     /// What was read of the rows since the counts began.
     pub fn reads(&self) -> Reads {
         self.rows.reads()
@@ -110,59 +105,6 @@ impl<A: Allocator + Copy> StandingMap<A> {
     /// Sets the counts of what was read to 0.
     pub fn forget_reads(&mut self) {
         self.rows.forget_reads();
-    }
-
-    /// Puts a pair, and returns the value that the key had.
-    fn put(
-        &mut self,
-        key: &Key,
-        value: &Value,
-    ) -> Result<Result<Option<Value>, NoRoom>, VersionsSpent> {
-        self.desk.next_version()?;
-        let (root, old) = match put(
-            &mut self.rows,
-            &mut self.desk,
-            &self.root,
-            key,
-            value,
-            Format::One,
-        ) {
-            Ok(done) => done,
-            Err(refused) => return Ok(Err(refused)),
-        };
-        self.root = root;
-        publish(&mut self.desk);
-        Ok(Ok(old))
-    }
-
-    /// Removes a key, and returns the value that it had.
-    fn remove(&mut self, key: &Key) -> Result<Result<Option<Value>, NoRoom>, VersionsSpent> {
-        self.desk.next_version()?;
-        let (root, old) = match remove(
-            &mut self.rows,
-            &mut self.desk,
-            &self.root,
-            key,
-            Format::One,
-        ) {
-            Ok(done) => done,
-            Err(refused) => return Ok(Err(refused)),
-        };
-        self.root = root;
-        publish(&mut self.desk);
-        Ok(Ok(old))
-    }
-
-    /// Puts the value at the key, or removes the key if no value is given.
-    pub fn change(
-        &mut self,
-        key: &Key,
-        value: Option<&Value>,
-    ) -> Result<Result<Option<Value>, NoRoom>, VersionsSpent> {
-        match value {
-            Some(value) => self.put(key, value),
-            None => self.remove(key),
-        }
     }
 
     /// The value of a key.
@@ -175,26 +117,6 @@ impl<A: Allocator + Copy> StandingMap<A> {
         mst_read::next(&mut self.rows, &self.root, after)
     }
 
-    /// Whether a key has this value, or none.
-    pub fn has(&mut self, key: &Key, value: Option<&Value>) -> bool {
-        self.get(key).as_ref() == value
-    }
-
-    /// Whether this pair is the next one, or none is.
-    pub fn has_next(&mut self, after: Option<&Key>, pair: Option<&(Key, Value)>) -> bool {
-        self.next(after).as_ref() == pair
-    }
-
-    /// Whether a key has this value, or none, by only the link of the root.
-    pub fn has_below(&mut self, key: &Key, value: Option<&Value>) -> bool {
-        mst_read::get_below(&mut self.rows, self.root.link, key).as_ref() == value
-    }
-
-    /// Whether this pair is the next one, or none is, by only the link of the root.
-    pub fn has_next_below(&mut self, key: &Key, pair: Option<&(Key, Value)>) -> bool {
-        mst_read::next_below(&mut self.rows, self.root.link, Some(key)).as_ref() == pair
-    }
-
     /// The pairs between two bounds, at most so many.
     pub fn range<B: Allocator>(
         &mut self,
@@ -204,15 +126,6 @@ impl<A: Allocator + Copy> StandingMap<A> {
         limit: usize,
     ) -> Result<Vec<(Key, Value), B>, Memory> {
         mst_read::range(alloc, &mut self.rows, &self.root, from, to, limit)
-    }
-
-    /// The proof for a key.
-    pub fn prove<B: Allocator + Copy>(
-        &mut self,
-        alloc: B,
-        key: &Key,
-    ) -> Result<Vec<u8, B>, Memory> {
-        mst_read::prove(alloc, &mut self.rows, &self.root, key, Format::One)
     }
 
     /// The root digest.

@@ -1,9 +1,13 @@
-//! What the faults of proofs print.
+//! What errors and the faults of texts and of proofs print.
 use crate::cases::{Case, ask};
 use mst_proof::ProofFault;
 use mst_sharded_proof::ShardedFault;
 
-const FAULTS: &[Case] = &[
+const PRINTED: &[Case] = &[
+    Case::KeySizePrints("a key has 1 to 32 bytes"),
+    Case::ValueSizePrints("a value has at most 64 bytes"),
+    Case::MemoryPrints("no memory"),
+    Case::NodeFaultPrints("not a node text"),
     Case::FaultPrints(ProofFault::Version, "P1"),
     Case::FaultPrints(ProofFault::CutShort, "P2"),
     Case::FaultPrints(ProofFault::LeftOver, "P3"),
@@ -14,14 +18,6 @@ const FAULTS: &[Case] = &[
     Case::FaultPrints(ProofFault::Unfinished, "P8"),
     Case::FaultPrints(ProofFault::TextBehind, "P9"),
     Case::FaultPrints(ProofFault::OtherValue, "P10"),
-];
-
-#[test]
-fn each_fault_prints_its_number(rt: HostRuntime) {
-    ask(&rt, FAULTS);
-}
-
-const SHARDED_FAULTS: &[Case] = &[
     Case::ShardedFaultPrints(ShardedFault::Version, "S1"),
     Case::ShardedFaultPrints(ShardedFault::CutShort, "S2"),
     Case::ShardedFaultPrints(ShardedFault::NoKey, "S3"),
@@ -34,6 +30,6 @@ const SHARDED_FAULTS: &[Case] = &[
 ];
 
 #[test]
-fn each_fault_of_a_sharded_map_prints_its_number(rt: HostRuntime) {
-    ask(&rt, SHARDED_FAULTS);
+fn each_cause_prints_its_words_or_its_number(rt: HostRuntime) {
+    ask(&rt, PRINTED);
 }
