@@ -1,7 +1,8 @@
-//! What transcripts (`tests/transcripts`) do not show of the program and of what it stands on:
-//! devices that fail, memory that is refused to each task and to a sink, words that the system does
-//! not give, the calls of a load while they are made, threads at one store, all orders of events in
-//! the core of pins, scripts over one shard, and what a run leaves to the next one.
+//! What transcripts (`tests/transcripts`) and devices that fail (`tests/devices`) do not show of
+//! the program and of what it stands on: memory that is refused to each task, sinks over memory
+//! that are full or refused, words that the system does not give, the calls of a load while they
+//! are made, threads at one store, all orders of events in the core of pins, scripts over one
+//! shard, and what a run leaves to the next one.
 #![tactic(auto)]
 
 #[cfg(test)]

@@ -1,6 +1,5 @@
-//! The program by its words: devices that fail, the calls of a load, and what the system gives.
+//! The program by its words: the calls of a load, and what the system gives.
 mod calls;
-mod failures;
 mod progress;
 mod starting;
 

@@ -1,4 +1,4 @@
-//! Scripts over the passes of a store: devices and memory that fail, and what a run leaves.
+//! Scripts over the passes of a store: sinks and memory that fail, and what a run leaves.
 mod devices;
 mod ends;
 mod memory;

@@ -42,17 +42,6 @@ done
 refused
 ";
 
-/// The report of a load of one writer that makes one call. The digest is the SHA-256 of the text of
-/// the node that has the key 0101 with the value 00000001.
-pub const ONE_CALL: &str = "events 1
-falls 0
-root d67d0c748b5dfcf53175350f0cc336e4b706fbc761243e4b7056b5b010063223
-built d67d0c748b5dfcf53175350f0cc336e4b706fbc761243e4b7056b5b010063223
-";
-
-/// The root digest of the empty map.
-pub const ROOT_OF_NONE: &str = "e3b0c44298fc1c149afbf4c8996fb92427ae41e4649b934ca495991b7852b855";
-
 /// The root digest of the map of `a` and `abc`, with the values `1` and `x`.
 pub const ROOT_OF_TWO: &str = "d4a8a9fc55058427163bd8a1f09ca5ec542de1cdaf28df100be5472e47b72503";
 
