@@ -3,35 +3,10 @@ ghost use Rattle.std.specs.Prelude.{◌≡◌};
 
 use crate::answers::{counts, gets, puts};
 use crate::confirming::{confirm, confirm_at};
-use crate::stores::{SMALL, both_passes, heap_of, opened};
+use crate::stores::{heap_of, opened};
 use mst_store::{Format, Pass, Seats, Shape, Store};
 use std::alloc::Global;
 use std::process::Abort;
-
-// The seats, which a heap of 16 bytes refuses to deal.
-fn refused(
-    rt: &(impl Abort + AllocGlobal),
-    store: &Store<Global>,
-    seats: Seats<Global>,
-) -> Seats<Global>
-    requires own { seats ≡ store.now }
-    ensures own { result ≡ store.now }
-{
-    let heap = heap_of(rt, 16);
-    let Err((_, seats)) = store.deal(&heap, seats) else {
-        panic!(rt; "16 bytes hold no two passes")
-    };
-    seats
-}
-
-#[test]
-fn refused_seats_are_dealt_again(rt: HostRuntime) {
-    let (store, seats) = opened(&rt, rt.alloc(), SMALL);
-    let seats = refused(&rt, &store, seats);
-    let (mut first, mut second) = both_passes(&rt, rt.alloc(), &store, seats);
-    let right = puts(&mut second, b"abc", b"x", None) && gets(&mut first, b"abc", Some(b"x"));
-    confirm(&rt, right, "the passes share a map");
-}
 
 // Whether each pass reads the empty map.
 fn all_read_nothing(passes: &mut [Pass<'_, Global>]) -> bool {
@@ -41,6 +16,18 @@ fn all_read_nothing(passes: &mut [Pass<'_, Global>]) -> bool {
         }
     }
     true
+}
+
+// Whether the first pass gets what the last one puts.
+fn are_of_one_map(passes: &mut [Pass<'_, Global>]) -> bool {
+    let put = match passes.last_mut() {
+        Some(last) => puts(last, b"abc", b"x", None),
+        None => false,
+    };
+    match passes.first_mut() {
+        Some(first) => put && gets(first, b"abc", Some(b"x")),
+        None => false,
+    }
 }
 
 // Deals the seats in a heap of ever more bytes, and returns how many heaps were too small. The
@@ -58,6 +45,7 @@ fn refused_heaps(
         match store.deal(&heap, seats) {
             Ok(mut passes) => {
                 confirm(rt, all_read_nothing(&mut passes), "the empty map");
+                confirm(rt, are_of_one_map(&mut passes), "the passes share a map");
                 return units - 1;
             }
             Err((_, again)) => {
