@@ -50,4 +50,7 @@ with reader.pinned() as pinned:
     value, proof = ask(server.server_address[1], b"apple")
     print("the answer:", judged(root, b"apple", value, proof))
     print("a forged one:", judged(root, b"apple", b"31", proof))
+with reader.pinned() as pinned:
+    value, proof = ask(server.server_address[1], b"apple")
+    print("a newer one:", judged(root, b"apple", value, proof))
     server.shutdown()

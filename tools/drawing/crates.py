@@ -38,7 +38,7 @@ TESTS = {
     "mst_sharded_tests",
     "mst_program_tests",
 }
-NOT_DRAWN = {"mst_audit", "mst_bench", "mst_cookbook", *TESTS}
+NOT_DRAWN = {"mst_bench", "mst_cookbook", *TESTS}
 FOR_C = {"mst_verifier", "mst_c", "mst_c_sharded", "mst_exports"}
 BENT = {("mst_command", "mst_report")}
 BOX, HIGH, FIRST, APART = 140, 36, 30, 82
@@ -125,6 +125,6 @@ def picture():
     low = FIRST + len(LAYERS) * APART + 8
     says = "Thick: the libraries for C. An arrow is left out where others lead the same way."
     canvas.text(12, low, says, 16)
-    says = "Not drawn: crates of tests; and mst_audit, mst_bench and mst_cookbook above."
+    says = "Not drawn: crates of tests; and mst_bench and mst_cookbook above."
     canvas.text(12, low + 28, says, 16)
     return canvas

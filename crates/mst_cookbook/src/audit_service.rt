@@ -1,5 +1,5 @@
 //! What an audit service answers, and what its client checks by the root digest alone.
-use crate::sharing::{one_pass, put};
+use crate::sharing::{put, two_passes};
 use anyhow::Result;
 use mst_key::{Format, Key, Memory, Value};
 use mst_proof::verify_in;
@@ -8,7 +8,7 @@ use std::alloc::Global;
 
 const SHAPE: Shape = Shape {
     rows: 100,
-    passes: 1,
+    passes: 2,
     format: Format::Two,
 };
 
@@ -66,18 +66,30 @@ fn tell_root_and_answer(
     Ok((pinned.root(), told))
 }
 
-// The service answers, and somebody changes the value on the way.
-fn show(rt: &HostRuntime, mut pass: Pass<'_, Global>) -> Result<()> {
-    put(&mut pass, "apple", "30")?;
+// The service moves on to the version now. The client still has the root digest of the one before.
+fn tell_newer(
+    rt: &HostRuntime,
+    reader: Pass<'_, Global>,
+    root: &[u8; 32],
+    key: &Key,
+) -> Result<()> {
+    let told = answer_for(rt.alloc(), &mut reader.pin(), key)?;
+    tell(rt, "a newer one", root, key, &told)
+}
+
+// The service answers while a writer goes on, and somebody changes the value on the way.
+fn show(rt: &HostRuntime, mut writer: Pass<'_, Global>, reader: Pass<'_, Global>) -> Result<()> {
+    put(&mut writer, "apple", "30")?;
     let apple = Key::new(b"apple")?;
-    let mut pinned = pass.pin();
+    let mut pinned = reader.pin();
+    put(&mut writer, "apple", "35")?;
     let (root, told) = tell_root_and_answer(rt, &mut pinned, &apple)?;
-    pinned.unpin();
-    compare(rt, &root, &apple, told)
+    compare(rt, &root, &apple, told)?;
+    tell_newer(rt, pinned.unpin(), &root, &apple)
 }
 
 pub fn run(rt: &HostRuntime) -> Result<()> {
     let (store, seats) = Store::open(rt.alloc(), SHAPE)?;
-    let pass = one_pass(rt.alloc(), &store, seats)?;
-    show(rt, pass)
+    let (reader, writer) = two_passes(rt.alloc(), &store, seats)?;
+    show(rt, writer, reader)
 }
