@@ -21,8 +21,8 @@
 //! know before it and what it then knows. The rule that all steps keep is in `specs/Rule.antt`, the
 //! words in `specs/Layout.antt`.
 //!
-//! The steps are put together in `mst_store`: nothing here decides which comes next, loops, waits,
-//! or takes memory once the table is open.
+//! The steps are put together in `mst_versions`: nothing here decides which comes next, loops,
+//! waits, or takes memory once the table is open.
 #![tactic(auto)]
 
 mod board;
