@@ -22,16 +22,16 @@ static inline void *works(void *given) {
 }
 
 /* Runs threads side by side until all have ended: whether all went as it should. */
-static inline int all_work(struct work *works_of, int count) {
+static inline int all_work(struct work *each, int count) {
     pthread_t threads[MOST_THREADS];
     int started = 0, right = count <= MOST_THREADS;
     while (right && started < count)
-        if (pthread_create(&threads[started], NULL, works, &works_of[started]) == 0)
+        if (pthread_create(&threads[started], NULL, works, &each[started]) == 0)
             started++;
         else
             right = 0;
     for (int i = 0; i < started; i++)
-        right = pthread_join(threads[i], NULL) == 0 && works_of[i].is_right && right;
+        right = pthread_join(threads[i], NULL) == 0 && each[i].is_right && right;
     return right;
 }
 
