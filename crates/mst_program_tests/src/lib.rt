@@ -1,16 +1,12 @@
-//! What transcripts (`tests/transcripts`) and devices that fail (`tests/devices`) do not show of
-//! the program and of what it stands on: memory that is refused to each task, sinks over memory
-//! that are full or refused, words that the system does not give, the calls of a load while they
-//! are made, threads at one store, all orders of events in the core of pins, scripts over one
-//! shard, and what a run leaves to the next one.
+//! What transcripts (`tests/transcripts`), and devices and memory that fail (`tests/devices`), do
+//! not show of the program and of what it stands on: sinks over memory that are full or refused,
+//! words that the system does not give, the calls of a load while they are made, threads at one
+//! store, all orders of events in the core of pins, scripts over one shard, and what a run leaves
+//! to the next one.
 #![tactic(auto)]
 
 #[cfg(test)]
 mod failing;
-#[cfg(test)]
-mod memory;
-#[cfg(test)]
-mod outcomes;
 #[cfg(test)]
 mod pins;
 #[cfg(test)]
@@ -19,7 +15,5 @@ mod program;
 mod script;
 #[cfg(test)]
 mod sinks;
-#[cfg(test)]
-mod texts;
 #[cfg(test)]
 mod threads;

@@ -3,13 +3,19 @@ mod calls;
 mod progress;
 mod starting;
 
-use crate::outcomes::Outcome;
 use mst_devices::{BytesSink, BytesSource};
 use mst_load::Gate;
 use mst_program::command;
 use std::alloc::{AllocError, AllocGlobal};
 use std::sync::Wait;
 use std::thread::Threads;
+
+/// The exit status of a program, and what it wrote to standard error.
+#[derive(Drop)]
+struct Outcome {
+    status: u8,
+    err: Vec<u8>,
+}
 
 /// Runs the program over no input, with this gate at the calls of a load. The words stand in one
 /// line, which is cut at each space.
@@ -26,7 +32,6 @@ fn outcome_behind<R: Threads + Wait + AllocGlobal + Sync, G: Gate + Sync>(
     let status = command(rt, alloc, &words, gate, &mut source, &mut out, &mut err);
     Ok(Outcome {
         status,
-        out: out.bytes().to_vec(alloc)?,
         err: err.bytes().to_vec(alloc)?,
     })
 }

@@ -2,7 +2,6 @@
 mod devices;
 mod ends;
 mod memory;
-mod shard_memory;
 mod shards;
 
 ghost use Rattle.std.specs.Prelude.{◌≡◌, ◌<◌, ◌-◌, ◌^◌};
@@ -13,11 +12,6 @@ use mst_script::{RunFault, run};
 use mst_store::{Pass, Seats, Shape, Store};
 use std::alloc::{Allocator, Global};
 use std::process::Abort;
-
-/// Five lines, of which one is a fault and one takes memory, and their answers.
-const FIVE_LINES: &[u8] = b"1 put 61 31\n2 put 616263 78\n3 range - - 10\n1 frob\n4 get 61";
-
-const FIVE_ANSWERS: &[u8] = b"none\nnone\npairs 2\npair 61 31\npair 616263 78\nfault L3\nsome 31\n";
 
 /// A store of this size.
 fn opened(rt: &impl Abort, alloc: Global, shape: Shape) -> (Store<Global>, Seats<Global>)

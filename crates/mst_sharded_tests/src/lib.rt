@@ -1,7 +1,8 @@
 //! Tests of what Rattle alone sees of sharded maps: opening, maps of one shard, directories and
 //! versions of snapshots, handles that wait, on threads beside snapshots, handles beside a share of
-//! their map, and each growth that is refused. All else is tested of handles by transcripts
-//! (`tests/transcripts/sharded.py`).
+//! their map, and each growth that is refused to these. All else is tested of handles by
+//! transcripts (`tests/transcripts/sharded.py`), and with memory that is refused to the program
+//! (`tests/devices`).
 #![tactic(auto)]
 
 #[cfg(test)]
@@ -10,8 +11,6 @@ mod auditing;
 mod batches;
 #[cfg(test)]
 mod confirming;
-#[cfg(test)]
-mod growths;
 #[cfg(test)]
 mod maps;
 #[cfg(test)]

@@ -1,11 +1,16 @@
 //! A sink over memory that is full. Other devices that fail, `tests/devices` shows.
-use super::{FIVE_ANSWERS, FIVE_LINES, run_over};
+use super::run_over;
 use mst_devices::{BytesSink, BytesSource, Device};
 use mst_script::RunFault;
 use mst_store::{Format, Memory, Shape};
 use std::alloc::{AllocError, Global};
 use std::process::Abort;
 use std::test::Fail;
+
+/// Five lines, of which one is a fault and one takes memory, and their answers.
+const FIVE_LINES: &[u8] = b"1 put 61 31\n2 put 616263 78\n3 range - - 10\n1 frob\n4 get 61";
+
+const FIVE_ANSWERS: &[u8] = b"none\nnone\npairs 2\npair 61 31\npair 616263 78\nfault L3\nsome 31\n";
 
 const SHAPE: Shape = Shape {
     rows: 5,

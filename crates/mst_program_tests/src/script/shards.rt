@@ -43,7 +43,7 @@ fn states_over<'a, A: Allocator + Copy>(
 
 /// Runs a script over a new map of so many shards, with the memory of another allocator for lines
 /// and answers.
-pub(super) fn run_shards<S: Source, W: Sink, A: Allocator + Copy>(
+fn run_shards<S: Source, W: Sink, A: Allocator + Copy>(
     alloc: A,
     lines: A,
     shards: u8,
