@@ -28,7 +28,7 @@ fn make(rt: &HostRuntime, pass: Pass<'_, Global>, keys: &[Key], of: Calls) -> io
     let mut pass = pass;
     all_well(calls::fill(&mut pass, keys))?;
     let (_pass, done) = kinds::make(rt.alloc(), pass, keys, of.calls, of.kind);
-    tell(rt, of.name, of.keys, of.calls, done)
+    tell(rt, of.name, keys.len(), of.calls, done)
 }
 
 /// Puts all keys into a store that has no pair yet, and makes calls of one kind.

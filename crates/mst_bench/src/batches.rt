@@ -82,7 +82,7 @@ fn load_one(rt: &HostRuntime, edits: &[Edit], format: Format) -> io::Result<()> 
     let (store, seats) = opened(rt.alloc(), alone::shape(format))?;
     let mut pass = one_pass(rt.alloc(), &store, seats)?;
     let done = pass.try_apply(rt.alloc(), edits).is_ok();
-    tell(rt, "load", edits.len() as u32, 1, done)
+    tell(rt, "load", edits.len(), 1, done)
 }
 
 /// Puts all keys by one batch into an empty store, so many times, each in a store of its own.

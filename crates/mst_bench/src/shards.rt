@@ -238,7 +238,7 @@ fn make_filled(
     requires some { 0 < length keys.now }
 {
     let done = fill(&mut handle, keys) && make(rt.alloc(), handle, keys, of);
-    tell(rt, of.name, of.keys, of.calls, done)
+    tell(rt, of.name, of.keys as usize, of.calls, done)
 }
 
 // Makes calls of one kind of a sharded map.
@@ -323,7 +323,7 @@ fn make_listings(
     requires some { 0 < length bounds.now }
 {
     let done = fill_listings(pass, bounds) && put_listings(pass, bounds, of.calls);
-    tell(rt, of.name, of.keys, of.calls, done)
+    tell(rt, of.name, of.keys as usize, of.calls, done)
 }
 
 // Makes them in a store of its own.

@@ -40,7 +40,7 @@ pub fn all_well(done: bool) -> io::Result<()> {
 }
 
 /// Prints the line of calls; an error if one of them was refused.
-pub fn tell(rt: &HostRuntime, call: &str, keys: u32, calls: u32, done: bool) -> io::Result<()> {
+pub fn tell(rt: &HostRuntime, call: &str, keys: usize, calls: u32, done: bool) -> io::Result<()> {
     all_well(done)?;
     println!(rt; "{call}: {keys} keys, {calls} calls")
 }
