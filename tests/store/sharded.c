@@ -39,6 +39,7 @@ static void splits(void) {
     size_t length = 0;
     EXPECT(opened_with(NULL, 0) == MST_OK);
     EXPECT(opened_with(TEXT("\1b\2bb\1c")) == MST_OK);
+    EXPECT(opened_with(TEXT("\1a\2a\0\1b")) == MST_OK);
     EXPECT(opened_with(TEXT("\2\0\0")) == MST_OK);
     /* a length of no key, a key cut short, and bytes left over */
     EXPECT(opened_with(TEXT("\0")) == MST_BAD_SPLITS);
@@ -49,6 +50,7 @@ static void splits(void) {
     /* keys that do not rise, or not from above the least */
     EXPECT(opened_with(TEXT("\1b\1b")) == MST_BAD_SPLITS);
     EXPECT(opened_with(TEXT("\1b\1a")) == MST_BAD_SPLITS);
+    EXPECT(opened_with(TEXT("\1a\1c\1b")) == MST_BAD_SPLITS);
     EXPECT(opened_with(TEXT("\2bb\1b")) == MST_BAD_SPLITS);
     EXPECT(opened_with(TEXT("\1\0")) == MST_BAD_SPLITS);
     for (uint32_t i = 0; i < 1024; i++) {
@@ -57,6 +59,9 @@ static void splits(void) {
     }
     EXPECT(opened_with(many, length) == MST_BAD_SPLITS);
     EXPECT(opened_with(many, length - 3) == MST_OK);
+    mst_handle handle = MST_HANDLE_CLOSED;
+    EXPECT(mst_sharded_open(2, 4, many, length - 3, &handle, 1) == MST_OK);
+    EXPECT(mst_sharded_shards(&handle) == 1024 && mst_sharded_close(&handle) == MST_OK);
     EXPECT(mst_split(many, 0, many, 33) == 1 && opened_with(many, 1) == MST_BAD_SPLITS);
 }
 
@@ -86,6 +91,21 @@ static void shapes(void) {
     EXPECT(handles[0].at == NULL && handles[1].at == NULL);
     for (int i = 2; i < 32; i++)
         EXPECT(mst_sharded_close(&handles[i]) == MST_OK);
+}
+
+/* Bad splits are told before a bad shape. */
+static void shapes_behind_splits(void) {
+    static const struct {
+        uint32_t rows;
+        size_t hands;
+    } bad[] = {{3, 1}, {65536, 1}, {4, 0}, {4, 33}};
+    mst_handle handles[33] = {MST_HANDLE_CLOSED};
+    for (size_t at = 0; at < sizeof bad / sizeof *bad; at++) {
+        uint32_t rows = bad[at].rows;
+        size_t count = bad[at].hands;
+        EXPECT(mst_sharded_open(1, rows, TEXT("\1b\1c"), handles, count) == MST_BAD_SHAPE);
+        EXPECT(mst_sharded_open(1, rows, TEXT("\1\0"), handles, count) == MST_BAD_SPLITS);
+    }
 }
 
 /* ---- closed hands, wrong states, lengths ---- */
@@ -337,6 +357,7 @@ static void stopped_migrations(void) {
 int main(int count, char **words) {
     splits();
     shapes();
+    shapes_behind_splits();
     closed_hands();
     wrong_states();
     directories();

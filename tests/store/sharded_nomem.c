@@ -45,6 +45,26 @@ static int32_t ask(mst_handle *handle, enum question what, size_t *length) {
     }
 }
 
+/* Whether the map has what main puts there, in two shards. */
+static int reads_as_before(mst_handle *handle) {
+    return mst_sharded_get(handle, TEXT("key"), room, sizeof room) == 5
+        && memcmp(room, "value", 5) == 0
+        && mst_sharded_get(handle, TEXT("z"), room, sizeof room) == 2 && memcmp(room, "12", 2) == 0
+        && mst_sharded_get(handle, TEXT("a"), room, sizeof room) == MST_ABSENT;
+}
+
+/* Whether the snapshot has these versions of its three shards. */
+static int has_versions(mst_handle *handle, uint64_t first, uint64_t second, uint64_t third) {
+    const uint64_t wanted[3] = {first, second, third};
+    int has = 1;
+    for (size_t at = 0; at < 3; at++) {
+        uint64_t version = 77;
+        EXPECT(mst_sharded_version_at(handle, at, &version) == MST_OK);
+        has = has && version == wanted[at];
+    }
+    return has;
+}
+
 /* How many calls were refused before one was not. The snapshot goes on after each. */
 static long asked_for(mst_handle *handle, enum question what) {
     for (long n = 0; n < 400; n++) {
@@ -54,7 +74,7 @@ static long asked_for(mst_handle *handle, enum question what) {
         int32_t told = ask(handle, what, &length);
         count_on();
         EXPECT(live == before);
-        EXPECT(mst_sharded_get(handle, TEXT("key"), room, sizeof room) == 5);
+        EXPECT(reads_as_before(handle) && has_versions(handle, 2, 1, 1));
         if (told != MST_MEMORY) {
             EXPECT(told >= 0);
             return n;
@@ -66,20 +86,24 @@ static long asked_for(mst_handle *handle, enum question what) {
 
 /*
  * How many migrations were refused before one was not. Each goes on where the one before stopped,
- * so that all shards are in the format at the end.
+ * so that all shards are in the format at the end. The first growth is that of the list of shards.
  */
 static long migrations(mst_handle *handle, uint32_t to) {
+    size_t last = 0;
     for (long n = 0; n < 400; n++) {
         size_t stopped = 7;
         long before = live;
         count_from(n);
         int32_t told = mst_sharded_try_migrate(handle, to, &stopped);
         count_on();
-        EXPECT(live == before);
-        EXPECT(mst_sharded_get(handle, TEXT("key"), room, sizeof room) == 5);
+        EXPECT(live == before && reads_as_before(handle));
         if (told == MST_OK)
             return n;
-        EXPECT(told == MST_MEMORY && (stopped == 7 || stopped < 3));
+        EXPECT(told == MST_MEMORY && (n == 0 ? stopped == 7 : stopped < 3));
+        if (n > 0) {
+            EXPECT(last <= stopped);
+            last = stopped;
+        }
     }
     return -1;
 }
@@ -140,6 +164,23 @@ static long batches(mst_handle *handle) {
     return -1;
 }
 
+/* Writes, reads and pins ask for no memory: the first growth would be refused. */
+static void without_memory(mst_handle *handle) {
+    asked = 0;
+    count_from(0);
+    EXPECT(mst_sharded_put(handle, TEXT("key"), TEXT("value"), room, 64) == MST_ABSENT);
+    EXPECT(mst_sharded_try_put(handle, TEXT("z"), TEXT("12"), room, 64) == MST_ABSENT);
+    EXPECT(mst_sharded_put(handle, TEXT("a"), TEXT("1"), room, 64) == MST_ABSENT);
+    EXPECT(mst_sharded_shards(handle) == 3 && mst_sharded_snapshot(handle) == MST_OK);
+    EXPECT(mst_sharded_get(handle, TEXT("a"), room, 64) == 1);
+    EXPECT(has_versions(handle, 1, 1, 1) && mst_sharded_release(handle) == MST_OK);
+    EXPECT(mst_sharded_remove(handle, TEXT("a"), room, 64) == 1);
+    EXPECT(reads_as_before(handle));
+    EXPECT(mst_sharded_snapshot(handle) == MST_OK && reads_as_before(handle));
+    EXPECT(has_versions(handle, 2, 1, 1) && asked == 0);
+    count_on();
+}
+
 int main(void) {
     mst_handle handle = MST_HANDLE_CLOSED;
     long opened = openings();
@@ -147,15 +188,7 @@ int main(void) {
     live = 0;
     count_from(-1);
     EXPECT(mst_sharded_open(1, 64, TEXT("\1b\1m"), &handle, 1) == MST_OK);
-    asked = 0;
-    EXPECT(mst_sharded_put(&handle, TEXT("key"), TEXT("value"), room, 64) == MST_ABSENT);
-    EXPECT(mst_sharded_put(&handle, TEXT("a"), TEXT("1"), room, 64) == MST_ABSENT);
-    EXPECT(mst_sharded_remove(&handle, TEXT("a"), room, 64) == 1);
-    EXPECT(mst_sharded_get(&handle, TEXT("key"), room, 64) == 5);
-    EXPECT(mst_sharded_shards(&handle) == 3 && mst_sharded_snapshot(&handle) == MST_OK);
-    EXPECT(mst_sharded_get(&handle, TEXT("key"), room, 64) == 5);
-    EXPECT(mst_sharded_release(&handle) == MST_OK && mst_sharded_snapshot(&handle) == MST_OK);
-    EXPECT(asked == 0);
+    without_memory(&handle);
     long roots = asked_for(&handle, ROOT), proofs = asked_for(&handle, PROOF);
     EXPECT(roots > 0 && proofs > 0 && asked_for(&handle, ROOT) > 0);
     EXPECT(asked_for(&handle, NEXT) > 0 && asked_for(&handle, RANGE) > 0);

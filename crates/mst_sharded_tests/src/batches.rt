@@ -2,10 +2,7 @@
 //! shards (`tests/transcripts/sharded.py`).
 use crate::confirming::confirm;
 use crate::maps::{SHAPE, one_dealt, opened};
-use crate::plain::{NOTHING, Plain, after, agrees, edit_of, edits_of};
-use mst_key::Edit;
-use mst_store::{Format, Shape};
-use std::process::Abort;
+use crate::plain::{NOTHING, after, agrees, edits_of};
 
 #[test]
 fn batches_in_one_shard_are_those_of_a_plain_list(rt: HostRuntime) {
@@ -22,30 +19,4 @@ fn batches_in_one_shard_are_those_of_a_plain_list(rt: HostRuntime) {
         plain = after(&plain, round.wrapping_mul(50), 50);
         confirm(&rt, agrees(&rt, &mut handle, &plain), "the maps agree");
     }
-}
-
-/// So few rows that a shard has room for some keys, and not for all of its own.
-pub(crate) const FEW_ROWS: Shape = Shape {
-    rows: 24,
-    passes: 1,
-    format: Format::One,
-};
-
-/// Puts at two keys of the first half, and at all of the second.
-pub(crate) fn uneven(rt: &(impl Abort + AllocGlobal)) -> Vec<Edit> {
-    let mut edits = Vec::new(rt.alloc());
-    for number in 0..66usize {
-        let place = if number < 2 { number } else { number + 62 };
-        let edit = edit_of(rt, (place, 1));
-        edits.push(edit).expect(rt, "memory");
-    }
-    edits
-}
-
-/// What the first two of those edits leave.
-pub(crate) fn first_two() -> Plain {
-    let mut plain = NOTHING;
-    plain[0] = 1;
-    plain[1] = 1;
-    plain
 }

@@ -51,8 +51,8 @@ pub(crate) fn write_of(number: u32) -> Write {
     ((mixed >> 20) as usize % KEYS, left as u8)
 }
 
-/// The edit that makes a write.
-pub(crate) fn edit_of(rt: &impl Abort, write: Write) -> Edit {
+// The edit that makes a write.
+fn edit_of(rt: &impl Abort, write: Write) -> Edit {
     let (number, left) = write;
     if left == 0 {
         Edit::Remove(numbered(rt, number))

@@ -32,17 +32,6 @@ fn proves(
     true
 }
 
-/// The root digest of a snapshot.
-pub(crate) fn digest_of(
-    rt: &(impl Abort + AllocGlobal),
-    snapshot: &mut Snapshot<'_, Global, Global>,
-) -> [u8; 32] {
-    let Ok(root) = snapshot.root(rt.alloc()) else {
-        panic!(rt; "a root digest")
-    };
-    root
-}
-
 // Whether the directory lists each shard, and passes an audit.
 fn audits(
     rt: &(impl Abort + AllocGlobal),
