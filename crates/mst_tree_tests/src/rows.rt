@@ -1,5 +1,5 @@
-//! Tests of rows and of trees in rows: the words of rows, the desk, planted maps, and what reads read.
-//! Changes are transcripts (`tests/transcripts`), and so are reads of whole maps, which
+//! Tests of rows and of trees in rows: the words of rows, the desk, planted maps, and what reads
+//! read. Changes are transcripts (`tests/transcripts`), and so are reads of whole maps, which
 //! `tests/store/test_maps.py` makes too.
 ghost use Rattle.std.specs.Prelude.{◌≡◌, ◌≤◌, IsSome, map};
 ghost use Rattle.mst_arena.specs.Content.{part_at};

@@ -1,5 +1,5 @@
-//! Calls that take no memory, over a heap with no byte left: those of a desk and of plain rows. Those
-//! that change and read a map are given no memory; `tests/store/nomem.c` has them over a store.
+//! Calls that take no memory, over a heap with no byte left: those of a desk and of plain rows.
+//! Those that change and read a map are given none; `tests/store/nomem.c` has them over a store.
 ghost use Rattle.std.specs.Prelude.{◌≡◌, length, replicate};
 ghost use Rattle.mst_arena.specs.declared.life.Life.TheVariants.{Free};
 

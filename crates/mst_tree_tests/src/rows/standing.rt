@@ -1,10 +1,8 @@
 //! A map that is planted in plain rows, and is read.
-ghost use Rattle.std.specs.Prelude.{◌≡◌, ◌≤◌, ◌<◌, List, length, option_copied};
+ghost use Rattle.std.specs.Prelude.{◌≤◌, ◌<◌, List, option_copied};
 ghost use Rattle.mst_key.specs.Map.{Pair, IsMap};
-ghost use Rattle.mst_arena.specs.Lives.{next, last_version};
 ghost use Rattle.mst_key.specs.declared.format.Format.TheVariants.{One};
 ghost use Rattle.mst_path.specs.Planting.{tree_at, IsTreeOf};
-ghost use Rattle.mst_tree_tests.specs.Ready.{IsPublished};
 
 use super::counted::{CountedRows, Reads};
 use crate::confirming::few;
@@ -16,51 +14,36 @@ use std::alloc::{Allocator, Global};
 use std::marker::Model;
 use std::process::Abort;
 
-/// A map in rows, which is published at once.
+/// A map in rows.
 #[derive(Drop)]
-pub struct StandingMap<A: Allocator = Global> {
-    rows: CountedRows<A>,
-    desk: Desk<A>,
+pub struct StandingMap {
+    rows: CountedRows<Global>,
     root: Root,
 }
 
-/// Contracts see the rows, the desk and the root.
-impl<A: Allocator> Model for StandingMap<A> {
+/// Contracts see the rows and the root.
+impl Model for StandingMap {
     ghost use Rattle.std.specs.Prelude.{List, Option};
-    ghost use Rattle.mst_arena.specs.Lives.{State};
+    ghost use Rattle.mst_arena.specs.Content.{listed};
     ghost use Rattle.mst_arena.specs.declared.row.Root.{Root};
     ghost use Rattle.mst_arena.specs.declared.row.Row.{Row};
-    ghost use Rattle.mst_tree_tests.specs.Ready.{IsReady};
+    ghost use Rattle.mst_read.specs.Search.{MapStands};
 
-    ghost Value = { List (Option Row) × State × Root };
+    ghost Value = { List (Option Row) × Root };
 
-    ghost view = { λ p. (p.rows, p.desk, p.root) };
+    ghost view = { λ p. (p.rows, p.root) };
 
-    ghost invariant = { λ p. IsReady p.rows p.desk p.root };
+    ghost invariant = { λ p. MapStands (listed p.rows) p.root };
 }
 
-/// Makes the version to come the current one, and frees the rows that it does not reach.
-fn publish<A: Allocator>(desk: &mut Desk<A>)
-    requires records { length desk.old.versions ≡ 2 }
-    requires current { desk.old.current < 2 }
-    requires more { next desk.old ≤ last_version }
-    ensures published { IsPublished desk.old desk.new }
-{
-    let (record, _) = desk.current();
-    let other = 1 - record;
-    desk.advance(other);
-    let version = desk.version_of(other);
-    desk.sweep(&[version]);
-}
-
-impl<A: Allocator + Copy> StandingMap<A> {
+impl StandingMap {
     /// The map of a tree, planted in so many new rows.
-    fn planted<B: Allocator>(
+    fn planted<A: Allocator>(
         rt: &impl Abort,
-        alloc: A,
-        tree: Option<&Node<B>>,
+        alloc: Global,
+        tree: Option<&Node<A>>,
         size: u32,
-    ) -> Result<StandingMap<A>, Memory>
+    ) -> Result<StandingMap, Memory>
         requires tree { (m : List Pair) × IsMap m
             × IsTreeOf One (tree_at One (option_copied tree)) m }
         requires some { 0 < size }
@@ -71,30 +54,16 @@ impl<A: Allocator + Copy> StandingMap<A> {
         let Ok(root) = plant(&mut rows, &mut desk, tree, Format::One) else {
             panic!(rt; "no room")
         };
-        publish(&mut desk);
-        Ok(StandingMap { rows, desk, root })
-    }
-
-    /// The map of these pairs, planted in so many rows. Its tree is built in memory of its own.
-    ///
-    /// Returns `Memory` if a growth was refused.
-    pub fn new_beside<B: Allocator + Copy>(
-        rt: &impl Abort,
-        trees: B,
-        alloc: A,
-        pairs: &[(Key, Value)],
-        size: u32,
-    ) -> Result<StandingMap<A>, Memory> {
-        assert!(rt; is_map(pairs));
-        few(rt, pairs);
-        assert!(rt; 0 < size && size <= 65_535);
-        let tree = build(trees, pairs)?;
-        StandingMap::planted(rt, alloc, tree.as_deref(), size)
+        Ok(StandingMap { rows, root })
     }
 
     /// The map of these pairs, planted in so many rows.
-    pub fn new(rt: &impl Abort, alloc: A, pairs: &[(Key, Value)], size: u32) -> StandingMap<A> {
-        StandingMap::new_beside(rt, alloc, alloc, pairs, size).expect(rt, "memory")
+    pub fn new(rt: &impl Abort, alloc: Global, pairs: &[(Key, Value)], size: u32) -> StandingMap {
+        assert!(rt; is_map(pairs));
+        few(rt, pairs);
+        assert!(rt; 0 < size && size <= 65_535);
+        let tree = build(alloc, pairs).expect(rt, "memory");
+        StandingMap::planted(rt, alloc, tree.as_deref(), size).expect(rt, "memory")
     }
 
     /// What was read of the rows since the counts began.

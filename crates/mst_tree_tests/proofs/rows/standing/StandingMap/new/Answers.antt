@@ -1,6 +1,6 @@
 use Rattle.std.proofs.Common.{rules}
 use Rattle.mst_key.specs.Map.{IsMap}
-use Rattle.mst_tree_tests.proofs.rows.standing.StandingMap.new_beside.Goals as goal
+use Rattle.mst_tree_tests.proofs.rows.standing.StandingMap.new.Goals as goal
 
 pub planted-requires-clause-tree : goal.planted-requires-clause-tree
 planted-requires-clause-tree g c =
