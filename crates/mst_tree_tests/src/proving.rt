@@ -1,7 +1,8 @@
 //! The search for a collision in proofs, and refused growths. Transcripts
 //! (`tests/transcripts`) have what proofs show, proofs that are spelt out, and forged ones.
-ghost use Rattle.std.specs.Prelude.{◌≤◌, length};
-ghost use Rattle.mst_key.specs.Map.{IsMap};
+ghost use Rattle.std.specs.Prelude.{◌≤◌, ◌<◌, List, length, option_copied};
+ghost use Rattle.mst_key.specs.Map.{Pair, IsMap};
+ghost use Rattle.mst_path.specs.Planting.{tree_at, IsTreeOf};
 
 mod collisions;
 mod growths;
@@ -12,11 +13,13 @@ use crate::confirming::{confirm, few};
 use crate::heaps::heap_of;
 use crate::pairs::key_of;
 use linked_list_allocator::LocalHeap;
+use mst_arena::{Desk, PlainRows};
 use mst_key::{Format, Key, Memory, Value};
-use mst_node::{build_in, format_byte, is_map, text_in};
+use mst_node::{Node, build_in, is_map, text_in};
+use mst_path::plant;
 use mst_proof::collide_in;
+use mst_read::prove;
 use std::alloc::{Allocator, Global};
-use std::cmp::Ordering;
 use std::process::Abort;
 
 /// The proof of the map of `a` and `abc`, with the values `1` and `x`, for any key.
@@ -40,112 +43,26 @@ fn top_in<A: Allocator + Copy>(
     }
 }
 
-/// The greatest layer of the keys.
-fn greatest_layer(format: Format, pairs: &[(Key, Value)]) -> u8 {
-    let mut greatest = 0;
-    for (key, _) in pairs {
-        greatest = greatest.max(key.layer_in(format));
-    }
-    greatest
-}
-
-/// The pairs in the key's gap among those of the greatest layer, or `None` if one of these has the
-/// key.
-fn gap_of<'a>(format: Format, pairs: &'a [(Key, Value)], key: &Key) -> Option<&'a [(Key, Value)]> {
-    let greatest = greatest_layer(format, pairs);
-    let mut start = 0;
-    for (i, (at, _)) in pairs.iter().enumerate() {
-        if at.layer_in(format) != greatest {
-            continue;
-        }
-        match key.cmp(at) {
-            Ordering::Less => return pairs.get(start..i),
-            Ordering::Equal => return None,
-            Ordering::Greater => start = i + 1,
-        }
-    }
-    pairs.get(start..)
-}
-
-/// Adds a text, with its size before it.
-fn push_text(rt: &impl Abort, proof: &mut Vec<u8>, text: &[u8]) {
-    let size = u32::try_from(text.len()).expect(rt, "a short text");
-    proof
-        .extend_from_slice(size.to_be_bytes().as_slice())
-        .expect(rt, "memory");
-    proof.extend_from_slice(text).expect(rt, "memory");
-}
-
-/// Adds the text of the top node of the list's tree, and says whether there is one.
-fn push_top(
+/// The proof for a key in the map of a tree, which is planted in rows.
+fn planted_proof<A: Allocator>(
     rt: &impl Abort,
     alloc: Global,
     format: Format,
-    proof: &mut Vec<u8>,
-    pairs: &[(Key, Value)],
-) -> bool {
-    few(rt, pairs);
-    match top_in(alloc, format, pairs).expect(rt, "memory") {
-        Some(text) => {
-            push_text(rt, proof, text.as_slice());
-            true
-        }
-        None => false,
-    }
-}
-
-/// Adds the texts of the proof for the key, made from the lists in its gaps, and returns their
-/// number.
-fn push_texts(
-    rt: &impl Abort,
-    alloc: Global,
-    format: Format,
-    proof: &mut Vec<u8>,
-    pairs: &[(Key, Value)],
+    tree: Option<&Node<A>>,
     key: &Key,
-) -> u8 {
-    let mut gap = pairs;
-    for count in 0..129u8 {
-        if !push_top(rt, alloc, format, proof, gap) {
-            return count;
-        }
-        match gap_of(format, gap, key) {
-            None => return count + 1,
-            Some(below) => gap = below,
-        }
-    }
-    129
-}
-
-/// The value of the key in the list.
-fn value_in<'a>(pairs: &'a [(Key, Value)], key: &Key) -> Option<&'a [u8]> {
-    for (at, value) in pairs {
-        if *at == *key {
-            return Some(value.bytes());
-        }
-    }
-    None
-}
-
-/// Adds the claim of this answer: nothing in format 1.
-fn push_claim(rt: &impl Abort, format: Format, proof: &mut Vec<u8>, answer: Option<&[u8]>) {
-    match (format, answer) {
-        (Format::One, _) => {}
-        (Format::Two, None) => proof.push(0).expect(rt, "memory"),
-        (Format::Two, Some(value)) => {
-            proof.push(1).expect(rt, "memory");
-            proof.push(value.len().min(64) as u8).expect(rt, "memory");
-            proof.extend_from_slice(value).expect(rt, "memory");
-        }
-    }
-}
-
-/// The proof of these texts, which are so many.
-fn framed(rt: &impl Abort, alloc: Global, format: Format, count: u8, texts: &[u8]) -> Vec<u8> {
-    let heading = [format_byte(format), count];
-    let mut proof = heading.to_vec(alloc).expect(rt, "memory");
-    proof.extend_from_slice(texts).expect(rt, "memory");
-    proof
+    size: u32,
+) -> Result<Vec<u8>, Memory>
+    requires tree { (m : List Pair) × IsMap m
+        × IsTreeOf format (tree_at format (option_copied tree)) m }
+    requires some { 0 < size }
+    requires few { size ≤ 65535 }
+{
+    let mut desk = Desk::new(alloc, size, 2, 0)?;
+    let mut rows = PlainRows::new(alloc, size)?;
+    let Ok(root) = plant(&mut rows, &mut desk, tree, format) else {
+        panic!(rt; "no room")
+    };
+    prove(alloc, &mut rows, &root, key, format)
 }
 
 /// The proof for the key in the map of the list.
@@ -156,12 +73,12 @@ fn proof_for(
     pairs: &[(Key, Value)],
     key: &[u8],
 ) -> Vec<u8> {
+    assert!(rt; is_map(pairs));
+    few(rt, pairs);
+    let tree = build_in(alloc, format, pairs).expect(rt, "memory");
+    let size = if pairs.len() < 4_000 { 8_000 } else { 65_535 };
     let key = key_of(rt, key);
-    let mut texts = Vec::new(alloc);
-    let count = push_texts(rt, alloc, format, &mut texts, pairs, &key);
-    let mut proof = framed(rt, alloc, format, count, texts.as_slice());
-    push_claim(rt, format, &mut proof, value_in(pairs, &key));
-    proof
+    planted_proof(rt, alloc, format, tree.as_deref(), &key, size).expect(rt, "memory")
 }
 
 /// Whether `collide_in` finds a pair of texts beside no tree.
