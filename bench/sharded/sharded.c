@@ -1,6 +1,6 @@
 /*
- * The sharded map: shards of equal intervals, since the keys are random, each with room for its keys
- * and as many rows again, as pinned versions need.
+ * The sharded map: shards of equal intervals, since the keys are random, each with room for its
+ * keys and as many rows again, as pinned versions need.
  */
 #include "engine.h"
 #include "mst_store.h"

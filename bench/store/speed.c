@@ -3,8 +3,9 @@
  *
  *     speed ENGINE KEYS CALL [COUNT [ROUNDS]]
  *
- * ENGINE is store, lmdb, sqlite or map; CALL one of the names below. Fills the map, then makes COUNT calls at
- * random keys in each of ROUNDS rounds, and writes the microseconds a call of the fastest round:
+ * ENGINE is store, lmdb, sqlite or map; CALL one of the names below. Fills the map, then makes
+ * COUNT calls at random keys in each of ROUNDS rounds, and writes the microseconds a call of the
+ * fastest round:
  * those of the processor that the calling thread had, so that what else runs there counts little.
  * Of a batch they are those of one of its puts. A load is a batch that fills a new map, one in each
  * round.

@@ -1,6 +1,7 @@
 /*
  * Batches of sharded maps: which shard has what when one refuses its edits, that a call goes on
- * where one stopped, each way in which bytes are no batch, and random batches against a plain array.
+ * where one stopped, each way in which bytes are no batch, and random batches against a plain
+ * array.
  *
  *     sharded_batches [BATCHES]
  */

@@ -1,6 +1,6 @@
 /*
- * A malloc that counts, and that refuses its n-th call: an opening of a sharded map leaves all hands
- * empty, each question leaves its snapshot as it was, and nothing is ever leaked.
+ * A malloc that counts, and that refuses its n-th call: an opening of a sharded map leaves all
+ * hands empty, each question leaves its snapshot as it was, and nothing is ever leaked.
  */
 #include "heap.h"
 #include "tests.h"

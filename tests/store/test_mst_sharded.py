@@ -95,7 +95,8 @@ class Sharded(unittest.TestCase):
         writer.apply([])
         self.assertEqual(self.versions(reader), [1, 1, 0, 2])
         # the third shard has no rows for its edits
-        edits += [(bytes((ord("c"), last)), b"") for last in range(9)] + [(b"d", b"3"), (b"a", b"3")]
+        edits += [(bytes((ord("c"), last)), b"") for last in range(9)]
+        edits += [(b"d", b"3"), (b"a", b"3")]
         for call in (writer.apply, writer.try_apply):
             with self.assertRaises(RefusedShard) as caught:
                 call(edits)
@@ -128,7 +129,8 @@ class Sharded(unittest.TestCase):
 
         def work(at):
             for step in range(100):
-                handles[at].apply((bytes((shard, at)), bytes([step])) for shard in range(1, 256, 16))
+                keys = (bytes((shard, at)) for shard in range(1, 256, 16))
+                handles[at].apply((key, bytes([step])) for key in keys)
 
         threads = [threading.Thread(target=work, args=(at,)) for at in range(4)]
         for thread in threads:

@@ -1,6 +1,6 @@
 """Cases whose texts are computed: by other programs for nodes and proofs (vectors/nodes.py, the
-verifier in Python), at random, from what an earlier run has answered, or by a plain model of a store
-(modelled.py, longer.py) or of a sharded map (sharded.py)."""
+verifier in Python), at random, from what an earlier run has answered, or by a plain model of a
+store (modelled.py, longer.py) or of a sharded map (sharded.py)."""
 import hashlib
 import itertools
 import os

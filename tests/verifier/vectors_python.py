@@ -1,5 +1,5 @@
-"""vectors_python.py [--sharded] FILE: checks each line of vectors by mst_verifier.py, those of proofs
-of sharded maps with the option.
+"""vectors_python.py [--sharded] FILE: checks each line of vectors by mst_verifier.py, those of
+proofs of sharded maps with the option.
 
 A line has a format, a root digest, a key, a proof and the answer.
 """
