@@ -1,6 +1,7 @@
 /*
- * What is timed: a map of keys of 16 bytes and values of 32, through seats, one for each thread.
- * Each call ends the program if the map returns anything other than it has to.
+ * What is timed: a map of keys of 16 bytes and values of 32, unless the compiler is told other
+ * lengths, through seats, one for each thread. Each call ends the program if the map returns
+ * anything other than it has to.
  */
 #ifndef ENGINE_H
 #define ENGINE_H
@@ -8,8 +9,12 @@
 #include <stddef.h>
 #include <stdint.h>
 
-#define KEY_LENGTH 16
-#define VALUE_LENGTH 32
+#ifndef KEY_LENGTH
+#define KEY_LENGTH 16 /* 8 to 32 */
+#endif
+#ifndef VALUE_LENGTH
+#define VALUE_LENGTH 32 /* 8 to 64 */
+#endif
 #define RANGE_PAIRS 100
 #define SEATS 2
 #define BATCH_MOST 32768

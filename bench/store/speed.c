@@ -5,10 +5,9 @@
  *
  * ENGINE is store, lmdb, sqlite or map; CALL one of the names below. Fills the map, then makes
  * COUNT calls at random keys in each of ROUNDS rounds, and writes the microseconds a call of the
- * fastest round:
- * those of the processor that the calling thread had, so that what else runs there counts little.
- * Of a batch they are those of one of its puts. A load is a batch that fills a new map, one in each
- * round.
+ * fastest round: those of the processor that the calling thread had, so that what else runs there
+ * counts little. Of a batch they are those of one of its puts. A load is a batch that fills a new
+ * map, one in each round. With another MAP, the keys are other ones.
  */
 #include "../common.h"
 #include "engine.h"
@@ -28,6 +27,10 @@
 #ifndef CALLGRIND_START_INSTRUMENTATION
 #define CALLGRIND_START_INSTRUMENTATION
 #define CALLGRIND_STOP_INSTRUMENTATION
+#endif
+
+#ifndef MAP
+#define MAP 0
 #endif
 
 enum thing { GET, GET_WITHIN, NEXT, RANGE, PUT, PROVE, BATCH, LOAD };
@@ -73,7 +76,8 @@ static uint64_t drawn(struct chance *chance) {
 }
 
 static void key_bytes(uint8_t *key, uint64_t number) {
-    uint64_t parts[2] = {mixed(number), number};
+    uint64_t first = mixed(number + ((uint64_t)MAP << 32));
+    uint64_t parts[4] = {first, number, ~first, ~number};
     memcpy(key, parts, KEY_LENGTH);
 }
 
