@@ -4,8 +4,9 @@
  * see all edits of a batch or none.
  */
 #include "racing.h"
+#include <sched.h>
 
-#define TRIES 1000000 /* how often a write is tried at most */
+#define TRIES 100000000 /* how often a write is tried at most, before each time others go first */
 #define VALUES 100
 #define MIGRATES_EACH 10 /* how many puts a thread makes before each migration */
 #define PUTS 1000
@@ -28,9 +29,9 @@ static void closes(size_t count) {
 
 static const char *const own_keys[] = {"a", "b"};
 
-/* Whether another pass has the turn, or holds the rows for a moment. */
+/* Whether another pass has the turn, or holds the rows for a moment: it goes first. */
 static int is_to_be_tried_again(int32_t told) {
-    return told == MST_BUSY || told == MST_NO_FREE_ROWS;
+    return (told == MST_BUSY || told == MST_NO_FREE_ROWS) && sched_yield() == 0;
 }
 
 static int puts_by_tries(mst_pass *pass, const char *key, uint8_t value) {
