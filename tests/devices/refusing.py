@@ -25,10 +25,10 @@ class Refusals:
     """A command, its status and its answers with ample memory, and each of the answers with which
     it also may end if some is refused."""
 
-    def __init__(self, words, given, out, others=(), status=DONE):
+    def __init__(self, words, given, out, others=(), status=DONE, threads=0):
         self.words, self.given = words, given
-        # the C library keeps some blocks of each thread that was started
-        self.has_threads = words.startswith("load")
+        # whether a thread gives its last block back before the program ends is chance
+        self.threads = threads
         self.whole = status, out, b""
         self.others = [(DONE, other, b"") for other in others]
 
@@ -49,7 +49,7 @@ class Refusals:
                 came = program.run(words, self.given, limits)
                 asked, live = program.growths()
                 seen.add(came)
-                is_freed = live <= kept if self.has_threads else live == kept
+                is_freed = abs(live - kept) <= self.threads
                 is_well = is_freed and self.ends_well(came, limits, asked > growths)
                 yield "" if is_well else f"by {limits}: {came}, {live} blocks for {kept} are kept"
         missed = {NOTHING, *self.others, self.whole} - seen
@@ -72,7 +72,8 @@ def load_of(calls):
     pairs = [(bytes([1, call]), call.to_bytes(4, "big")) for call in range(1, calls + 1)]
     root = nodes.build(pairs)[1].hex()
     report = lines_of(f"events {calls}", "falls 0", f"root {root}", f"built {root}")
-    return Refusals(f"load --readers 2 --writers 1 --calls {calls}", b"", report)
+    words = f"load --readers 2 --writers 1 --calls {calls}"
+    return Refusals(words, b"", report, threads=3)
 
 
 STARTS = [
