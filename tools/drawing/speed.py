@@ -8,6 +8,7 @@ from .canvas import Canvas
 from .maps import TOP
 
 LEFT, RIGHT, UPPER, LOWER = 110, 790, 64, 524
+DECADES = 1.8  # of keys, from 1,000 on
 MARKS = ["disc", "square", "ring", "diamond"]
 CAPTION = [
     "Keys of 16 bytes, values of 32, from C; a proved build on an x86-64 machine at 2.5 GHz.",
@@ -32,7 +33,7 @@ def figures():
 
 def across(keys):
     """Where a number of keys stands."""
-    return LEFT + 40 + (math.log10(float(keys)) - 3) / 1.5 * (RIGHT - LEFT - 80)
+    return LEFT + 40 + (math.log10(float(keys)) - 3) / DECADES * (RIGHT - LEFT - 80)
 
 
 def up(microseconds):
