@@ -1,5 +1,5 @@
 -- From the edits that were made in the rows to the batch that is made, and why one is not made.
-use Rattle.std.proofs.Common.{◌≡◌, ◌+◌, ◌<◌, List, length, Result, Ok, Err, refl}
+use Rattle.std.proofs.Common.{◌≡◌, ℕ, ◌+◌, ◌<◌, List, [], length, false, Result, Ok, Err, refl}
 use Rattle.std.specs.Prelude.{IfOk, IfErr}
 use Rattle.mst_key.specs.declared.history.Change.TheVariants.{Batch}
 use Rattle.mst_key.specs.declared.history.Edit.{Edit}
@@ -15,12 +15,16 @@ use Rattle.mst_path.specs.Reached.{Changes}
 use Rattle.mst_batch.specs.declared.faults.NotApplied.{NotApplied}
 use Rattle.mst_batch.specs.declared.faults.NotApplied.TheVariants as applied
 use Rattle.mst_batch.specs.Applying.{LacksBatch}
-use Rattle.mst_words.specs.Access.{Seated, beside, content_of}
+use Rattle.mst_words.specs.Access.{Seated, IsSameSeat, beside, content_of}
 use Rattle.mst_versions.specs.declared.turn.Turn.{Turn}
-use Rattle.mst_versions.specs.Turns.{Seat, HasTurn}
+use Rattle.mst_key.specs.declared.memory.Memory.{Memory}
+use Rattle.mst_versions.specs.declared.faults.ApplyFault.TheVariants as fault
+use Rattle.mst_versions.specs.Known.{AtSeat}
+use Rattle.mst_versions.specs.Turns.{Seat, HasTurn, Begun}
 use Rattle.mst_versions.specs.Writes.{Made}
-use Rattle.mst_versions.specs.Applying.{LacksEdits}
+use Rattle.mst_versions.specs.Applying.{LacksEdits, RefusesBatch}
 use Rattle.mst_versions.proofs.Made.{key_aged, change_made}
+use Rattle.mst_versions.proofs.Written.{looks_back, given_back}
 
 -- ---- the edits are made
 
@@ -63,3 +67,13 @@ pub batch_lacks : {A : Type 0} (t : Turn A) (m : Seat) → HasTurn t m → (es :
     → IfErr r (λ why. LacksEdits why es t m)
 batch_lacks t m h es (Ok root) lacks = tt
 batch_lacks t m h es (Err why) lacks = lacks_edits t m h es why lacks
+
+-- memory was refused, and the turn given back
+pub batch_memory : {A : Type 0} (s : Seated) (m1 : Seat) (t : Turn A) (b : Begun s.me t m1)
+    (number : ℕ) (mine : s.me.0.number ≡ number) (m2 : Seat) (z : Seated) → IsSameSeat s z
+    → m2 ≡ m1 → z.me ≡ (record m2.0 { turn = false }, []) → (es : List Edit) (refused : Memory)
+    → length m1.0.seen < last_version → LacksEdits (applied.Memory refused) es t m1
+    → AtSeat (RefusesBatch (fault.Memory refused) es) number s z
+batch_memory s m1 t b number mine m2 z same still back es refused early several =
+    given_back s m1 t b number mine m2 z same still back (RefusesBatch (fault.Memory refused) es)
+    (λ made. (looks_back s m1 t b number mine made, early, b.asked, several))

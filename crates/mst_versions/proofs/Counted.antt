@@ -4,20 +4,22 @@ use Rattle.std.proofs.lemmas.Bool.{eq-eqb}
 use Rattle.std.proofs.lemmas.Bool.Decides.{nat_tests}
 use Rattle.std.proofs.lemmas.Nat.{mod-mul-add}
 use Rattle.mst_key.specs.declared.format.Format.{Format}
-use Rattle.mst_key.specs.History.{after, format_after, events_of, IsPrefix}
+use Rattle.mst_key.specs.History.{after, format_after}
 use Rattle.mst_arena.specs.Lives.{free_count}
 use Rattle.mst_arena.specs.Lists.{In}
 use Rattle.mst_arena.proofs.ListLemmas.{in_either, one_row}
 use Rattle.mst_pin.specs.WordParts.{masks}
 use Rattle.mst_words.specs.declared.view.View.{View}
-use Rattle.mst_words.specs.Notes.{IsOfPasses}
+use Rattle.mst_words.specs.Access.{Seated, IsSameSeat}
 use Rattle.mst_words.specs.Steps.{NotesCurrent, AsksCurrent, found_now}
 use Rattle.mst_words.proofs.Members.{in_nothing, contained, within}
 use Rattle.mst_versions.specs.declared.turn.Turn.{Turn}
 use Rattle.mst_versions.specs.Turns.{Seat, HoldsDesk, HasTurn, Begun}
 use Rattle.mst_versions.specs.Counting.{Counts, CountsFree}
-use Rattle.mst_versions.specs.Writes.{rows_of, rows_kept, AreFound}
-use Rattle.mst_versions.proofs.Written.{room_left, room_alone_left, are_found, looked}
+use Rattle.mst_versions.specs.Known.{known, AtSeat}
+use Rattle.mst_versions.specs.Writes.{rows_of}
+use Rattle.mst_versions.proofs.Shown.{at_seat}
+use Rattle.mst_versions.proofs.Written.{room_left, room_alone_left, are_found, gave, looks, looks_back, given_back}
 
 -- what the holder of the turn has at hand does not depend on what it noted and found of pins
 still : {A : Type 0} (t : Turn A) (m : Seat) (noted : Option ℕ) (found : List ℕ) (asked : ℕ)
@@ -115,28 +117,22 @@ module _ {A : Type 0} (t : Turn A) (m1 m2 m3 : Seat) (noted done : ℕ) (n : Not
       ap (λ (z : ℕ). z % masks) n.found ∙ mod-mul-add m1.0.desk.current masks n.mask n.small
       ∙ sym (a.alone (ap (λ (z : Seat). z.0.passes) n.is ∙ one) n.mask n.small word)
 
-  pub counted : (m m' : Seat) → Begun m t m1 → m' ≡ (record m3.0 { turn = false }, [])
-      → (found : Option ℕ) (used : ℕ) → used + free_count t.desk.lives ≡ m.0.rows
+  pub counted : (s z : Seated) (b : Begun s.me t m1) (number : ℕ) → s.me.0.number ≡ number
+      → IsSameSeat s z → z.me ≡ (record m3.0 { turn = false }, [])
+      → (found : Option ℕ) (used : ℕ) → used + free_count t.desk.lives ≡ s.me.0.rows
       → (t.kept ≡ 1 → noted % masks ≡ done → found ≡ Some used)
       → IfSome found (λ k. (k ≡ used) × (t.kept ≡ 1) × (noted % masks ≡ done))
-      → Counts m found m'
-  counted m m' b gave found used all alone only =
-      let back : m'
-      ≡ (
-        record m1.0 {
-          noted = Some noted;
-          found = all_found;
-          asked = m1.0.asked + 1 + 1;
-          turn =
-              false;
-        },
-        [],
-      ) = gave ∙ ap (λ (z : Seat). (record z.0 { turn = false }, [])) asked_both in
-      let seen : m'.0.seen ≡ m1.0.seen = ap (λ (z : Seat). z.0.seen) back in record {
-        later = subst (λ (z : Seat). IsPrefix m.0.seen z.0.seen) (sym back) b.later;
-        own = subst (λ (z : Seat). events_of m.0.number z.0.seen ≡ m.0.mine) (sym back) b.own;
-        mine = ap (λ (z : Seat). z.0.mine) back ∙ ap (λ (v : View). v.mine) b.rest;
-        alone = subst (λ (z : Seat). IsOfPasses m.0.passes z.0.seen) (sym back) b.alone;
+      → AtSeat (Counts found) number s z
+  counted s z b number mine same back found used all lone only made =
+      let m = s.me in
+      let w = gave s m1 t b number mine (Some noted) all_found (m1.0.asked + 1 + 1) in
+      let z_is : z ≡ w = at_seat s z w.me same
+      (back ∙ ap (λ (x : Seat). (record x.0 { turn = false }, [])) asked_both) in
+      let as_many = b.has.leaves.as_many in
+      let lengths = length-append m1.0.found (found_now (Some noted) done (length m1.0.seen)) in
+      subst (λ (x : Seated). Counts found (known number made s) (known number made x)) (sym z_is)
+      record {
+        looks = looks s m1 t b number mine (Some noted) all_found (m1.0.asked + 1 + 1) made;
         number =
             λ k is. (let o =
             subst (λ (z : Option ℕ). IfSome z
@@ -145,44 +141,35 @@ module _ {A : Type 0} (t : Turn A) (m1 m2 m3 : Seat) (noted done : ℕ) (n : Not
             let map_is = room_alone_left t m1 b.has (omega (arith, f, o.1)) in
             let here : k ≡ rows_of t.format (after m1.0.seen) =
             omega (arith, all, o.0, map_is, r) in
-            here ∙ ap (λ (f : _). rows_of f (after m1.0.seen)) b.has.format
-            ∙ ap (λ (z : Seat). rows_of (format_after z.0.format z.0.seen) (after z.0.seen))
-            (sym back));
-        found_alone =
-            λ one. (let p = ap (λ (v : View). v.passes) b.rest in let f = b.has.fewer in let k =
-            b.has.number in ap is_some (alone (omega (arith, f, k, p, one)) (same_mask (p ∙ one))));
+            here ∙ ap (λ (f : Format). rows_of f (after m1.0.seen)) b.has.format);
+        alone =
+            λ one. (let is_one : s.me.0.passes ≡ 1 = one in
+            let p = ap (λ (v : View). v.passes) b.rest in let f = b.has.fewer in let k =
+            b.has.number in ap is_some (lone (omega (arith, f, k, p, is_one))
+            (same_mask (p ∙ is_one))));
         exact = (
           (λ is. let some = some_of found is in let o =
               subst (λ (z : Option ℕ). IfSome z
               (λ i. (i ≡ used) × (t.kept ≡ 1) × (noted % masks ≡ done))) some.1 only in let kept =
-              o.1 in let as_many = b.has.leaves.as_many in
-              ap (λ (z : Seat). z.0.found) back
-              ∙ ap (λ (z : List ℕ). z ++ found_now (Some noted) done (length m1.0.seen))
+              o.1 in
+              ap (λ (z : List ℕ). z ++ found_now (Some noted) done (length m1.0.seen))
               (no_members m1.0.found (omega (arith, as_many, kept))) ∙ unpinned noted done
               (length m1.0.seen) o.2),
-          (λ none. let all_none : all_found ≡ [] = sym (ap (λ (z : Seat). z.0.found) back) ∙ none in
-              let lengths =
-              length-append m1.0.found (found_now (Some noted) done (length m1.0.seen)) in
-              let no_length : length all_found ≡ 0 = ap (λ (z : List ℕ). length z) all_none in
-              let as_many = b.has.leaves.as_many in
-              ap is_some (alone (omega (arith, as_many, lengths, no_length))
+          (λ none. let no_length : length all_found ≡ 0 = ap (λ (z : List ℕ). length z) none in
+              ap is_some (lone (omega (arith, as_many, lengths, no_length))
               (is_unpinned noted done (length m1.0.seen) (omega (arith, lengths, no_length))))),
         );
-        are = subst (λ (z : Seat). AreFound (m.0.passes + 1) z.0.seen z.0.found) (sym back) record {
+        are = record {
           few =
               (let first = (are_found m m1 t b).few in let last =
-              at_most_one noted done (length m1.0.seen) in let lengths =
-              length-append m1.0.found (found_now (Some noted) done (length m1.0.seen)) in
-              omega (arith, first, last, lengths));
+              at_most_one noted done (length m1.0.seen) in omega (arith, first, last, lengths));
           below =
               λ v has. ⊎_elim (λ first. (are_found m m1 t b).below v (contained v m1.0.found first))
               (λ last. it_is noted done (length m1.0.seen) v last)
               (in_either v m1.0.found (found_now (Some noted) done (length m1.0.seen))
               (within v all_found has));
         };
-        asked =
-            (let q = ap (λ (z : Seat). z.0.asked) back in let k = b.asked in omega (arith, q, k));
-        missed = ap (λ (z : Seat). z.0.missed) back ∙ ap (λ (v : View). v.missed) b.rest;
+        asked = (let k = b.asked in omega (arith, k));
       }
 
 -- the rows that are not free, and those that are, are all rows
@@ -192,33 +179,27 @@ pub all_rows : {A : Type 0} (m m1 : Seat) (t : Turn A) → Begun m t m1 → (all
 all_rows m m1 t b all free is counted = let l = room_left t m1 b.has in let r =
     ap (λ (v : View). v.rows) b.rest in omega (arith, l, r, is, counted)
 
-module _ {A : Type 0} (m m1 m' : Seat) (t : Turn A) (b : Begun m t m1)
-    (gave : m' ≡ (record m1.0 { turn = false }, [])) (free : ℕ)
-    (is : free ≡ free_count t.desk.lives) where
-  -- the rows that are free, and those that the kept versions hold, are all rows
-  all_kept : free + rows_kept m.0.format m1.0.seen m1.0.found ≡ m.0.rows
-  all_kept = subst (λ (f : Format). free + rows_kept f m1.0.seen m1.0.found ≡ m.0.rows)
-      (ap (λ (v : View). v.format) b.rest) (let l = b.has.leaves.left in let r =
-      ap (λ (v : View). v.rows) b.rest in omega (arith, l, r, is))
-
+module _ {A : Type 0} (s : Seated) (m1 : Seat) (t : Turn A) (b : Begun s.me t m1) (number : ℕ)
+    (mine : s.me.0.number ≡ number) (free : ℕ) (is : free ≡ free_count t.desk.lives) where
   -- if no version was found pinned, the map alone holds rows
   all_mapped : m1.0.found ≡ []
-      → free + rows_of (format_after m.0.format m1.0.seen) (after m1.0.seen) ≡ m.0.rows
-  all_mapped none = subst (λ (f : Format). free + rows_of f (after m1.0.seen) ≡ m.0.rows)
-      (b.has.format ∙ ap (λ (v : View). format_after v.format m1.0.seen) b.rest)
+      → free + rows_of (format_after m1.0.format m1.0.seen) (after m1.0.seen) ≡ m1.0.rows
+  all_mapped none = subst (λ (f : Format). free + rows_of f (after m1.0.seen) ≡ m1.0.rows)
+      b.has.format
       (let as_many = b.has.leaves.as_many in let number = b.has.number in
       let no_length : length m1.0.found ≡ 0 = ap (λ (z : List ℕ). length z) none in
-      let map_is = room_alone_left t m1 b.has (omega (arith, as_many, number, no_length)) in let r =
-      ap (λ (v : View). v.rows) b.rest in omega (arith, map_is, is, r))
+      let map_is = room_alone_left t m1 b.has (omega (arith, as_many, number, no_length)) in
+      omega (arith, map_is, is))
 
-  pub counted_free : CountsFree m free m'
-  counted_free = record {
-    looked = looked m m1 t b m1 m' refl gave;
-    are = subst (λ (z : Seat). AreFound m.0.passes z.0.seen z.0.found) (sym gave)
-        (are_found m m1 t b);
-    left = subst (λ (z : Seat). free + rows_kept m.0.format z.0.seen z.0.found ≡ m.0.rows)
-        (sym gave) all_kept;
-    alone = λ none. subst (λ (z : Seat). free + rows_of (format_after m.0.format z.0.seen)
-        (after z.0.seen) ≡ m.0.rows) (sym gave)
-        (all_mapped (sym (ap (λ (z : Seat). z.0.found) gave) ∙ none));
-  }
+  -- the rows that are free, and those that the kept versions hold, are all rows
+  pub counted_free : (z : Seated) → IsSameSeat s z → z.me ≡ (record m1.0 { turn = false }, [])
+      → AtSeat (CountsFree free) number s z
+  counted_free z same back =
+      given_back s m1 t b number mine m1 z same refl back (CountsFree free)
+      (λ made. record {
+        looks = looks_back s m1 t b number mine made;
+        are = are_found s.me m1 t b;
+        left = (let left = b.has.leaves.left in omega (arith, left, is));
+        alone = all_mapped;
+        asked = b.asked;
+      })

@@ -5,6 +5,7 @@ pub mod Pinning
 pub mod Filing
 pub mod Ready
 mod Made
+mod Shown
 mod Written
 mod Migrated
 mod Batched

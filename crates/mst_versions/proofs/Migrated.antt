@@ -6,7 +6,7 @@ use Rattle.mst_key.specs.declared.format.Format.{Format}
 use Rattle.mst_key.specs.declared.format.Format.TheVariants.{One, Two}
 use Rattle.mst_key.specs.declared.history.Change.TheVariants.{Migrate}
 use Rattle.mst_key.specs.Map.{Pair, from_on, below, map_range}
-use Rattle.mst_key.specs.History.{History, after, format_after, was}
+use Rattle.mst_key.specs.History.{after, format_after, was}
 use Rattle.mst_node.specs.Tree.{tree}
 use Rattle.mst_node.specs.Cost.{same_format}
 use Rattle.mst_node.proofs.FormatsShareNothing as formats
@@ -25,7 +25,7 @@ use Rattle.mst_path.proofs.lemmas.rows.Moving.{out_of_times, moves_takes, alive_
 use Rattle.mst_path.proofs.lemmas.versions.Changes.{after_change, unchanged_map}
 use Rattle.mst_path.proofs.lemmas.versions.Migrated.{moved, changes, all_new}
 use Rattle.mst_path.proofs.lemmas.versions.Reached.{reached_old}
-use Rattle.mst_words.specs.Access.{Seated, beside, content_of}
+use Rattle.mst_words.specs.Access.{Seated, IsSameSeat, beside, content_of}
 use Rattle.mst_words.proofs.Framed.{stands_frame}
 use Rattle.mst_words.proofs.Members.{each}
 use Rattle.mst_versions.specs.declared.turn.Turn.{Turn}
@@ -33,9 +33,10 @@ use Rattle.mst_key.specs.declared.memory.Memory.{Memory}
 use Rattle.mst_versions.specs.declared.faults.MigrateFault.TheVariants as fault
 use Rattle.mst_versions.specs.Turns.{Seat, HasTurn, Begun}
 use Rattle.mst_versions.specs.Writes.{rows_taken, Made, LacksRows}
-use Rattle.mst_versions.specs.Migrating.{RefusesMoveAtSeat}
+use Rattle.mst_versions.specs.Known.{AtSeat}
+use Rattle.mst_versions.specs.Migrating.{RefusesMigration}
 use Rattle.mst_versions.proofs.Made.{map_stands, key_aged, change_made}
-use Rattle.mst_versions.proofs.Written.{room_left, format_now, back, looked, refused}
+use Rattle.mst_versions.proofs.Written.{room_left, looks_back, lacks_room, given_back}
 
 -- ---- the map in memory
 
@@ -147,24 +148,21 @@ stays_made t s h to is early =
 
 -- ---- a migration that is refused
 
-module _ {A : Type 0} (m m1 : Seat) (t : Turn A) (b : Begun m t m1) (m2 m' : Seat) (same : m2 ≡ m1)
-    (gave : m' ≡ (record m2.0 { turn = false }, [])) (to : Format) (other : t.format ≢ to)
-    (early : length m1.0.seen < last_version) where
-  seen : m'.0.seen ≡ m1.0.seen
-  seen = ap (λ (z : Seat). z.0.seen) (back m m1 t b m2 m' same gave)
+module _ {A : Type 0} (s : Seated) (m1 : Seat) (t : Turn A) (b : Begun s.me t m1) (number : ℕ)
+    (mine : s.me.0.number ≡ number) (m2 : Seat) (z : Seated) (same : IsSameSeat s z)
+    (still : m2 ≡ m1) (back : z.me ≡ (record m2.0 { turn = false }, [])) (to : Format)
+    (other : t.format ≢ to) (early : length m1.0.seen < last_version) where
+  other_now : format_after m1.0.format m1.0.seen ≢ to
+  other_now is = other (b.has.format ∙ is)
 
-  other_now : format_after m.0.format m'.0.seen ≢ to
-  other_now is =
-      other (format_now m m1 t b ∙ ap (λ (log : History). format_after m.0.format log) (sym seen)
-      ∙ is)
+  pub refused_memory : (refused : Memory)
+      → AtSeat (RefusesMigration (fault.Memory refused) to) number s z
+  refused_memory refused = given_back s m1 t b number mine m2 z same still back
+      (RefusesMigration (fault.Memory refused) to)
+      (λ made. (looks_back s m1 t b number mine made, early, b.asked, other_now))
 
-  pub refused_memory : (refused : Memory) → RefusesMoveAtSeat (fault.Memory refused) to m m'
-  refused_memory refused = (
-    looked m m1 t b m2 m' same gave,
-    subst (λ (log : History). length log < last_version)
-        (sym seen) early,
-    other_now,
-  )
-
-  pub refused_room : LacksRows (Migrate to) t m1 → RefusesMoveAtSeat fault.NoRoom to m m'
-  refused_room lacks = (refused m m1 t b m2 m' same gave (Migrate to) early lacks, other_now)
+  pub refused_room : LacksRows (Migrate to) t m1
+      → AtSeat (RefusesMigration fault.NoRoom to) number s z
+  refused_room lacks = given_back s m1 t b number mine m2 z same still back
+      (RefusesMigration fault.NoRoom to)
+      (λ made. (lacks_room s m1 t b number mine (Migrate to) early lacks made, other_now))

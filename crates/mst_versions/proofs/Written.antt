@@ -1,12 +1,14 @@
 -- From the turn that was begun to what the pass knows after its write.
-use Rattle.std.proofs.Common.{◌≡◌, ℕ, ◌+◌, ◌<◌, ◌≤◌, List, [], ◌∷◌, ◌++◌, length, map, slice_index, true, false, sym, ap, ◌∙◌, subst, arith}
+use Rattle.std.proofs.Common.{◌≡◌, ℕ, ◌+◌, ◌<◌, ◌≤◌, Bool, cond, List, [], ◌∷◌, ◌++◌, length, map, slice_index, Option, Some, true, false, refl, sym, ap, ◌∙◌, subst, arith}
+use Rattle.std.proofs.lemmas.Bool.{eq-eqb}
 use Rattle.std.proofs.lemmas.List.Elements.{All-append, All-cons}
 use mathlib.Core.Logic.{dite}
 use native.Mathlib.Decide.{ℕ_discrete}
 use Rattle.mst_key.specs.declared.format.Format.{Format}
 use Rattle.mst_key.specs.declared.history.Change.{Change}
 use Rattle.mst_key.specs.declared.history.Event.{Event}
-use Rattle.mst_key.specs.History.{History, after, format_after, Reply, reply_of}
+use Rattle.mst_key.specs.History.{History, after, format_after, Reply, reply_of, events_of}
+use Rattle.mst_key.proofs.HistoryLaws.{events_of-append}
 use Rattle.mst_arena.specs.Lives.{version, reaches, free_count, swept_life, last_version}
 use Rattle.mst_arena.specs.Standing.{numbers}
 use Rattle.mst_arena.specs.declared.life.Life.{Life}
@@ -18,14 +20,16 @@ use Rattle.mst_arena.proofs.ListLemmas.{one_row}
 use Rattle.mst_path.proofs.lemmas.rows.Taking.{frees, frees_is}
 use Rattle.mst_path.proofs.lemmas.versions.Versions.{room_alone, rows_of_map}
 use Rattle.mst_words.specs.declared.view.View.{View}
-use Rattle.mst_words.specs.Access.{content_of}
+use Rattle.mst_words.specs.Access.{Seated, IsSameSeat, content_of}
 use Rattle.mst_words.specs.Notes.{IsOfPasses}
 use Rattle.mst_words.proofs.Members.{in_nothing, within}
 use Rattle.mst_versions.specs.declared.turn.Turn.{Turn}
 use Rattle.mst_versions.specs.declared.faults.WriteFault.TheVariants.{NoRoom}
 use Rattle.mst_versions.specs.Turns.{Seat, IsKept, AreKept, LeavesFree, HasTurn, Begun, Added}
-use Rattle.mst_versions.specs.Writes.{made_at_seat, rows_of, rows_taken, Made, LacksRows, WroteAtSeat, LookedAtSeat, AreFound, FindsRoom, LacksKept, RefusesAtSeat}
+use Rattle.mst_versions.specs.Known.{Known, known, AtSeat, Looks}
+use Rattle.mst_versions.specs.Writes.{made_at_seat, rows_of, rows_taken, Made, LacksRows, AreFound, FindsRoom, LacksKept, WroteAtSeat, Refuses}
 use Rattle.mst_versions.proofs.Asked.{in_last}
+use Rattle.mst_versions.proofs.Shown.{at_seat, store_at, store_is}
 
 dead_more : (b d : ℕ) (life : Life) (old new : List Life) → frees old ≤ frees new
     → frees (Dead b d ∷ old) ≤ frees (life ∷ new)
@@ -103,6 +107,13 @@ pub own_event : (m m' : Seat) (e : Event) → e.pass ≡ m.0.number → m'.0.num
 own_event m m' e mine same = ap (λ (p : ℕ). record { pass = p; change = e.change })
     (same ∙ sym mine)
 
+one_event : (number : ℕ) (change : Change)
+    → events_of number (record { pass = number; change = change } ∷ [])
+    ≡ record { pass = number; change = change } ∷ []
+one_event number change =
+    let e : Event = record { pass = number; change = change } in
+    ap (λ (own : Bool). cond own (e ∷ []) []) (eq-eqb number number refl)
+
 module _ {A : Type 0} (m m1 : Seat) (t : Turn A) (b : Begun m t m1) where
   -- the format of the current version
   pub format_now : t.format ≡ format_after m.0.format m1.0.seen
@@ -147,76 +158,121 @@ module _ {A : Type 0} (m m1 : Seat) (t : Turn A) (b : Begun m t m1) where
         fits = omega (arith, left, taken, n);
       }
 
-  -- the turn was given back with the history as it was
-  module _ (m2 m' : Seat) (still : m2 ≡ m1) (gave : m' ≡ (record m2.0 { turn = false }, [])) where
-    pub back : m' ≡ (record m1.0 { turn = false }, [])
-    back = gave ∙ ap (λ (z : Seat). (record z.0 { turn = false }, [])) still
+-- a seat that has made this version shows its pass, once the turn was given back or the version
+-- published
+module _ {A : Type 0} (s : Seated) (m1 : Seat) (t : Turn A) (b : Begun s.me t m1) (number : ℕ)
+    (mine : s.me.0.number ≡ number) where
+  passes_kept : m1.0.passes ≡ s.me.0.passes
+  passes_kept = ap (λ (v : View). v.passes) b.rest
 
-    pub looked : LookedAtSeat m m'
-    looked =
-        subst (LookedAtSeat m) (sym back)
-        (record {
-          later = b.later;
-          own = b.own;
-          mine = ap (λ (v : View). v.mine) b.rest;
-          alone =
-              b.alone;
-          asked = b.asked;
-          missed = ap (λ (v : View). v.missed) b.rest;
-        })
+  mine_kept : m1.0.mine ≡ s.me.0.mine
+  mine_kept = ap (λ (v : View). v.mine) b.rest
+
+  own_now : events_of number m1.0.seen ≡ s.me.0.mine
+  own_now = ap (λ (n : ℕ). events_of n m1.0.seen) (sym mine) ∙ b.own
+
+  -- the seat that gave the turn back, with what it noted and found of pins meanwhile
+  abbrev pub gave : Option ℕ → List ℕ → ℕ → Seated
+  gave noted found asked = record s {
+    me = (record m1.0 { noted = noted; found = found; asked = asked; turn = false }, []);
+  }
+
+  pub looks : (noted : Option ℕ) (found : List ℕ) (asked : ℕ)
+      → AtSeat Looks number s (gave noted found asked)
+  looks noted found asked made = record {
+    same = (ap (λ (v : View). store_at s.table v.rows v.passes v.format) b.rest, refl);
+    later = b.later;
+    mine = mine_kept;
+    own = own_now ∙ sym mine_kept;
+    alone = subst (λ (n : ℕ). IsOfPasses n m1.0.seen) (sym passes_kept) b.alone;
+    missed = ap (λ (v : View). v.missed) b.rest;
+    made = refl;
+  }
+
+  abbrev pub gave_back : Seated
+  gave_back = gave m1.0.noted m1.0.found m1.0.asked
+
+  pub looks_back : AtSeat Looks number s gave_back
+  looks_back = looks m1.0.noted m1.0.found m1.0.asked
+
+  pub lacks_room : (change : Change) → length m1.0.seen < last_version → LacksRows change t m1
+      → AtSeat (Refuses NoRoom change) number s gave_back
+  lacks_room change early lacks made = (
+    looks_back made,
+    early,
+    (λ alone. subst (λ (f : Format). m1.0.rows < rows_of f (after m1.0.seen)
+        + rows_taken f (after m1.0.seen) change) b.has.format
+        (let one : s.me.0.passes ≡ 1 = alone in let fewer = b.has.fewer in
+        let all = room_alone_left t m1 b.has (omega (arith, fewer, passes_kept, one)) in
+        omega (arith, all, lacks))),
+    b.asked,
+    lacks_kept s.me m1 t b change lacks,
+  )
+
+  -- the turn was given back with the history as it was
+  module _ (m2 : Seat) (z : Seated) (same : IsSameSeat s z) (still : m2 ≡ m1)
+      (back : z.me ≡ (record m2.0 { turn = false }, [])) where
+    pub given_back : (Holds : Known → Known → Type 0) → AtSeat Holds number s gave_back
+        → AtSeat Holds number s z
+    given_back Holds holds made =
+        subst (λ (x : Seated). Holds (known number made s) (known number made x))
+        (sym (at_seat s z gave_back.me same
+        (back ∙ ap (λ (m : Seat). (record m.0 { turn = false }, [])) still))) (holds made)
 
     pub refused : (change : Change) → length m1.0.seen < last_version → LacksRows change t m1
-        → RefusesAtSeat NoRoom change m m'
-    refused change early lacks =
-        let seen : m'.0.seen ≡ m1.0.seen = ap (λ (z : Seat). z.0.seen) back in (
-          looked,
-          subst (λ (log : History). length log < last_version) (sym seen) early,
-          (λ one. subst (λ (log : History). m.0.rows < rows_of (format_after m.0.format log)
-              (after log) + rows_taken (format_after m.0.format log) (after log) change) (sym seen)
-              (subst (λ (f : Format). m.0.rows < rows_of f (after m1.0.seen) + rows_taken f
-              (after m1.0.seen) change) format_now
-              (let f = b.has.fewer in let k = ap (λ (v : View). v.passes) b.rest in let all =
-              room_alone_left t m1 b.has (omega (arith, f, k, one)) in let n =
-              ap (λ (v : View). v.rows) b.rest in omega (arith, all, lacks, n)))),
-          subst (λ (z : Seat). LacksKept m.0.format m.0.rows m.0.passes z.0.seen z.0.found change)
-              (sym back) (lacks_kept change lacks),
-        )
+        → AtSeat (Refuses NoRoom change) number s z
+    refused change early lacks = given_back (Refuses NoRoom change) (lacks_room change early lacks)
 
   -- the version that was made is published
-  pub wrote : (e : Event) (root : Root) (answered : Reply) (t' : Turn A) (m2 m' : Seat)
-      → Made e.change t m1 root answered t' m2 → Added e m2 m' → length m1.0.seen < last_version
-      → e.pass ≡ m.0.number → WroteAtSeat e m answered m'
-  wrote e root answered t' m2 m' made added early by = let room = room_left t m1 b.has in
-      let now : m'.0.seen ≡ m1.0.seen ++ e ∷ [] = added.seen ∙ ap (λ (z : Seat). z.0.seen ++ e ∷ [])
-      made.kept in record {
+  pub wrote : (change : Change) (root : Root) (answered : Reply) (t' : Turn A) (m2 : Seat)
+      (z : Seated) (v : ℕ) → IsSameSeat s z → Made change t m1 root answered t' m2
+      → Added (record { pass = number; change = change }) m2 z.me → v ≡ length z.me.0.seen
+      → length m1.0.seen < last_version → WroteAtSeat number change s answered v z
+  wrote change root answered t' m2 z v same made added v_is early before =
+      let e : Event = record { pass = number; change = change } in
+      let room = room_left t m1 b.has in
+      let rows_kept = ap (λ (v : View). v.rows) b.rest in
+      let now : z.me.0.seen ≡ m1.0.seen ++ e ∷ [] =
+      added.seen ∙ ap (λ (m : Seat). m.0.seen ++ e ∷ []) made.kept in
+      let longer : z.me.0.mine ≡ s.me.0.mine ++ e ∷ [] =
+      added.mine ∙ ap (λ (m : Seat). m.0.mine ++ e ∷ []) made.kept
+      ∙ ap (λ (log : History). log ++ e ∷ []) mine_kept in
+      let passes_is : z.me.0.passes ≡ s.me.0.passes =
+      added.free.5 ∙ ap (λ (m : Seat). m.0.passes) made.kept ∙ passes_kept in
+      let dealt = b.dealt in
+      record {
         log = m1.0.seen;
+        same = (
+          store_is s z same.0
+              (added.free.4 ∙ ap (λ (m : Seat). m.0.rows) made.kept ∙ rows_kept) passes_is
+              (added.free.6 ∙ ap (λ (m : Seat). m.0.format) made.kept
+              ∙ ap (λ (v : View). v.format) b.rest),
+          refl,
+        );
         later = b.later;
-        own = b.own;
-        numbered = early;
-        room =
-            subst (λ (f : Format). rows_of f (after m1.0.seen) + rows_taken f (after m1.0.seen)
-            e.change
-            ≤ m.0.rows) format_now (let r = made.rows in let n = ap (λ (v : View). v.rows) b.rest in
-            omega (arith, room, r, n));
-        beside =
-            subst (λ (found : List ℕ). FindsRoom m.0.format m.0.rows m.0.passes m1.0.seen found
-            e.change) (sym (added.found ∙ ap (λ (z : Seat). z.0.found) made.kept))
-            (finds_room e.change (let r = made.rows in omega (arith, r)));
-        answer =
-            made.answer ∙ ap
-            (λ (v : View). reply_of (format_after v.format m1.0.seen) (after m1.0.seen)
-            e.change) b.rest;
         seen = now;
-        alone = subst (IsOfPasses m.0.passes) (sym now)
-            (one_longer m.0.passes m1.0.seen e b.alone (let d = b.dealt in let pos =
-            d.0 in let low =
-            d.1 in omega (arith, by, pos)) (let d = b.dealt in let low =
-            d.1 in omega (arith, by, low)));
-        asked = (let a = added.asked in let k = ap (λ (z : Seat). z.0.asked) made.kept in let n =
-            b.asked in omega (arith, a, k, n));
-        missed = added.missed ∙ ap (λ (z : Seat). z.0.missed) made.kept
-            ∙ ap (λ (v : View). v.missed)
-            b.rest;
-        mine = added.mine ∙ ap (λ (z : Seat). z.0.mine ++ e ∷ []) made.kept
-            ∙ ap (λ (v : View). v.mine ++ e ∷ []) b.rest;
+        answer = made.answer ∙ ap (λ (v : View).
+            reply_of (format_after v.format m1.0.seen) (after m1.0.seen) change) b.rest;
+        mine = longer;
+        own = ap (events_of number) now ∙ events_of-append number m1.0.seen (e ∷ [])
+            ∙ ap (λ (log : History). events_of number m1.0.seen ++ log) (one_event number change)
+            ∙ ap (λ (log : History). log ++ e ∷ []) own_now ∙ sym longer;
+        alone = subst (λ (n : ℕ). IsOfPasses n z.me.0.seen) (sym passes_is)
+            (subst (IsOfPasses s.me.0.passes) (sym now)
+            (one_longer s.me.0.passes m1.0.seen e b.alone
+            (let pos = dealt.0 in omega (arith, mine, pos))
+            (let low = dealt.1 in omega (arith, mine, low))));
+        numbered = early;
+        room = subst (λ (f : Format). rows_of f (after m1.0.seen) + rows_taken f (after m1.0.seen)
+            change ≤ s.me.0.rows) (format_now s.me m1 t b)
+            (let taken = made.rows in omega (arith, room, taken, rows_kept));
+        beside = subst (λ (found : List ℕ). FindsRoom s.me.0.format s.me.0.rows s.me.0.passes
+            m1.0.seen found change)
+            (sym (added.found ∙ ap (λ (m : Seat). m.0.found) made.kept))
+            (finds_room s.me m1 t b change (let taken = made.rows in omega (arith, taken)));
+        asked = (let last = added.asked in let same_asked = ap (λ (m : Seat). m.0.asked) made.kept
+            in let first = b.asked in omega (arith, last, same_asked, first));
+        missed = added.missed ∙ ap (λ (m : Seat). m.0.missed) made.kept
+            ∙ ap (λ (v : View). v.missed) b.rest;
+        made = ap Some v_is;
       }

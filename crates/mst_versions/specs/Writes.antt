@@ -1,6 +1,6 @@
 -- A write: what the holder of the turn makes of the map in free rows, what the pass then knows, and
 -- why a change is refused.
-use Rattle.std.specs.Prelude.{◌≡◌, ℕ, ◌+◌, ◌<◌, ◌≤◌, List, [], ◌∷◌, ◌++◌, length, Contains}
+use Rattle.std.specs.Prelude.{◌≡◌, ℕ, ◌+◌, ◌<◌, ◌≤◌, List, [], ◌∷◌, ◌++◌, length, Option, Some, Contains}
 use Rattle.mst_key.specs.Map.{Pair}
 use Rattle.mst_key.specs.declared.format.Format.{Format}
 use Rattle.mst_key.specs.declared.history.Change.{Change}
@@ -12,12 +12,13 @@ use Rattle.mst_node.specs.Stays.{held}
 use Rattle.mst_arena.specs.Lives.{free_count, last_version}
 use Rattle.mst_arena.specs.declared.row.Root.{Root}
 use Rattle.mst_path.specs.Planting.{node_count}
+use Rattle.mst_words.specs.Access.{Seated}
 use Rattle.mst_words.specs.Notes.{IsOfPasses}
-use Rattle.mst_words.specs.Steps.{Misses}
 use Rattle.mst_versions.specs.declared.turn.Turn.{Turn}
 use Rattle.mst_versions.specs.declared.faults.WriteFault.{WriteFault}
 use Rattle.mst_versions.specs.declared.faults.WriteFault.TheVariants.{Busy, VersionsSpent, NoRoom}
-use Rattle.mst_versions.specs.Turns.{Seat, HasMade, Spent}
+use Rattle.mst_versions.specs.Known.{Known, known, IsSamePass, Looks, FindsBusy, format_seen, made_by}
+use Rattle.mst_versions.specs.Turns.{Seat, HasMade}
 
 -- the event of a change that the pass at this seat makes
 abbrev pub made_at_seat : Seat → Change → Event
@@ -80,47 +81,49 @@ abbrev pub KeepsPass : Seat → Seat → Type 0
 KeepsPass m m' = (m'.0.number ≡ m.0.number) × (m'.0.rows ≡ m.0.rows)
     × (m'.0.passes ≡ m.0.passes) × (m'.0.format ≡ m.0.format) × (m'.0.told ≡ m.0.told)
 
--- The event stands right after a history that begins with all that the pass had seen, and the
--- answer is what that history replies. The pass has now seen both, and each event there is of a
--- pass of the store. It tried the turn once and got it, asked each record but the current one once,
--- and published once
-pub record WroteAtSeat (e : Event) (m : Seat) (answered : Reply) (m' : Seat) : Type 0 where
+-- Whether a change of a map in a format finds room among so many rows: the rows that the map leaves
+-- over are enough for the nodes that the change makes new
+abbrev pub HasRoom : ℕ → Format → List Pair → Change → Type 0
+HasRoom rows format m change = rows_of format m + rows_taken format m change ≤ rows
+
+abbrev pub LacksRoom : ℕ → Format → List Pair → Change → Type 0
+LacksRoom rows format m change = rows < rows_of format m + rows_taken format m change
+
+-- A write added its event right after a history that begins with all that the pass had seen, and
+-- returned what that history replies. The pass has now seen both, its events there are its own, and
+-- each event is of a pass of the store. The change found room beside the versions that were found
+-- pinned. The pass tried the turn once and got it, asked each record but the current one once, and
+-- published once. The version that it made is known
+pub record Wrote (e : Event) (p : Known) (answered : Reply) (q : Known) : Type 0 where
   pub log : History
-  pub later : IsPrefix m.0.seen log
-  pub own : events_of m.0.number log ≡ m.0.mine
+  pub same : IsSamePass p q
+  pub later : IsPrefix p.seen log
+  pub seen : q.seen ≡ log ++ e ∷ []
+  pub answer : answered ≡ reply p.store.format log e
+  pub mine : q.mine ≡ p.mine ++ e ∷ []
+  pub own : events_of q.number q.seen ≡ q.mine
+  pub alone : IsOfPasses q.store.passes q.seen
   pub numbered : length log < last_version
-  pub room : rows_of (format_after m.0.format log) (after log)
-      + rows_taken (format_after m.0.format log) (after log) e.change ≤ m.0.rows
-  pub beside : FindsRoom m.0.format m.0.rows m.0.passes log m'.0.found e.change
-  pub answer : answered ≡ reply m.0.format log e
-  pub seen : m'.0.seen ≡ log ++ e ∷ []
-  pub mine : m'.0.mine ≡ m.0.mine ++ e ∷ []
-  pub alone : IsOfPasses m.0.passes m'.0.seen
-  pub asked : m'.0.asked ≡ m.0.asked + m.0.passes + 3
-  pub missed : m'.0.missed ≡ m.0.missed
+  pub room : HasRoom p.store.rows (format_after p.store.format log) (after log) e.change
+  pub beside : FindsRoom p.store.format p.store.rows p.store.passes log q.found e.change
+  pub asked : q.asked ≡ p.asked + p.store.passes + 3
+  pub missed : q.missed ≡ p.missed
+  pub made : q.made ≡ Some (length q.seen)
 
--- The pass has now seen a history that begins with all that it had seen. Its events in it are its
--- own, none was added, and each event is of a pass of the store. It tried the turn once and got it,
--- and asked each record but the current one once
-pub record LookedAtSeat (m m' : Seat) : Type 0 where
-  pub later : IsPrefix m.0.seen m'.0.seen
-  pub own : events_of m.0.number m'.0.seen ≡ m.0.mine
-  pub mine : m'.0.mine ≡ m.0.mine
-  pub alone : IsOfPasses m.0.passes m'.0.seen
-  pub asked : m'.0.asked ≡ m.0.asked + m.0.passes + 2
-  pub missed : m'.0.missed ≡ m.0.missed
+-- the pass at the seat made the change, and with it this version, whatever version it made before
+abbrev pub WroteAtSeat : ℕ → Change → Seated → Reply → ℕ → Seated → Type 0
+WroteAtSeat number change s answered version z = (made : Option ℕ)
+    → Wrote (made_by (known number made s) change) (known number made s) answered
+    (known number (Some version) z)
 
--- the rows that the map leaves over are too few for the change
-abbrev pub LacksAtSeat : Seat → Seat → Change → Type 0
-LacksAtSeat m m' change = m.0.rows < rows_of (format_after m.0.format m'.0.seen) (after m'.0.seen)
-    + rows_taken (format_after m.0.format m'.0.seen) (after m'.0.seen) change
-
--- Why a change was refused. There is no room exactly if what is kept holds too many rows. In a
--- store of one pass the map alone is kept, so there is none exactly if the rows that it leaves over
--- are too few
-abbrev pub RefusesAtSeat : WriteFault → Change → Seat → Seat → Type 0
-RefusesAtSeat Busy change m m' = Misses m m'
-RefusesAtSeat VersionsSpent change m m' = Spent m m'
-RefusesAtSeat NoRoom change m m' = LookedAtSeat m m' × (length m'.0.seen < last_version)
-    × (m.0.passes ≡ 1 → LacksAtSeat m m' change)
-    × LacksKept m.0.format m.0.rows m.0.passes m'.0.seen m'.0.found change
+-- Why a change was refused. Nothing was added to the history. There is no room exactly if the last
+-- version and those that were found pinned hold too many rows. In a store of one pass this means
+-- that the rows that the map leaves over are too few
+abbrev pub Refuses : WriteFault → Change → Known → Known → Type 0
+Refuses Busy change p q = FindsBusy p q
+Refuses VersionsSpent change p q =
+    Looks p q × (length q.seen ≡ last_version) × (q.asked ≡ p.asked + 1) × (q.found ≡ [])
+Refuses NoRoom change p q = Looks p q × (length q.seen < last_version)
+    × (p.store.passes ≡ 1 → LacksRoom q.store.rows (format_seen q) (after q.seen) change)
+    × (q.asked ≡ p.asked + p.store.passes + 2)
+    × LacksKept p.store.format p.store.rows p.store.passes q.seen q.found change

@@ -1,13 +1,14 @@
 //! A batch of edits: all of them are made in free rows in one turn, and one version is published.
-ghost use Rattle.std.specs.Prelude.{◌≡◌, ◌<◌, ◌≤◌, length, IfOk, IfErr, OnOk, OnErr};
+ghost use Rattle.std.specs.Prelude.{◌≡◌, ◌<◌, ◌≤◌, length, IfOk, IfErr, OnErr, IsErrOf};
 ghost use Rattle.mst_key.specs.declared.history.Change.TheVariants as change;
 ghost use Rattle.mst_key.specs.History.{done};
 ghost use Rattle.mst_arena.specs.Lives.{last_version};
 ghost use Rattle.mst_words.specs.Access.{IsSameSeat};
-ghost use Rattle.mst_words.specs.Steps.{IsFree};
-ghost use Rattle.mst_versions.specs.Turns.{HasTurn};
-ghost use Rattle.mst_versions.specs.Writes.{made_at_seat, Made, KeepsPass, WroteAtSeat};
-ghost use Rattle.mst_versions.specs.Applying.{LacksEdits, RefusesBatchAtSeat};
+ghost use Rattle.mst_words.specs.Steps.{IsFree, Misses};
+ghost use Rattle.mst_versions.specs.Known.{AtSeat};
+ghost use Rattle.mst_versions.specs.Turns.{HasTurn, Spent};
+ghost use Rattle.mst_versions.specs.Writes.{Made, KeepsPass, WroteAtSeat};
+ghost use Rattle.mst_versions.specs.Applying.{LacksEdits, RefusesBatch};
 
 use crate::faults::ApplyFault;
 use crate::publishing::publish;
@@ -61,11 +62,13 @@ pub fn apply<A: Allocator + Copy, B: Allocator + Copy>(
     ensures same { IsSameSeat seat.old seat.new }
     ensures pass { KeepsPass seat.old.me seat.new.me }
     ensures free { IsFree number seat.new.me }
-    ensures wrote { OnOk result (WroteAtSeat (made_at_seat seat.old.me (change.Batch edits.now))
-        seat.old.me done seat.new.me) }
+    ensures wrote { IfOk result (λ version. WroteAtSeat number (change.Batch edits.now) seat.old
+        done version seat.new) }
     ensures version { IfOk result (λ version. version ≡ length seat.new.me.0.seen) }
     ensures refused { IfErr result
-        (λ fault. RefusesBatchAtSeat fault edits.now seat.old.me seat.new.me) }
+        (λ fault. AtSeat (RefusesBatch fault edits.now) number seat.old seat.new) }
+    ensures missed { IsErrOf result ApplyFault.Busy → Misses seat.old.me seat.new.me }
+    ensures spent { IsErrOf result ApplyFault.VersionsSpent → Spent seat.old.me seat.new.me }
 {
     let mut turn = match begin_write(seat, number, passes) {
         Ok(turn) => turn,

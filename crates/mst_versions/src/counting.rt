@@ -3,6 +3,7 @@ ghost use Rattle.std.specs.Prelude.{◌≡◌, ◌≤◌, ◌%◌, Some, IfSome,
 ghost use Rattle.mst_words.specs.Access.{IsSameSeat};
 ghost use Rattle.mst_words.specs.Steps.{IsFree, Misses};
 ghost use Rattle.mst_versions.specs.Counting.{Counts, CountsFree};
+ghost use Rattle.mst_versions.specs.Known.{AtSeat};
 ghost use Rattle.mst_versions.specs.Writes.{KeepsPass};
 
 use crate::faults::Busy;
@@ -45,7 +46,7 @@ pub fn rows<A: Allocator + Copy>(
     ensures same { IsSameSeat seat.old seat.new }
     ensures pass { KeepsPass seat.old.me seat.new.me }
     ensures free { IsFree number seat.new.me }
-    ensures counted { IfOk result (λ found. Counts seat.old.me found seat.new.me) }
+    ensures counted { IfOk result (λ found. AtSeat (Counts found) number seat.old seat.new) }
     ensures busy { OnErr result (Misses seat.old.me seat.new.me) }
 {
     let Some(turn) = begin(seat, number, passes) else {
@@ -77,7 +78,7 @@ pub fn free_rows<A: Allocator + Copy>(
     ensures same { IsSameSeat seat.old seat.new }
     ensures pass { KeepsPass seat.old.me seat.new.me }
     ensures free { IsFree number seat.new.me }
-    ensures counted { IfOk result (λ rows. CountsFree seat.old.me rows seat.new.me) }
+    ensures counted { IfOk result (λ rows. AtSeat (CountsFree rows) number seat.old seat.new) }
     ensures busy { OnErr result (Misses seat.old.me seat.new.me) }
 {
     let Some(turn) = begin(seat, number, passes) else {

@@ -1,6 +1,6 @@
 //! A migration: the tree of the map in another format is planted in rows of its own, and the one
 //! that stood is felled, so that its rows are free as soon as no pass pins its version.
-ghost use Rattle.std.specs.Prelude.{◌≡◌, ◌≢◌, ◌<◌, ◌≤◌, length, IfOk, IfErr, OnErr};
+ghost use Rattle.std.specs.Prelude.{◌≡◌, ◌≢◌, ◌<◌, ◌≤◌, length, IfOk, IfErr, OnErr, IsErrOf};
 ghost use Rattle.std.specs.Option.{option_copied};
 ghost use Rattle.mst_key.specs.declared.history.Change.TheVariants.{Migrate};
 ghost use Rattle.mst_key.specs.History.{after, was};
@@ -9,10 +9,11 @@ ghost use Rattle.mst_node.specs.Tree.{tree};
 ghost use Rattle.mst_path.specs.Planting.{tree_at, IsTreeOf};
 ghost use Rattle.mst_arena.specs.Lives.{last_version};
 ghost use Rattle.mst_words.specs.Access.{IsSameSeat};
-ghost use Rattle.mst_words.specs.Steps.{IsFree};
-ghost use Rattle.mst_versions.specs.Turns.{HasTurn};
-ghost use Rattle.mst_versions.specs.Writes.{made_at_seat, Made, LacksRows, KeepsPass, WroteAtSeat};
-ghost use Rattle.mst_versions.specs.Migrating.{LacksTree, RefusesMoveAtSeat};
+ghost use Rattle.mst_words.specs.Steps.{IsFree, Misses};
+ghost use Rattle.mst_versions.specs.Known.{AtSeat};
+ghost use Rattle.mst_versions.specs.Turns.{HasTurn, Spent};
+ghost use Rattle.mst_versions.specs.Writes.{Made, LacksRows, KeepsPass, WroteAtSeat};
+ghost use Rattle.mst_versions.specs.Migrating.{LacksTree, RefusesMigration};
 
 use crate::faults::MigrateFault;
 use crate::publishing::publish;
@@ -134,11 +135,13 @@ pub fn migrate<A: Allocator + Copy, B: Allocator + Copy>(
     ensures same { IsSameSeat seat.old seat.new }
     ensures pass { KeepsPass seat.old.me seat.new.me }
     ensures free { IsFree number seat.new.me }
-    ensures wrote { IfOk result (λ done. WroteAtSeat (made_at_seat seat.old.me (Migrate to))
-        seat.old.me (was done.0) seat.new.me) }
+    ensures wrote { IfOk result (λ done. WroteAtSeat number (Migrate to) seat.old
+        (was done.0) done.1 seat.new) }
     ensures version { IfOk result (λ done. done.1 ≡ length seat.new.me.0.seen) }
     ensures refused { IfErr result
-        (λ fault. RefusesMoveAtSeat fault to seat.old.me seat.new.me) }
+        (λ fault. AtSeat (RefusesMigration fault to) number seat.old seat.new) }
+    ensures missed { IsErrOf result MigrateFault.Busy → Misses seat.old.me seat.new.me }
+    ensures spent { IsErrOf result MigrateFault.VersionsSpent → Spent seat.old.me seat.new.me }
 {
     let mut turn = match begin_write(seat, number, passes) {
         Ok(turn) => turn,

@@ -1,12 +1,13 @@
 //! A write: the turn, the change in rows that are free, and the next version.
-ghost use Rattle.std.specs.Prelude.{◌≡◌, ◌<◌, ◌≤◌, length, IfOk, IfErr, OnErr};
+ghost use Rattle.std.specs.Prelude.{◌≡◌, ◌<◌, ◌≤◌, length, IfOk, IfErr, OnErr, IsErrOf};
 ghost use Rattle.mst_key.specs.History.{had, IsMigration, IsBatch};
 ghost use Rattle.mst_key.specs.declared.history.Change.TheVariants.{Put, Remove};
 ghost use Rattle.mst_arena.specs.Lives.{last_version};
 ghost use Rattle.mst_words.specs.Access.{IsSameSeat};
-ghost use Rattle.mst_words.specs.Steps.{IsFree};
-ghost use Rattle.mst_versions.specs.Turns.{HasTurn};
-ghost use Rattle.mst_versions.specs.Writes.{Made, LacksRows, KeepsPass, WroteAtSeat, RefusesAtSeat};
+ghost use Rattle.mst_words.specs.Steps.{IsFree, Misses};
+ghost use Rattle.mst_versions.specs.Known.{AtSeat};
+ghost use Rattle.mst_versions.specs.Turns.{HasTurn, Spent};
+ghost use Rattle.mst_versions.specs.Writes.{Made, LacksRows, KeepsPass, WroteAtSeat, Refuses};
 
 use crate::faults::WriteFault;
 use crate::publishing::publish;
@@ -120,11 +121,13 @@ pub fn write<A: Allocator + Copy>(
     ensures same { IsSameSeat seat.old seat.new }
     ensures pass { KeepsPass seat.old.me seat.new.me }
     ensures free { IsFree number seat.new.me }
-    ensures wrote { IfOk result
-        (λ done. WroteAtSeat event.now seat.old.me (had done.0) seat.new.me) }
+    ensures wrote { IfOk result (λ done. WroteAtSeat number event.now.change seat.old
+        (had done.0) done.1 seat.new) }
     ensures version { IfOk result (λ done. done.1 ≡ length seat.new.me.0.seen) }
     ensures refused { IfErr result
-        (λ fault. RefusesAtSeat fault event.now.change seat.old.me seat.new.me) }
+        (λ fault. AtSeat (Refuses fault event.now.change) number seat.old seat.new) }
+    ensures missed { IsErrOf result WriteFault.Busy → Misses seat.old.me seat.new.me }
+    ensures spent { IsErrOf result WriteFault.VersionsSpent → Spent seat.old.me seat.new.me }
 {
     let mut turn = match begin_write(seat, number, passes) {
         Ok(turn) => turn,

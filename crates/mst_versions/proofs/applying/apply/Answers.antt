@@ -1,31 +1,30 @@
-use Rattle.std.proofs.Common.{◌≡◌, ℕ, List, sym, ap, subst, rules}
+use Rattle.std.proofs.Common.{◌≡◌, List, ap, subst, rules}
 use Rattle.mst_key.specs.declared.history.Change.TheVariants.{Batch}
 use Rattle.mst_key.specs.declared.history.Edit.{Edit}
 use Rattle.mst_key.specs.declared.history.Event.{Event}
 use Rattle.mst_key.specs.History.{done}
-use Rattle.mst_words.specs.Access.{Seated}
+use Rattle.mst_words.specs.Access.{Seated, IsSameSeat}
 use Rattle.mst_batch.specs.declared.faults.NotApplied.{NotApplied}
 use Rattle.mst_batch.specs.declared.faults.NotApplied.TheVariants as applied
 use Rattle.mst_versions.specs.Applying.{LacksEdits}
 use Rattle.mst_versions.specs.Turns.{Added}
-use Rattle.mst_versions.specs.Writes.{WroteAtSeat}
+use Rattle.mst_versions.proofs.Batched.{batch_memory}
+use Rattle.mst_versions.proofs.Shown.{busy_at, spent_at}
 use Rattle.mst_versions.proofs.Written.{wrote, refused}
 use Rattle.mst_versions.proofs.applying.apply.Goals as goal
 
 pub returns-in-Ok-make_batch-clause-wrote : goal.returns-in-Ok-make_batch-clause-wrote
 returns-in-Ok-make_batch-clause-wrote g c =
     let made = c.in-Ok-make_batch in
-    let m = c.args.seat.now.me in
-    let event : ℕ → List Edit → Event = λ p es. record { pass = p; change = Batch es } in
-    let e = event c.args.number c.args.edits.now in
-    let added : Added e c.make_batch.new.seat.me c.publish.new.seat.me =
-    subst (λ (es : List Edit). Added (event c.args.number es) c.make_batch.new.seat.me
-    c.publish.new.seat.me) c.new.ensures.edits c.publish.ensures.added in
-    subst (λ (p : ℕ). WroteAtSeat (event p c.args.edits.now) m done c.publish.new.seat.me)
-    (sym c.requires.free.3)
-    (wrote m c.begin_write.new.seat.me c.in-Ok.turn c.in-Ok.ensures.begun e made.root done
-    c.make_batch.new.turn c.make_batch.new.seat.me c.publish.new.seat.me made.ensures.made added
-    c.in-Ok.ensures.room (sym c.requires.free.3))
+    let last = c.publish in
+    let same : IsSameSeat c.args.seat.now last.new.seat = search rules in
+    let event : List Edit → Event = λ es. record { pass = c.args.number; change = Batch es } in
+    wrote c.args.seat.now c.begin_write.new.seat.me c.in-Ok.turn c.in-Ok.ensures.begun
+    c.args.number c.requires.free.3 (Batch c.args.edits.now) made.root done
+    c.make_batch.new.turn c.make_batch.new.seat.me last.new.seat last.result same
+    made.ensures.made
+    (subst (λ (es : List Edit). Added (event es) c.make_batch.new.seat.me last.new.seat.me)
+    c.new.ensures.edits last.ensures.added) last.ensures.version c.in-Ok.ensures.room
 
 pub returns-in-Err-NoRoom-clause-refused : goal.returns-in-Err-NoRoom-clause-refused
 returns-in-Err-NoRoom-clause-refused g c =
@@ -35,9 +34,11 @@ returns-in-Err-NoRoom-clause-refused g c =
     let is : c.in-Err-NoRoom.field-0 ≡ applied.NoRoom = search rules in
     let lacks = subst (λ (why : NotApplied). LacksEdits why c.args.edits.now t
     c.begin_write.new.seat.me) is why.lacks in
-    refused c.args.seat.now.me c.begin_write.new.seat.me t c.in-Ok.ensures.begun
-    c.make_batch.new.seat.me back.new.seat.me (ap (λ (z : Seated). z.me) why.untouched.1)
-    back.ensures.gave (Batch c.args.edits.now) c.in-Ok.ensures.room lacks
+    let same : IsSameSeat c.args.seat.now back.new.seat = search rules in
+    refused c.args.seat.now c.begin_write.new.seat.me t c.in-Ok.ensures.begun c.args.number
+    c.requires.free.3 c.make_batch.new.seat.me back.new.seat same
+    (ap (λ (z : Seated). z.me) why.untouched.1) back.ensures.gave (Batch c.args.edits.now)
+    c.in-Ok.ensures.room lacks
 
 pub begin_write-requires-clause-free : goal.begin_write-requires-clause-free
 begin_write-requires-clause-free g c = search rules
@@ -64,7 +65,7 @@ pub returns-in-Err-Busy-clause-wrote : goal.returns-in-Err-Busy-clause-wrote
 returns-in-Err-Busy-clause-wrote g c = search rules
 
 pub returns-in-Err-Busy-clause-refused : goal.returns-in-Err-Busy-clause-refused
-returns-in-Err-Busy-clause-refused g c = search rules
+returns-in-Err-Busy-clause-refused g c = search (rules, busy_at)
 
 pub returns-in-Err-VersionsSpent-clause-same : goal.returns-in-Err-VersionsSpent-clause-same
 returns-in-Err-VersionsSpent-clause-same g c = search rules
@@ -79,7 +80,7 @@ pub returns-in-Err-VersionsSpent-clause-wrote : goal.returns-in-Err-VersionsSpen
 returns-in-Err-VersionsSpent-clause-wrote g c = search rules
 
 pub returns-in-Err-VersionsSpent-clause-refused : goal.returns-in-Err-VersionsSpent-clause-refused
-returns-in-Err-VersionsSpent-clause-refused g c = search rules
+returns-in-Err-VersionsSpent-clause-refused g c = search (rules, spent_at)
 
 pub make_batch-requires-clause-turn : goal.make_batch-requires-clause-turn
 make_batch-requires-clause-turn g c = search rules
@@ -129,7 +130,17 @@ pub returns-in-Err-Memory-clause-wrote : goal.returns-in-Err-Memory-clause-wrote
 returns-in-Err-Memory-clause-wrote g c = search rules
 
 pub returns-in-Err-Memory-clause-refused : goal.returns-in-Err-Memory-clause-refused
-returns-in-Err-Memory-clause-refused g c = search rules
+returns-in-Err-Memory-clause-refused g c =
+    let t = c.in-Ok.turn in
+    let why = c.in-Err-Memory.ensures in
+    let back = c.give_back in
+    let same : IsSameSeat c.args.seat.now back.new.seat = search rules in
+    let several = subst (λ (why : NotApplied). LacksEdits why c.args.edits.now t
+    c.begin_write.new.seat.me) c.in-Err-Memory.field-0-is why.lacks in
+    batch_memory c.args.seat.now c.begin_write.new.seat.me t c.in-Ok.ensures.begun c.args.number
+    c.requires.free.3 c.make_batch.new.seat.me back.new.seat same
+    (ap (λ (z : Seated). z.me) why.untouched.1) back.ensures.gave c.args.edits.now
+    c.in-Err-Memory.refused c.in-Ok.ensures.room several
 
 pub returns-in-Err-NoRoom-clause-same : goal.returns-in-Err-NoRoom-clause-same
 returns-in-Err-NoRoom-clause-same g c = search rules

@@ -1,3 +1,5 @@
+use Rattle.std.proofs.Common.{rules}
+use Rattle.mst_words.specs.Access.{IsSameSeat}
 use Rattle.mst_versions.proofs.Counted.{counted_free}
 use Rattle.mst_versions.proofs.counting.free_rows.Goals as goal
 
@@ -8,6 +10,8 @@ give_back-requires g c = record {
 }
 
 pub returns-clause-counted : goal.returns-clause-counted
-returns-clause-counted g c = counted_free c.args.seat.now.me c.begin.new.seat.me
-    c.give_back.new.seat.me c.in-Some.turn c.in-Some.ensures.begun c.give_back.ensures.gave
-    c.free-free.result c.free-free.ensures.count
+returns-clause-counted g c =
+    let same : IsSameSeat c.args.seat.now c.give_back.new.seat = search rules in
+    counted_free c.args.seat.now c.begin.new.seat.me c.in-Some.turn c.in-Some.ensures.begun
+    c.args.number c.requires.free.3 c.free-free.result c.free-free.ensures.count
+    c.give_back.new.seat same c.give_back.ensures.gave

@@ -1,15 +1,16 @@
 use Rattle.std.proofs.Common.{rules}
-use Rattle.std.proofs.Common.{sym, ap, subst, ◌∙◌}
+use Rattle.std.proofs.Common.{ℕ, sym, ap, subst, ◌∙◌}
 use Rattle.mst_key.specs.declared.format.Format.{Format}
 use Rattle.mst_key.specs.declared.history.Event.{Event}
 use Rattle.mst_key.specs.History.{had}
 use Rattle.mst_key.proofs.HistoryLaws.{format_kept}
 use Rattle.mst_arena.specs.Lives.{IsSettled}
 use Rattle.mst_words.specs.declared.view.View.{View}
-use Rattle.mst_words.specs.Access.{Seated}
+use Rattle.mst_words.specs.Access.{Seated, IsSameSeat}
 use Rattle.mst_versions.specs.declared.turn.Turn.{Turn}
-use Rattle.mst_versions.specs.Turns.{HoldsDesk, HasMade}
+use Rattle.mst_versions.specs.Turns.{HoldsDesk, HasMade, Added}
 use Rattle.mst_versions.specs.Writes.{made_at_seat}
+use Rattle.mst_versions.proofs.Shown.{busy_at, spent_at}
 use Rattle.mst_versions.proofs.Written.{own_event, refused, wrote}
 use Rattle.mst_versions.proofs.writing.write.Goals as goal
 
@@ -38,16 +39,21 @@ give_back-requires g c = let same = c.in-Err.ensures.untouched in record {
 
 pub returns-in-Ok-make-clause-wrote : goal.returns-in-Ok-make-clause-wrote
 returns-in-Ok-make-clause-wrote g c =
-    wrote c.args.seat.now.me c.begin_write.new.seat.me c.in-Ok.turn c.in-Ok.ensures.begun
-    c.args.event.now c.in-Ok-make.root (had c.in-Ok-make.old) c.make.new.turn c.make.new.seat.me
-    c.publish-version.new.seat.me
-    c.in-Ok-make.ensures.made c.publish-version.ensures.added c.in-Ok.ensures.room
-    (c.requires.mine ∙ sym c.requires.free.3)
+    let last = c.publish-version in
+    let same : IsSameSeat c.args.seat.now last.new.seat = search rules in
+    let change = c.args.event.now.change in
+    wrote c.args.seat.now c.begin_write.new.seat.me c.in-Ok.turn c.in-Ok.ensures.begun
+    c.args.number c.requires.free.3 change c.in-Ok-make.root (had c.in-Ok-make.old)
+    c.make.new.turn c.make.new.seat.me last.new.seat last.result same c.in-Ok-make.ensures.made
+    (subst (λ (e : Event). Added e c.make.new.seat.me last.new.seat.me)
+    (ap (λ (p : ℕ). record { pass = p; change = change }) c.requires.mine) last.ensures.added)
+    last.ensures.version c.in-Ok.ensures.room
 
 pub returns-in-Err-clause-refused : goal.returns-in-Err-clause-refused
 returns-in-Err-clause-refused g c =
-    refused c.args.seat.now.me c.begin_write.new.seat.me c.in-Ok.turn c.in-Ok.ensures.begun
-    c.make.new.seat.me c.give_back.new.seat.me
+    let same : IsSameSeat c.args.seat.now c.give_back.new.seat = search rules in
+    refused c.args.seat.now c.begin_write.new.seat.me c.in-Ok.turn c.in-Ok.ensures.begun
+    c.args.number c.requires.free.3 c.make.new.seat.me c.give_back.new.seat same
     (ap (λ (z : Seated). z.me) c.in-Err.ensures.untouched.1) c.give_back.ensures.gave
     c.args.event.now.change c.in-Ok.ensures.room c.in-Err.ensures.lacks
 
@@ -76,7 +82,7 @@ pub returns-in-Err-Busy-clause-wrote : goal.returns-in-Err-Busy-clause-wrote
 returns-in-Err-Busy-clause-wrote g c = search rules
 
 pub returns-in-Err-Busy-clause-refused : goal.returns-in-Err-Busy-clause-refused
-returns-in-Err-Busy-clause-refused g c = search rules
+returns-in-Err-Busy-clause-refused g c = search (rules, busy_at)
 
 pub returns-in-Err-VersionsSpent-clause-same : goal.returns-in-Err-VersionsSpent-clause-same
 returns-in-Err-VersionsSpent-clause-same g c = search rules
@@ -91,7 +97,7 @@ pub returns-in-Err-VersionsSpent-clause-wrote : goal.returns-in-Err-VersionsSpen
 returns-in-Err-VersionsSpent-clause-wrote g c = search rules
 
 pub returns-in-Err-VersionsSpent-clause-refused : goal.returns-in-Err-VersionsSpent-clause-refused
-returns-in-Err-VersionsSpent-clause-refused g c = search rules
+returns-in-Err-VersionsSpent-clause-refused g c = search (rules, spent_at)
 
 pub make-requires-clause-turn : goal.make-requires-clause-turn
 make-requires-clause-turn g c = search rules
