@@ -3,6 +3,8 @@ pub mod Spelling
 pub mod Readers
 pub mod WordOrder
 pub mod WayLemmas
+pub mod StopLemmas
+pub mod EntryParts
 pub mod BitLemmas
 pub mod FlagLemmas
 pub mod SetLemmas

@@ -4,12 +4,13 @@ use Rattle.std.specs.Prelude.{slice_index, slice_range, option_and_then, IsSome}
 use Rattle.std.specs.List.{range_with_len}
 use Rattle.std.proofs.lemmas.List.{ext_get_or, get_or-take, get_or-drop, length-take-le, length-drop, take_all}
 use Rattle.std.proofs.lemmas.List.FromFn.{length-map-range_with_len, get_or-map-range_with_len}
-use Rattle.mst_key.specs.Bytes.{IsKey}
+use Rattle.mst_key.specs.Bytes.{IsKey, IsValue}
+use Rattle.mst_key.specs.Map.{Pair}
 use Rattle.mst_arena.specs.declared.row.Row.{Row}
 use Rattle.mst_arena.specs.declared.row.Row.TheVariants.{Entry, Head}
 use Rattle.mst_arena.specs.declared.row.HeadLinks.{HeadLinks}
 use Rattle.mst_arena.specs.declared.row.EntryLinks.{EntryLinks}
-use Rattle.mst_arena.specs.Row.{IsRow, HasBytes, head_links, head_digest, entry_links, entry_value}
+use Rattle.mst_arena.specs.Row.{IsRow, HasBytes, head_links, head_digest, entry_links, entry_pair, entry_value}
 use Rattle.mst_arena.specs.Words.{words_of, byte_of_words, bytes_in, row_in, part_in}
 use Rattle.mst_arena.specs.Content.{relinked}
 use Rattle.mst_arena.proofs.Packing.{packed, bytes_back, front_back}
@@ -207,6 +208,32 @@ entry_value_of lengths words all o exact three at some =
     ap (λ (l : List ℕ). front_of (length e.value) 64 l) is ∙ front_back 8 64 e.value bytes.3
     bytes.2 (omega arith) in
     ap (option_and_then entry_value) e.row ∙ exact e.value bytes.2 size front
+
+pub entry_pair_of : (lengths : ℕ) (first words all : List ℕ) (o : Option Pair)
+    → ((key value : List ℕ) → IsKey key → IsValue value → lengths % 256 ≡ length key
+    → lengths / 256 ≡ length value → front_of (length key) 32 first ≡ key
+    → front_of (length value) 64 words ≡ value → Some (key, value) ≡ o)
+    → lengths ≡ slice_index all 3 → first ≡ slice_range all 4 8 → words ≡ slice_range all 8 16
+    → IsSome (part_in entry_links all) → part_in entry_pair all ≡ o
+entry_pair_of lengths first words all o exact three four eight some =
+    let e : EntryIn all = entry_with entry_links all (λ layer count first tail digest. refl) some in
+    let bytes : HasBytes (Entry e.child e.next e.key e.value) = e.bytes in
+    let third : lengths ≡ length e.key + 256 * length e.value =
+    three ∙ ap (λ (l : List ℕ). slice_index l 3) (sym e.same) in
+    let key_is : first ≡ packed 4 e.key =
+    four ∙ ap (λ (l : List ℕ). slice_range l 4 8) (sym e.same) in
+    let value_is : words ≡ packed 8 e.value =
+    eight ∙ ap (λ (l : List ℕ). slice_range l 8 16) (sym e.same) in
+    let len : lengths % 256 ≡ length e.key = omega (arith, third, bytes.0) in
+    let size : lengths / 256 ≡ length e.value = omega (arith, third, bytes.0) in
+    let key_front : front_of (length e.key) 32 first ≡ e.key =
+    ap (λ (l : List ℕ). front_of (length e.key) 32 l) key_is
+    ∙ front_back 4 32 e.key bytes.1 bytes.0.1 (omega arith) in
+    let value_front : front_of (length e.value) 64 words ≡ e.value =
+    ap (λ (l : List ℕ). front_of (length e.value) 64 l) value_is
+    ∙ front_back 8 64 e.value bytes.3 bytes.2 (omega arith) in
+    ap (option_and_then entry_pair) e.row
+    ∙ exact e.key e.value bytes.0 bytes.2 len size key_front value_front
 
 -- ---- from its parts to the row
 

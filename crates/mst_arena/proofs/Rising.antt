@@ -9,6 +9,7 @@ use Rattle.std.proofs.lemmas.List.Sorted.{list_any-IsPermutation}
 use Rattle.mst_arena.specs.declared.life.Life.{Life}
 use Rattle.mst_arena.specs.declared.life.Life.TheVariants.{Free, Born, Dead}
 use Rattle.mst_arena.specs.Lives.{swept_life, reaches_life}
+use Rattle.mst_arena.specs.Lists.{IsLowest}
 
 -- a version from the birth to before the death
 abbrev within : ℕ → ℕ → ℕ → Bool
@@ -60,6 +61,11 @@ first_decides b d xs i rising le point =
     (λ j lt. let e = point.0 j 0 (omega arith) lt in grind (arith, nat_tests))
     (λ j le lt. let e = point.1 j 0 le lt in grind (arith, nat_tests))
     (λ j le lt. rising i j 0 le lt)
+
+-- a version that is not above the lowest one
+pub none_reached : (b d n : ℕ) (live : List ℕ) → IsLowest n live → d ≤ n
+    → list_any (reaches_life (Dead b d)) live ≡ false
+none_reached b d n live lowest le = none_after b d live (λ j lt. omega (arith, lowest j lt, le))
 
 -- the order of the live versions does not matter
 pub swept_ranked : (live ranked : List ℕ) → IsPermutation live ranked → (x : Life)

@@ -41,6 +41,10 @@ abbrev pub AllReached : List ℕ → List Life → List ℕ → Type 0
 AllReached live lives rows = (r : ℕ) (x : Life) → slice_get lives r ≡ Some x → In r rows
     → list_any (reaches_life x) live ≡ true
 
+-- none of these versions is below the number
+abbrev pub IsLowest : ℕ → List ℕ → Type 0
+IsLowest n live = (i : ℕ) → i < length live → n ≤ slice_index live i
+
 -- a newer version than this is among them
 abbrev pub is_older : List ℕ → ℕ → Bool
 is_older live v = list_any (λ w. nat_lt v w) live

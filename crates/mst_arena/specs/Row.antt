@@ -1,10 +1,12 @@
 -- The limits of a row, and its parts.
 use Rattle.std.specs.Prelude.{◌≡◌, ◌<◌, ◌≤◌, ℕ, List, length, Option, Some, None}
 use Rattle.mst_key.specs.Bytes.{IsKey, IsValue, IsBytes}
+use Rattle.mst_key.specs.Map.{Pair}
 use Rattle.mst_arena.specs.declared.row.Row.{Row}
 use Rattle.mst_arena.specs.declared.row.Row.TheVariants.{Entry, Head}
 use Rattle.mst_arena.specs.declared.row.HeadLinks.{HeadLinks}
 use Rattle.mst_arena.specs.declared.row.EntryLinks.{EntryLinks}
+use Rattle.mst_arena.specs.declared.row.Links.{Links}
 
 -- links, layer and count are within their limits, and a head has a first entry
 abbrev pub IsRow : Row → Type 0
@@ -36,6 +38,16 @@ head_digest (Head layer count first tail digest) = Some digest
 abbrev pub entry_links : Row → Option EntryLinks
 entry_links (Entry child next key value) = Some (record { child = child; next = next; key = key })
 entry_links (Head layer count first tail digest) = None
+
+-- its links without its key
+abbrev pub entry_ends : Row → Option Links
+entry_ends (Entry child next key value) = Some (record { child = child; next = next })
+entry_ends (Head layer count first tail digest) = None
+
+-- its key and its value
+abbrev pub entry_pair : Row → Option Pair
+entry_pair (Entry child next key value) = Some (key, value)
+entry_pair (Head layer count first tail digest) = None
 
 abbrev pub entry_value : Row → Option (List ℕ)
 entry_value (Entry child next key value) = Some value

@@ -1,12 +1,15 @@
 //! The desk: births and deaths of rows, and the version of each record.
-ghost use Rattle.std.specs.Prelude.{◌≡◌, ◌≢◌, ◌≤◌, ◌<◌, ◌+◌, ℕ, [], length, map, replicate, vec_capacity, IfOk, IfSome, IfNone, MatchResult, Some, slice_get, slice_set, slice_index};
+ghost use Rattle.std.specs.Prelude.{◌≡◌, ◌≢◌, ◌≤◌, ◌<◌, ◌+◌, ℕ, List, [], length, map, replicate, vec_capacity, IfOk, IfSome, IfNone, MatchResult, Some, slice_get, slice_set, slice_index};
 ghost use Rattle.mst_arena.specs.Lives.{State, version, next, last_version, free_count, swept_life, ended_life, with_life};
+ghost use Rattle.sha2.specs.Sha256.{sha256};
+ghost use Rattle.mst_prefix.specs.Kept.{HasTaken};
 ghost use Rattle.mst_arena.specs.declared.life.Life.TheVariants.{Free, Born};
 
 use crate::free_rows::FreeRows;
 use crate::life::Life;
 use crate::sweep::{look_again, sweep_dead};
 use mst_key::Memory;
+use mst_prefix::{LayerBeginnings, TextHasher};
 use std::alloc::Allocator;
 use std::marker::Model;
 use thiserror::Error;
@@ -39,6 +42,8 @@ pub struct Desk<A: Allocator> {
     /// The versions that the last sweep remembered: of those live then, in rising order, the ones
     /// that hold a row.
     live: Vec<u64, A>,
+    /// What is kept of the texts of nodes in the rows.
+    beginnings: LayerBeginnings<A>,
 }
 
 /// Contracts see the record of the current version, the version of each record, and the life of
@@ -107,6 +112,7 @@ impl<A: Allocator + Copy> Desk<A> {
             dead: room(alloc, count)?,
             held: room(alloc, count)?,
             live: room(alloc, records)?,
+            beginnings: LayerBeginnings::new(alloc, rows)?,
         })
     }
 }
@@ -139,6 +145,13 @@ impl<A: Allocator> Desk<A> {
         } else {
             Ok(version + 1)
         }
+    }
+
+    /// How many rows there are, free and others.
+    pub fn rows(&self) -> u32
+        ensures count { result ≡ length self.now.lives }
+    {
+        self.lives.len() as u32
     }
 
     /// How many rows are free. A desk has at most 65,535 rows.
@@ -202,11 +215,30 @@ impl<A: Allocator> Desk<A> {
         self.current = into;
     }
 
+    /// A hasher of the text of a node of this layer, with what is kept of such texts.
+    /// [`Desk::digest`] takes that back.
+    pub fn hasher(&mut self, layer: u8) -> TextHasher<A>
+        ensures empty { HasTaken result [] }
+        ensures same { self.new ≡ self.old }
+    {
+        self.beginnings.hasher(layer)
+    }
+
+    /// The digest of the text of a node of this layer that a hasher of [`Desk::hasher`] has taken.
+    pub fn digest(&mut self, layer: u8, hasher: TextHasher<A>) -> [u8; 32]
+        requires taken { (m : List ℕ) × HasTaken hasher m }
+        ensures digest { (m : List ℕ) → HasTaken hasher m → result ≡ sha256 m }
+        ensures same { self.new ≡ self.old }
+    {
+        self.beginnings.finish(layer, hasher)
+    }
+
     /// Frees the dead rows that no live version reaches.
     ///
-    /// It looks at the rows killed since the last sweep, with one search among the live versions
-    /// for each. It looks at the other dead rows only if a version that held one of them then is no
-    /// longer live, or is the newest. It never looks at rows that are not dead.
+    /// It looks at the rows killed since the last sweep: each is compared with the lowest live
+    /// version, and only if it died after that one, it costs one search among the live versions.
+    /// It looks at the other dead rows only if a version that held one of them then is no longer
+    /// live, or is the newest. It never looks at rows that are not dead.
     pub fn sweep(&mut self, live: &[u64])
         ensures swept { self.new ≡ record self.old {
           lives = map

@@ -2,7 +2,7 @@
 ghost use Rattle.std.specs.Prelude.{◌≡◌, ◌≤◌, ◌<◌, ◌/◌, ◌%◌, ◌^◌, ◌↔◌, ℕ, List, map, take, slice_index, slice_range, Some, IsSome, IfSome, IsOk, IfOk};
 ghost use Rattle.mst_key.specs.Bytes.{IsKey, IsValue};
 ghost use Rattle.std.specs.List.{range_with_len};
-ghost use Rattle.mst_arena.specs.Row.{head_links, head_digest, entry_links, entry_value};
+ghost use Rattle.mst_arena.specs.Row.{head_links, head_digest, entry_links, entry_pair, entry_value};
 ghost use Rattle.mst_arena.specs.Words.{byte_of_words, bytes_in, part_in};
 
 use crate::row::{EntryLinks, HeadLinks, Row};
@@ -161,5 +161,29 @@ impl Row {
             return None;
         }
         value_of(words, len as usize).ok()
+    }
+
+    /// The key and the value of an entry, from word 3 of its sixteen, which has the lengths, from
+    /// words 4 to 7, and from words 8 to 15.
+    ///
+    /// Of the words of an entry it returns that entry's pair. Where the lengths are known, the
+    /// compiled code makes both with no test of them.
+    #[inline(always)]
+    pub fn read_pair(lengths: u64, key: &[u64; 4], value: &[u64; 8]) -> Option<(Key, Value)>
+        ensures part { (all : List ℕ) → lengths ≡ slice_index all 3
+            → key.now ≡ slice_range all 4 8 → value.now ≡ slice_range all 8 16
+            → IsSome (part_in entry_links all) → part_in entry_pair all ≡ result }
+    {
+        let len = lengths % 256;
+        let size = lengths / 256;
+        if len > 32 {
+            return None;
+        }
+        if size > 64 {
+            return None;
+        }
+        let key = key_of(key, len as usize).ok()?;
+        let value = value_of(value, size as usize).ok()?;
+        Some((key, value))
     }
 }

@@ -50,6 +50,15 @@ pub struct EntryLinks {
     pub key: Key,
 }
 
+/// What a walk needs of an entry whose key it does not read.
+#[derive(Clone, Copy, Debug, PartialEq, Eq)]
+pub struct Links {
+    /// The link of the head of the tree in the gap before the key.
+    pub child: u32,
+    /// The link of the next entry of the node.
+    pub next: u32,
+}
+
 /// Where a tree stands, and its digest.
 #[derive(Clone, Copy, Debug, PartialEq, Eq)]
 pub struct Root {

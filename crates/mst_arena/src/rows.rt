@@ -1,12 +1,12 @@
 //! Rows that a holder may read and write.
 ghost use Rattle.std.specs.Prelude.{◌≡◌, ◌≤◌, IsTrue, IsSome, IfSome, Some};
-ghost use Rattle.mst_arena.specs.Row.{IsRow, IsHead, head_links, head_digest, entry_links, entry_value};
+ghost use Rattle.mst_arena.specs.Row.{IsRow, IsHead, head_links, head_digest, entry_links, entry_ends, entry_pair, entry_value};
 ghost use Rattle.mst_arena.specs.Content.{part_at, Writes, relinked};
-ghost use Rattle.mst_arena.specs.Ways.{entry_way};
+ghost use Rattle.mst_arena.specs.Ways.{entry_way, stop_from};
 
-use crate::row::{EntryLinks, HeadLinks, Row};
-use crate::sought::{Sought, Way};
-use mst_key::Value;
+use crate::row::{EntryLinks, HeadLinks, Links, Row};
+use crate::sought::{Sought, Stop, Way};
+use mst_key::{Key, Value};
 
 /// Rows that the holder may read, and blank rows that it may write.
 ///
@@ -126,6 +126,29 @@ pub trait Rows {
         }
     }
 
+    /// The links of the entry at this number, for a walk that does not read its key.
+    fn links(&mut self, row: u32) -> Links
+        requires there { IsSome (part_at entry_links (content self.old) row) }
+        ensures value { part_at entry_ends (content self.old) row ≡ Some result }
+        ensures same { self.new ≡ self.old }
+    {
+        let entry = self.entry(row);
+        Links {
+            child: entry.child,
+            next: entry.next,
+        }
+    }
+
+    /// The key and the value of the entry at this number.
+    fn pair(&mut self, row: u32) -> (Key, Value)
+        requires there { IsSome (part_at entry_links (content self.old) row) }
+        ensures value { part_at entry_pair (content self.old) row ≡ Some result }
+        ensures same { self.new ≡ self.old }
+    {
+        let entry = self.entry(row);
+        (entry.key, self.value(row))
+    }
+
     /// Where a search for the key goes on from the entry at this number.
     fn way(&mut self, row: u32, key: &Sought) -> Way
         requires there { IsSome (part_at entry_links (content self.old) row) }
@@ -134,6 +157,26 @@ pub trait Rows {
     {
         let entry = self.entry(row);
         key.way(entry.child, entry.next, &entry.key)
+    }
+
+    /// Where a search for the key ends among so many entries, each linked to by the one before it
+    /// and the first by this link. It is one call, so that an implementation searches a node in one
+    /// loop.
+    fn search(&mut self, first: u32, count: u32, key: &Sought) -> Stop
+        requires there { IsSome (stop_from key.now (content self.old) count first) }
+        ensures stop { stop_from key.now (content self.old) count first ≡ Some result }
+        ensures same { self.new ≡ self.old }
+    {
+        let mut link = first;
+        for passed in 0..count {
+            let left = count - passed;
+            match self.way(link - 1, key) {
+                Way::Child(child) => return Stop::Gap { link, child, left },
+                Way::Here => return Stop::Held { link, left },
+                Way::Next(next) => link = next,
+            }
+        }
+        Stop::End
     }
 
     /// The value of the entry at this number.

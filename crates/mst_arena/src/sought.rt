@@ -4,7 +4,7 @@ ghost use Rattle.mst_key.specs.Bytes.{IsKey, IsBytes};
 ghost use Rattle.mst_arena.specs.Words.{word_from};
 ghost use Rattle.mst_arena.specs.Ways.{way_at};
 
-use crate::words::word_from;
+use crate::words::{word_from, word_of};
 use mst_key::Key;
 use std::cmp::Ordering;
 use std::marker::Model;
@@ -42,21 +42,54 @@ pub enum Way {
     Next(u32),
 }
 
+/// Where a search among the entries of a node ends. What is left begins with the entry at the link.
+#[derive(Clone, Copy, Debug, PartialEq, Eq)]
+pub enum Stop {
+    /// In the gap before the entry at this link: its key is the first that is above the key.
+    Gap {
+        link: u32,
+        /// The link of the tree in the gap.
+        child: u32,
+        /// How many entries are left.
+        left: u32,
+    },
+    /// At the entry at this link, which has the key.
+    Held {
+        link: u32,
+        /// How many entries are left.
+        left: u32,
+    },
+    /// Behind the last entry: the key is above all their keys.
+    End,
+}
+
+/// The bytes of a key as four words. A key of 16 bytes has an arm of its own, in which the compiled
+/// code reads two words at once.
+#[tactic(auto, using(crate::proofs::Packing::past_word))]
+fn four_words(bytes: &[u8]) -> [u64; 4]
+    ensures words { result ≡ word_from bytes.now 0 ∷ word_from bytes.now 8
+        ∷ word_from bytes.now 16 ∷ word_from bytes.now 24 ∷ [] }
+{
+    if bytes.len() == 16 {
+        [word_of(bytes, 0), word_of(bytes, 8), 0, 0]
+    } else {
+        [
+            word_from(bytes, 0),
+            word_from(bytes, 8),
+            word_from(bytes, 16),
+            word_from(bytes, 24),
+        ]
+    }
+}
+
 impl Sought {
     /// The key to be sought.
     pub fn new(key: &Key) -> Sought
         ensures key { result ≡ key.now }
     {
-        let bytes = key.bytes();
-        let words = [
-            word_from(bytes, 0),
-            word_from(bytes, 8),
-            word_from(bytes, 16),
-            word_from(bytes, 24),
-        ];
         Sought {
             key: key.copy(),
-            words,
+            words: four_words(key.bytes()),
         }
     }
 

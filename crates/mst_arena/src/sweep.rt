@@ -5,7 +5,7 @@ ghost use Rattle.std.specs.List.{list_any, list_all};
 ghost use Rattle.std.specs.List.Sorted.{IsPermutation, IsNonDecreasing};
 ghost use Rattle.mst_arena.specs.declared.life.Life.TheVariants.{Dead};
 ghost use Rattle.mst_arena.specs.Lives.{swept_life, is_free, reaches_life};
-ghost use Rattle.mst_arena.specs.Lists.{Lists, StayBut, AllReached, AllOlder, is_older, is_dead, times};
+ghost use Rattle.mst_arena.specs.Lists.{Lists, StayBut, AllReached, AllOlder, IsLowest, is_older, is_dead, times};
 
 use crate::free_rows::FreeRows;
 use crate::life::Life;
@@ -25,14 +25,37 @@ fn is_reached(birth: u64, death: u64, live: &[u64], rising: bool) -> bool
     first < live.len() && live[first] < death
 }
 
-/// What a sweep leaves of a life.
-fn after_sweep(life: Life, live: &[u64], rising: bool) -> Life
+/// A number that no live version is below: the first of them if they rise, and otherwise 0.
+fn lowest_of(live: &[u64], rising: bool) -> u64
     requires rising { rising ≡ true → IsNonDecreasing live.now }
+    ensures lowest { IsLowest result live.now }
+{
+    if rising && !live.is_empty() {
+        live[0]
+    } else {
+        0
+    }
+}
+
+/// Whether a dead row stays. If it died by the lowest live version, as almost all rows did where
+/// nothing is pinned, no version reaches it, and no search is made.
+fn stays(birth: u64, death: u64, live: &[u64], rising: bool, lowest: u64) -> bool
+    requires rising { rising ≡ true → IsNonDecreasing live.now }
+    requires lowest { IsLowest lowest live.now }
+    ensures stays { result ≡ list_any (reaches_life (Dead birth death)) live.now }
+{
+    lowest < death && is_reached(birth, death, live, rising)
+}
+
+/// What a sweep leaves of a life.
+fn after_sweep(life: Life, live: &[u64], rising: bool, lowest: u64) -> Life
+    requires rising { rising ≡ true → IsNonDecreasing live.now }
+    requires lowest { IsLowest lowest live.now }
     ensures swept { result ≡ swept_life live.now life }
 {
     match life {
         Life::Dead { birth, death } => {
-            if is_reached(birth, death, live, rising) {
+            if stays(birth, death, live, rising, lowest) {
                 life
             } else {
                 Life::Free
@@ -155,9 +178,10 @@ fn free_unreached<A: Allocator>(
     ensures room { vec_capacity held.new ≡ vec_capacity held.old }
     ensures dead_room { vec_capacity dead.new ≡ vec_capacity dead.old }
 {
+    let lowest = lowest_of(live, rising);
     let mut older = true;
     while let Some(row) = dead.pop() {
-        let life = after_sweep(lives[row as usize], live, rising);
+        let life = after_sweep(lives[row as usize], live, rising, lowest);
         lives[row as usize] = life;
         match life {
             Life::Free => free.put(row),
@@ -176,8 +200,9 @@ fn free_unreached<A: Allocator>(
 /// with each write, but only once a pin ends. If there was no room to remember the live versions,
 /// the next sweep looks at each dead row.
 ///
-/// A row that is looked at costs one search among the live versions, or two if it stays. Only if
-/// there are more live versions than there is room for, they are compared one by one.
+/// A row that died by the lowest live version costs one comparison with it. Any other that is
+/// looked at costs one search among the live versions, or two if it stays. Only if there are more
+/// live versions than there is room for, they are compared one by one.
 pub fn sweep_dead<A: Allocator>(
     lives: &mut [Life],
     free: &mut FreeRows<A>,

@@ -34,7 +34,7 @@ fn last_word(bytes: &[u8], index: usize) -> u64
 }
 
 /// The word of eight bytes, the first of them highest.
-fn word_of(bytes: &[u8], index: usize) -> u64
+pub(crate) fn word_of(bytes: &[u8], index: usize) -> u64
     requires there { index + 8 ≤ length bytes.now }
     ensures word { result ≡ word_from bytes.now index }
 {

@@ -32,8 +32,8 @@ use Rattle.mst_batch.proofs.PlanShapes.{cell_planned, cells_planned, list_rows, 
 
 -- These entries of a node are written, each after the tree of its plan: their rows are those of the
 -- kept trees and rows that were taken.
-pub record SownSoFar (format : Format) (at : ℕ → Placed) (old now : State)
-    (before content : Content) (w : NodeWriter) (xs : List PlannedEntry) : Type 0 where
+pub record SownSoFar {A : Type 0} (format : Format) (at : ℕ → Placed) (old now : State)
+    (before content : Content) (w : NodeWriter A) (xs : List PlannedEntry) : Type 0 where
   pub ws : List PlacedEntry
   pub is : cells_of format ws ≡ cells_planned format at xs
   pub going : Going format w content now ws
@@ -74,7 +74,8 @@ kept_whole format at content s link result p root = record {
 
 -- ---- a node begins
 
-module _ (format : Format) (at : ℕ → Placed) (c : Content) (s s1 : State) (w : NodeWriter)
+module _ {A : Type 0} (format : Format) (at : ℕ → Placed) (c : Content) (s s1 : State)
+    (w : NodeWriter A)
     (takes : Takes s s1 (w.head ∷ ahead w.next)) (written : IsWritten format w c []) where
   begun : Moves s s1 (w.head ∷ ahead w.next) []
   begun = moves_takes s s1 (w.head ∷ ahead w.next) takes
@@ -105,8 +106,9 @@ module _ (format : Format) (at : ℕ → Placed) (c : Content) (s s1 : State) (w
     counted = omega arith;
   }
 
-module _ (format : Format) (at : ℕ → Placed) (old now : State) (before content : Content)
-    (w : NodeWriter) (xs : List PlannedEntry)
+module _ {A : Type 0} (format : Format) (at : ℕ → Placed) (old now : State)
+    (before content : Content)
+    (w : NodeWriter A) (xs : List PlannedEntry)
     (s : SownSoFar format at old now before content w xs)
     (kept_alive : (x : ℕ) → In x (list_kept at xs) → IsOld old x) where
   -- ---- the plan of the next gap stands as before
@@ -211,7 +213,7 @@ module _ (format : Format) (at : ℕ → Placed) (old now : State) (before conte
 
     -- ---- one more entry
 
-    pub entry_more : (now3 : State) (content3 : Content) (w2 : NodeWriter) (r : ℕ)
+    pub entry_more : (now3 : State) (content3 : Content) (w2 : NodeWriter A) (r : ℕ)
         (y : PlannedEntry) → t ≡ tree_planned format at y.child → given ≡ rows_kept at y.child
         → count ≡ rows_planned y.child → w.next ≡ Some r → w2.head ≡ w.head
         → ((es : List PlacedEntry) (p : Placed) (n : ℕ) → w.next ≡ Some n

@@ -85,11 +85,11 @@ fn sow_node<R: Rows, A: Allocator, B: Allocator>(
         (rows_kept at (plan_of_node node.now)) (rows_planned (plan_of_node node.now)) }
     ensures beside { StaysBeside R.blank R.kept rows.old rows.new }
 {
-    let mut writer = NodeWriter::begin(desk, node.layer, node.entries.len() as u32, format);
+    let mut writer = NodeWriter::begin(desk, node.layer, node.entries.len() as u32, format, false);
     for entry in &node.entries {
         let child = sow(rows, desk, &entry.child, format);
-        writer.entry(rows, desk, &child, &entry.key, &entry.value);
+        writer.entry(rows, desk, None, &child, &entry.key, &entry.value);
     }
     let tail = sow(rows, desk, &node.tail, format);
-    writer.finish(rows, &tail)
+    writer.finish(rows, desk, &tail)
 }

@@ -12,7 +12,7 @@ use Rattle.mst_key.specs.declared.history.Edit.TheVariants.{Put, Remove}
 use Rattle.mst_key.specs.History as history
 use Rattle.mst_versions.specs.declared.faults.ApplyFault.TheVariants as apply
 use Rattle.mst_store.specs.Passes.{Known, Wrote, made_by}
-use Rattle.mst_store.specs.Applying.{RefusesBatch}
+use Rattle.mst_versions.specs.Applying.{RefusesBatch}
 use Rattle.mst_c.specs.declared.held.State.{State}
 use Rattle.mst_c.specs.declared.held.State.TheVariants.{Away, Free, Pinned}
 use Rattle.mst_c.specs.declared.held.Unapplied.{Unapplied}

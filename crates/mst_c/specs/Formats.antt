@@ -6,7 +6,7 @@ use Rattle.mst_key.specs.declared.history.Change.TheVariants.{Migrate}
 use Rattle.mst_key.specs.History as history
 use Rattle.mst_versions.specs.declared.faults.MigrateFault.TheVariants.{Busy, VersionsSpent, Memory, NoRoom}
 use Rattle.mst_store.specs.Passes.{Known, Wrote, made_by}
-use Rattle.mst_store.specs.Migrating.{RefusesMigration}
+use Rattle.mst_versions.specs.Migrating.{RefusesMigration}
 use Rattle.mst_c.specs.declared.held.State.{State}
 use Rattle.mst_c.specs.declared.held.State.TheVariants.{Away, Free, Pinned}
 use Rattle.mst_c.specs.declared.held.Unmoved.{Unmoved}

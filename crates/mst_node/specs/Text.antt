@@ -46,6 +46,11 @@ abbrev pub held_text : Format → List ℕ → List ℕ
 held_text One held = counted held
 held_text Two held = held
 
+-- what is handed over for a value: its digest if there is one, otherwise the value after its length
+abbrev pub told_text : Option (List ℕ) → List ℕ → List ℕ
+told_text None value = counted value
+told_text (Some digest) value = digest
+
 abbrev pub entry_text : Format → FlatEntry → List ℕ
 entry_text format e = child_text e.child ++ counted e.key ++ held_text format e.held
 

@@ -1,7 +1,8 @@
 //! What takes the text of a node, and the pieces that such a text is made of.
 ghost use Rattle.std.specs.Prelude.{◌≡◌, ◌≤◌, ℕ, List, [], ◌++◌, length, Option, Some, None, IfSome, IfOk, OnErr};
 ghost use Rattle.sha2.specs.Hashers.{Holds256};
-ghost use Rattle.mst_node.specs.Text.{heading, version, child_text, counted, held_of, held_text};
+ghost use Rattle.sha2.specs.Sha256.{sha256};
+ghost use Rattle.mst_node.specs.Text.{heading, version, child_text, counted, held_of, held_text, told_text};
 
 use crate::hashing::digest;
 use crate::short::ShortText;
@@ -30,6 +31,15 @@ pub trait TextSink: Drop {
         self.take(count.to_be_bytes().as_slice());
     }
 
+    /// The SHA-256 of a value, which stands for it in format 2. A sink that remembers digests need
+    /// not hash again.
+    fn value_digest(&mut self, value: &[u8]) -> [u8; 32]
+        ensures digest { result ≡ sha256 value.now }
+        ensures same { (m : List ℕ) → took self.old m → took self.new m }
+    {
+        digest(value)
+    }
+
     /// Takes an entry: the child before it, its key, and its value or, in format 2, the SHA-256 of
     /// that. It takes an entry of a node in one piece, since each piece costs a hasher some forty
     /// instructions.
@@ -40,11 +50,12 @@ pub trait TextSink: Drop {
             → took self.new (m ++ child_text child ++ counted key.now
             ++ held_text format (held_of format value.now)) }
     {
+        let digest = digest_in(self, format, value);
         let mut entry = ShortText::new();
-        take_entry(&mut entry, format, child, key, value);
+        take_parts(&mut entry, child, key, value, digest);
         match entry.bytes() {
             Some(bytes) => self.take(bytes),
-            None => take_entry(self, format, child, key, value),
+            None => take_parts(self, child, key, value, digest),
         }
     }
 
@@ -77,9 +88,53 @@ pub fn take_entry<S: TextSink>(
         → S.took sink.new (m ++ child_text child ++ counted key.now
         ++ held_text format (held_of format value.now)) }
 {
+    let digest = digest_in(sink, format, value);
+    take_parts(sink, child, key, value, digest);
+}
+
+/// What stands for a value in a text of a format, if that is its digest.
+fn digest_in<S: TextSink>(sink: &mut S, format: Format, value: &[u8]) -> Option<[u8; 32]>
+    ensures told { told_text result value.now ≡ held_text format (held_of format value.now) }
+    ensures same { (m : List ℕ) → S.took sink.old m → S.took sink.new m }
+{
+    match format {
+        Format::One => None,
+        Format::Two => Some(sink.value_digest(value)),
+    }
+}
+
+/// Hands over the parts of an entry: the child before it, its key, and its value or the digest of
+/// that.
+fn take_parts<S: TextSink>(
+    sink: &mut S,
+    child: Option<[u8; 32]>,
+    key: &[u8],
+    value: &[u8],
+    digest: Option<[u8; 32]>,
+)
+    requires key { length key.now ≤ 255 }
+    requires value { length value.now ≤ 255 }
+    ensures parts { (m : List ℕ) → S.took sink.old m
+        → S.took sink.new (m ++ child_text child ++ counted key.now ++ told_text digest value.now) }
+{
     sink.child(child);
     take_counted(sink, key);
-    take_held(sink, format, value);
+    match digest {
+        None => take_counted(sink, value),
+        Some(digest) => sink.take(digest.as_slice()),
+    }
+}
+
+/// Hands over bytes. Of the lengths that most keys and values have, the compiled code then knows
+/// how many it copies.
+fn take_bytes<S: TextSink>(sink: &mut S, bytes: &[u8])
+    ensures took { (m : List ℕ) → S.took sink.old m → S.took sink.new (m ++ bytes.now) }
+{
+    match bytes.len() {
+        16 => sink.take(&bytes[..16]),
+        32 => sink.take(&bytes[..32]),
+        _ => sink.take(bytes),
+    }
 }
 
 /// Hands over bytes after their number, at most 255.
@@ -88,7 +143,7 @@ fn take_counted<S: TextSink>(sink: &mut S, bytes: &[u8])
     ensures counted { (m : List ℕ) → S.took sink.old m → S.took sink.new (m ++ counted bytes.now) }
 {
     sink.take([bytes.len() as u8].as_slice());
-    sink.take(bytes);
+    take_bytes(sink, bytes);
 }
 
 /// The byte that begins a text of a format.
@@ -98,18 +153,6 @@ pub fn format_byte(format: Format) -> u8
     match format {
         Format::One => 1,
         Format::Two => 2,
-    }
-}
-
-/// Hands over what a node holds of a value.
-fn take_held<S: TextSink>(sink: &mut S, format: Format, value: &[u8])
-    requires few { length value.now ≤ 255 }
-    ensures held { (m : List ℕ) → S.took sink.old m
-        → S.took sink.new (m ++ held_text format (held_of format value.now)) }
-{
-    match format {
-        Format::One => take_counted(sink, value),
-        Format::Two => sink.take(digest(value).as_slice()),
     }
 }
 

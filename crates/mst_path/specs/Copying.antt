@@ -13,7 +13,7 @@ use Rattle.mst_path.specs.declared.node_writer.NodeWriter.{NodeWriter}
 
 -- These entries are written, in new rows: their rows and those of the trees before them are alive,
 -- no row twice, and the row for the next entry is a new one and none of them.
-pub record Going (format : Format) (w : NodeWriter) (content : Content) (s : State)
+pub record Going {A : Type 0} (format : Format) (w : NodeWriter A) (content : Content) (s : State)
     (ws : List PlacedEntry) : Type 0 where
   pub written : IsWritten format w content ws
   pub once : (r : ℕ) → times r (ahead w.next) + times r (entries_used ws) ≤ 1
@@ -23,7 +23,7 @@ pub record Going (format : Format) (w : NodeWriter) (content : Content) (s : Sta
 
 -- So many entries from a link on are to be copied after those that are written, and no row stands
 -- twice in all of them.
-pub record Copying (format : Format) (w : NodeWriter) (content : Content) (s : State)
+pub record Copying {A : Type 0} (format : Format) (w : NodeWriter A) (content : Content) (s : State)
     (link count : ℕ) : Type 0 where
   pub behind : ℕ
   pub es : List PlacedEntry
@@ -34,7 +34,8 @@ pub record Copying (format : Format) (w : NodeWriter) (content : Content) (s : S
 
 -- The entries are copied: their rows were killed, and the copies were written into rows that were
 -- taken.
-pub record Copied (format : Format) (w w' : NodeWriter) (c c' : Content) (s s' : State)
+pub record Copied {A : Type 0} (format : Format) (w w' : NodeWriter A) (c c' : Content)
+    (s s' : State)
     (ws es : List PlacedEntry) : Type 0 where
   pub copies : List PlacedEntry
   pub same : AreCopies copies es

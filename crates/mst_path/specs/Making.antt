@@ -125,7 +125,8 @@ pub record OldTree (format : Format) (content : Content) (s : State) (link : ℕ
 
 -- What is left of the parts, for a node whose entries in front are written: the rows that were
 -- taken for its head and its next entry are new ones, and no row stands twice.
-pub record Rest (format : Format) (w : NodeWriter) (content : Content) (s : State) (parts : Parts)
+pub record Rest {A : Type 0} (format : Format) (w : NodeWriter A) (content : Content) (s : State)
+    (parts : Parts)
     : Type 0 where
   pub ws : List PlacedEntry
   pub going : Going format w content s ws
@@ -141,7 +142,8 @@ pub record Rest (format : Format) (w : NodeWriter) (content : Content) (s : Stat
       (used seam) + times x (own back) + times x (gaps_used (others back)) + times x (used tail) ≤ 1
 
 -- the node is written
-pub record Finished (format : Format) (w : NodeWriter) (c c' : Content) (s s' : State)
+pub record Finished {A : Type 0} (format : Format) (w : NodeWriter A) (c c' : Content)
+    (s s' : State)
     (parts : Parts) (r : Rest format w c s parts) (at : Root) : Type 0 where
   pub placed : Placed
   pub is : tree_of format placed ≡ node format w.layer

@@ -3,7 +3,7 @@ use Rattle.mst_key.specs.declared.format.Format.{Format}
 use Rattle.std.specs.Prelude.{◌≡◌, ◌≤◌, ◌<◌, ◌+◌, ℕ, Bool, IsTrue, List, [], ◌∷◌, ◌++◌, length, map, Option, Some, None, IfSome}
 use Rattle.std.specs.Int.{w16, to_be_bytes}
 use Rattle.std.specs.List.{AllByRecursion, flat_map}
-use Rattle.sha2.specs.Hashers.{Holds256}
+use Rattle.mst_prefix.specs.Kept.{HasTaken}
 use Rattle.mst_node.specs.Text.{FlatEntry, entry_text, child_digest, held_of, version, digest as digest_of}
 use Rattle.mst_arena.specs.Content.{Content}
 use Rattle.mst_arena.specs.declared.row.Root.{Root}
@@ -80,20 +80,22 @@ abbrev pub IsAhead : Option ℕ → ℕ → Type 0
 IsAhead None left = left ≡ 0
 IsAhead (Some r) left = 0 < left
 
--- the limits of what a writer holds
-pub record IsWriter (w : NodeWriter) : Type 0 where
+-- the limits of what a writer holds; its hasher has taken a text
+pub record IsWriter {A : Type 0} (w : NodeWriter A) : Type 0 where
   pub low : w.layer ≤ 128
   pub some : 0 < w.count
   pub few : w.count ≤ 65534
   pub small : AllByRecursion (λ r. r < 65535) (w.head ∷ w.first ∷ ahead w.next)
   pub reserved : IsAhead w.next w.left
+  pub hashes : (m : List ℕ) × HasTaken w.hasher m
 
 -- these entries are written, in this format: they are the first of the node's, their rows stand,
--- and the hasher holds the text up to them
-pub record IsWritten (format : Format) (w : NodeWriter) (content : Content) (es : List PlacedEntry)
+-- and the hasher has taken the text up to them
+pub record IsWritten {A : Type 0} (format : Format) (w : NodeWriter A) (content : Content)
+    (es : List PlacedEntry)
     : Type 0 where
   pub format_is : w.format ≡ format
   pub counted : length es + w.left ≡ w.count
   pub begins : link_from (link_to w.next) es ≡ w.first + 1
-  pub fed : Holds256 w.hasher (text_up_to format w.layer w.count es)
+  pub fed : HasTaken w.hasher (text_up_to format w.layer w.count es)
   pub rows : HasRows content (entry_rows format (link_to w.next) es)

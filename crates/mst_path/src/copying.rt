@@ -40,7 +40,7 @@ pub fn root_at<R: Rows>(rows: &mut R, link: u32) -> Root
 pub(crate) fn move_entry<R: Rows, A: Allocator>(
     rows: &mut R,
     desk: &mut Desk<A>,
-    writer: &mut NodeWriter,
+    writer: &mut NodeWriter<A>,
     row: u32,
     entry: &EntryLinks,
     child: &Root,
@@ -75,7 +75,7 @@ pub(crate) fn move_entry<R: Rows, A: Allocator>(
 pub(crate) fn move_run<R: Rows, A: Allocator>(
     rows: &mut R,
     desk: &mut Desk<A>,
-    writer: &mut NodeWriter,
+    writer: &mut NodeWriter<A>,
     from: u32,
     count: u32,
 ) -> u32

@@ -1,19 +1,22 @@
 //! How many rows a put takes, counted along its path before anything is written.
-ghost use Rattle.std.specs.Prelude.{◌≡◌, ◌≤◌, ◌+◌, ◌==◌, ◌&&◌, ◌||◌, ℕ, List};
+ghost use Rattle.std.specs.Prelude.{◌≡◌, ◌≤◌, ◌<◌, ◌+◌, ◌*◌, ◌==◌, ◌&&◌, ◌||◌, ℕ, List, length};
+ghost use Rattle.std.specs.Bool.{MatchBool};
 ghost use Rattle.mst_key.specs.declared.format.Format.{Format};
 ghost use Rattle.mst_key.specs.Layer.{layer_in};
-ghost use Rattle.mst_arena.specs.Lives.{State};
+ghost use Rattle.mst_arena.specs.Lives.{State, free_count};
 ghost use Rattle.mst_arena.specs.Standing.{tree_of};
 ghost use Rattle.mst_change.specs.Split.{below, above};
 ghost use Rattle.mst_change.specs.Parts.{is_empty};
 ghost use Rattle.mst_change.specs.Cost.{side_rows, split_rows};
 ghost use Rattle.mst_path.specs.Splitting.{ToSplit};
+ghost use Rattle.mst_path.specs.Takes.{FewRows};
 ghost use Rattle.mst_path.specs.PutPath.{RisingTree, pair_rows, with_rows};
 
 use crate::frames::Frame;
 use crate::put_path::{PutStep, put_step};
 use crate::remove_path::{Step, top_step};
-use mst_arena::{Rows, Sought};
+use mst_arena::{Desk, Rows, Sought};
+use std::alloc::Allocator;
 
 /// What a split of a tree makes.
 #[derive(Clone, Copy)]
@@ -120,5 +123,39 @@ pub(crate) fn put_cost<R: Rows>(rows: &mut R, link: u32, layer: u8, key: &Sought
             split.rows + rows_with_entry(&frame)
         }
         PutStep::Anew { meeting } => rows_with_entry(&meeting.frame),
+    }
+}
+
+/// Whether as many rows are free as a put takes of a key that has this layer, if the value is not
+/// the one that the key has.
+///
+/// A put takes at most two rows, and twice those of the tree, of which none is free. So if the
+/// others are few enough, its rows are not counted.
+pub(crate) fn put_fits<R: Rows, A: Allocator>(
+    rows: &mut R,
+    desk: &Desk<A>,
+    link: u32,
+    layer: u8,
+    key: &Sought,
+) -> bool
+    requires tree { (format : Format) × (s : State)
+        × (t : RisingTree format (R.content rows.old) s link) × (v : List ℕ)
+        × (pair_rows format t layer key.now v ≤ 2 * length desk.now.lives + 2)
+        × (layer ≡ layer_in format key.now) }
+    ensures fits { (format : Format) (s : State) (t : RisingTree format (R.content rows.old) s link)
+        (v : List ℕ) → layer ≡ layer_in format key.now
+        → pair_rows format t layer key.now v + 2 * free_count desk.now.lives
+        ≤ 2 * length desk.now.lives + 2
+        → MatchBool result (pair_rows format t layer key.now v ≤ free_count desk.now.lives)
+        (free_count desk.now.lives < pair_rows format t layer key.now v) }
+    ensures few { FewRows desk.now.lives }
+    ensures same { rows.new ≡ rows.old }
+{
+    let free = desk.free();
+    let others = desk.rows().saturating_sub(free);
+    if 2 * others + 2 <= free {
+        true
+    } else {
+        put_cost(rows, link, layer, key) <= free
     }
 }

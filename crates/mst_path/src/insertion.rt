@@ -13,7 +13,7 @@ ghost use Rattle.mst_path.specs.Made.{IsMade};
 ghost use Rattle.mst_path.specs.Changing.{MapStands, OnlyFreeWritten, SameVersions};
 ghost use Rattle.mst_path.specs.Reached.{Changes};
 
-use crate::counting::put_cost;
+use crate::counting::put_fits;
 use crate::faults::NoRoom;
 use crate::finding::find;
 use crate::put_path::put_at;
@@ -53,9 +53,10 @@ fn is_same(found: &Option<Value>, value: &Value) -> bool
 /// `NoRoom` exactly if fewer rows are free; then rows and desk are as before.
 ///
 /// No memory is taken, and calls nest no deeper than the layers, at most 65 in format 1 and 129 in
-/// format 2. The path is read three times: for the value, to count, and to make the new nodes; only
-/// the last time hashes nodes, each new one once, and in format 2 the value of each entry that is
-/// written. The key is hashed once, for its layer.
+/// format 2. The path is read for the value, to count, unless so many rows are free that any put
+/// has room, and to make the new nodes. Only the last time hashes: of each new node the text after
+/// the last entry up to which a kept hash serves, and in format 2 each value that is written and
+/// has no kept digest. The key is hashed once, for its layer.
 pub fn put<R: Rows, A: Allocator>(
     rows: &mut R,
     desk: &mut Desk<A>,
@@ -101,8 +102,7 @@ pub fn put<R: Rows, A: Allocator>(
         return Ok((*root, old));
     }
     let layer = key.layer_in(format);
-    let free = desk.free();
-    if put_cost(rows, root.link, layer, &sought) > free {
+    if !put_fits(rows, desk, root.link, layer, &sought) {
         return Err(NoRoom);
     }
     let new = put_at(rows, desk, root.link, layer, &sought, value, format);

@@ -76,7 +76,7 @@ pub(crate) fn make_node<R: Rows, A: Allocator>(
     ensures beside { StaysBeside R.blank R.kept rows.old rows.new }
 {
     let count = parts.front.count + parts.back.count;
-    let mut writer = NodeWriter::begin(desk, parts.layer, count, format);
+    let mut writer = NodeWriter::begin(desk, parts.layer, count, format, true);
     move_run(
         rows,
         desk,
@@ -88,11 +88,12 @@ pub(crate) fn make_node<R: Rows, A: Allocator>(
 }
 
 /// Makes the node of the parts, with a new entry between the front and the seam, and a tree in the
-/// gap before it.
+/// gap before it. The new entry takes the place of the one in the row `replaced`, if there is one.
 pub(crate) fn make_node_with<R: Rows, A: Allocator>(
     rows: &mut R,
     desk: &mut Desk<A>,
     parts: &Parts,
+    replaced: Option<u32>,
     child: &Root,
     key: &Key,
     value: &Value,
@@ -117,7 +118,7 @@ pub(crate) fn make_node_with<R: Rows, A: Allocator>(
     ensures beside { StaysBeside R.blank R.kept rows.old rows.new }
 {
     let count = parts.front.count + parts.back.count + 1;
-    let mut writer = NodeWriter::begin(desk, parts.layer, count, format);
+    let mut writer = NodeWriter::begin(desk, parts.layer, count, format, true);
     move_run(
         rows,
         desk,
@@ -125,7 +126,7 @@ pub(crate) fn make_node_with<R: Rows, A: Allocator>(
         parts.front.first,
         parts.front.count,
     );
-    writer.entry(rows, desk, child, key, value);
+    writer.entry(rows, desk, replaced, child, key, value);
     finish_node(rows, desk, writer, parts)
 }
 
@@ -133,7 +134,7 @@ pub(crate) fn make_node_with<R: Rows, A: Allocator>(
 fn finish_node<R: Rows, A: Allocator>(
     rows: &mut R,
     desk: &mut Desk<A>,
-    writer: NodeWriter,
+    writer: NodeWriter<A>,
     parts: &Parts,
 ) -> Root
     requires rest { (format : Format) × Rest format writer (R.content rows.old) desk.old parts.now }
@@ -150,7 +151,7 @@ fn finish_node<R: Rows, A: Allocator>(
     ensures beside { StaysBeside R.blank R.kept rows.old rows.new }
 {
     if parts.back.count == 0 {
-        return writer.finish(rows, &parts.seam);
+        return writer.finish(rows, desk, &parts.seam);
     }
     finish_with_back(rows, desk, writer, parts)
 }
@@ -160,7 +161,7 @@ fn finish_node<R: Rows, A: Allocator>(
 fn finish_with_back<R: Rows, A: Allocator>(
     rows: &mut R,
     desk: &mut Desk<A>,
-    mut writer: NodeWriter,
+    mut writer: NodeWriter<A>,
     parts: &Parts,
 ) -> Root
     requires rest { (format : Format) × Rest format writer (R.content rows.old) desk.old parts.now }
@@ -182,5 +183,5 @@ fn finish_with_back<R: Rows, A: Allocator>(
     move_entry(rows, desk, &mut writer, row, &entry, &parts.seam);
     move_run(rows, desk, &mut writer, entry.next, parts.back.count - 1);
     let tail = root_at(rows, parts.tail);
-    writer.finish(rows, &tail)
+    writer.finish(rows, desk, &tail)
 }

@@ -2,6 +2,7 @@
 ghost use Rattle.std.specs.Prelude.{◌≡◌, ◌≤◌, ◌<◌, ◌+◌, ℕ, List, [], ◌∷◌, ◌++◌, Some, IsTrue};
 ghost use Rattle.mst_node.specs.Text.{child_digest};
 ghost use Rattle.mst_key.specs.declared.format.Format.{Format};
+ghost use Rattle.mst_prefix.specs.Kept.{HasTaken};
 ghost use Rattle.mst_arena.specs.Lives.{free_count};
 ghost use Rattle.mst_arena.specs.Content.{Content, part_at};
 ghost use Rattle.mst_arena.specs.Row.{entry_links, entry_value};
@@ -12,7 +13,7 @@ ghost use Rattle.mst_path.specs.Writing.{PlacedEntry, chain_of, entries_used, Is
 use mst_arena::{Desk, EntryLinks, Root, Row, Rows};
 use mst_key::{Format, Key, Value};
 use mst_node::TextSink;
-use sha2::{Digest, Sha256};
+use mst_prefix::TextHasher;
 use std::alloc::Allocator;
 
 /// Takes a free row. There is one.
@@ -52,13 +53,27 @@ fn digest_at(root: &Root) -> Option<[u8; 32]>
     }
 }
 
+/// A hasher for the text of a node of this layer: with what the desk keeps of such texts if the
+/// entries are copied from a node, otherwise without, since nothing is kept of them.
+fn hasher_for<A: Allocator>(desk: &mut Desk<A>, layer: u8, is_copy: bool) -> TextHasher<A>
+    ensures empty { HasTaken result [] }
+    ensures same { desk.new ≡ desk.old }
+{
+    if is_copy {
+        desk.hasher(layer)
+    } else {
+        TextHasher::alone()
+    }
+}
+
 /// A node that is being written. Its rows are taken on the way: that of the head and that of the
 /// first entry at the beginning, and that of each further entry before the one in front of it is
-/// written, since that one links to it.
+/// written, since that one links to it. If it is a copy of another node but for some entries, what
+/// the desk keeps of texts of its layer is lent to the writer until it is finished.
 #[derive(Drop)]
-pub struct NodeWriter {
+pub struct NodeWriter<A: Allocator> {
     /// The text up to the entries that are written.
-    hasher: Sha256,
+    hasher: TextHasher<A>,
     /// The format of the node.
     format: Format,
     layer: u8,
@@ -74,15 +89,16 @@ pub struct NodeWriter {
     next: Option<u32>,
 }
 
-impl NodeWriter {
-    /// A node of this layer and format with so many entries, none of them written yet. It takes two
-    /// rows.
-    pub fn begin<A: Allocator>(
+impl<A: Allocator> NodeWriter<A> {
+    /// A node of this layer and format with so many entries, none of them written yet, which is a
+    /// copy of another but for some entries, or all new. It takes two rows.
+    pub fn begin(
         desk: &mut Desk<A>,
         layer: u8,
         count: u32,
         format: Format,
-    ) -> NodeWriter
+        is_copy: bool,
+    ) -> NodeWriter<A>
         requires low { layer ≤ 128 }
         requires some { 0 < count }
         requires few { count ≤ 65534 }
@@ -95,7 +111,7 @@ impl NodeWriter {
     {
         let head = take_row(desk);
         let first = take_row(desk);
-        let mut hasher = Sha256::new();
+        let mut hasher = hasher_for(desk, layer, is_copy);
         hasher.heading(format, layer, count as u16);
         NodeWriter {
             hasher,
@@ -110,10 +126,13 @@ impl NodeWriter {
     }
 
     /// Writes the next entry, after the tree at `child`. It takes a row if a further entry is left.
-    pub fn entry<R: Rows, A: Allocator>(
+    /// If the entry takes the place of another, `replaced` is the row of that one: what is kept of
+    /// texts for that row makes room for what is kept for the new one.
+    pub fn entry<R: Rows>(
         &mut self,
         rows: &mut R,
         desk: &mut Desk<A>,
+        replaced: Option<u32>,
         child: &Root,
         key: &Key,
         value: &Value,
@@ -153,13 +172,15 @@ impl NodeWriter {
             value: value.copy(),
         };
         rows.write(row, &entry);
+        let from = replaced.unwrap_or(row);
+        let (key, value) = (key.bytes(), value.bytes());
         self.hasher
-            .entry(self.format, digest_at(child), key.bytes(), value.bytes());
+            .copied_entry(from, row, self.format, digest_at(child), key, value);
     }
 
     /// Writes the next entry, after the tree at `child`, as a copy of the entry in a row, which has
     /// these links and this key. It takes a row if a further entry is left.
-    pub fn copy<R: Rows, A: Allocator>(
+    pub fn copy<R: Rows>(
         &mut self,
         rows: &mut R,
         desk: &mut Desk<A>,
@@ -196,17 +217,14 @@ impl NodeWriter {
             None => 0,
         };
         let value = rows.copy_entry(from, to, child.link, next);
-        self.hasher.entry(
-            self.format,
-            digest_at(child),
-            entry.key.bytes(),
-            value.bytes(),
-        );
+        let (key, value) = (entry.key.bytes(), value.bytes());
+        self.hasher
+            .copied_entry(from, to, self.format, digest_at(child), key, value);
     }
 
     /// Writes the head, once all entries are written, with the tree at `tail` in the last gap.
     /// Returns where the node stands.
-    pub fn finish<R: Rows>(mut self, rows: &mut R, tail: &Root) -> Root
+    pub fn finish<R: Rows>(mut self, rows: &mut R, desk: &mut Desk<A>, tail: &Root) -> Root
         requires writer { IsWriter self }
         requires all { self.left ≡ 0 }
         requires blank { IsTrue (R.blank rows.old self.head) }
@@ -223,10 +241,11 @@ impl NodeWriter {
             → HasRows (R.content rows.new)
             (rows_of format (head self.head self.layer (chain_of es p))) }
         ensures keeps { KeepsBut (self.head ∷ []) (R.content rows.old) (R.content rows.new) }
+        ensures desk { desk.new ≡ desk.old }
         ensures beside { StaysBeside R.blank R.kept rows.old rows.new }
     {
         self.hasher.child(digest_at(tail));
-        let digest = self.hasher.finalize();
+        let digest = desk.digest(self.layer, self.hasher);
         let head = Row::Head {
             layer: self.layer,
             count: self.count,

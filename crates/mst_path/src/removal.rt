@@ -13,7 +13,7 @@ ghost use Rattle.mst_path.specs.Reached.{Changes};
 
 use crate::faults::NoRoom;
 use crate::finding::find;
-use crate::remove_path::{remove_at, remove_cost};
+use crate::remove_path::{remove_at, remove_fits};
 use mst_arena::{Desk, Root, Rows, Sought};
 use mst_key::{Format, Key, Value};
 use std::alloc::Allocator;
@@ -31,9 +31,10 @@ use std::alloc::Allocator;
 /// `NoRoom` exactly if fewer rows are free; then rows and desk are as before.
 ///
 /// No memory is taken, and calls nest no deeper than the layers, at most 65 in format 1 and 129 in
-/// format 2. The path is read three times: for the value, to count, and to make the new nodes; only
-/// the last time hashes, each new node once, and in format 2 the value of each entry that is
-/// written.
+/// format 2. The path is read for the value, to count, unless so many rows are free that any remove
+/// has room, and to make the new nodes. Only the last time hashes: of each new node the text after
+/// the last entry up to which a kept hash serves, and in format 2 each value that is written and
+/// has no kept digest.
 pub fn remove<R: Rows, A: Allocator>(
     rows: &mut R,
     desk: &mut Desk<A>,
@@ -75,8 +76,7 @@ pub fn remove<R: Rows, A: Allocator>(
     let Some(value) = find(rows, root.link, &sought) else {
         return Ok((*root, None));
     };
-    let free = desk.free();
-    if remove_cost(rows, root.link, &sought) > free {
+    if !remove_fits(rows, desk, root.link, &sought) {
         return Err(NoRoom);
     }
     let new = remove_at(rows, desk, root.link, &sought, format);

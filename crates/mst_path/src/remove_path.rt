@@ -1,13 +1,14 @@
 //! A key removed from a tree that stands: along the path to its entry each node is made anew, and
 //! the trees beside the entry are joined.
-ghost use Rattle.std.specs.Prelude.{◌≡◌, ◌≤◌, ◌<◌, ◌+◌, List};
+ghost use Rattle.std.specs.Prelude.{◌≡◌, ◌≤◌, ◌<◌, ◌+◌, List, length};
+ghost use Rattle.std.specs.Bool.{MatchBool};
 ghost use Rattle.mst_key.specs.declared.format.Format.{Format};
 ghost use Rattle.mst_arena.specs.Lives.{State, free_count};
 ghost use Rattle.mst_arena.specs.Standing.{Placed, link_of, HasRows};
 ghost use Rattle.mst_path.specs.Cutting.{IsRunOf, gap_before};
 ghost use Rattle.mst_path.specs.Runs.{own_rows};
 ghost use Rattle.mst_path.specs.Writing.{PlacedEntry};
-ghost use Rattle.mst_path.specs.Takes.{IsWritable, StaysBeside};
+ghost use Rattle.mst_path.specs.Takes.{FewRows, IsWritable, StaysBeside};
 ghost use Rattle.mst_path.specs.Making.{Grown};
 ghost use Rattle.mst_path.specs.Frames.{Framed, in_frame, tree_round, frame_rows};
 ghost use Rattle.mst_path.specs.Joining.{MetTrees, in_both, both_joined, both_rows};
@@ -173,5 +174,34 @@ pub(crate) fn remove_cost<R: Rows>(rows: &mut R, link: u32, key: &Sought) -> u32
             let joined = join_cost(rows, meeting.left, meeting.right);
             joined + meeting.frame.rows()
         }
+    }
+}
+
+/// Whether as many rows are free as [`remove_at`] takes.
+///
+/// It takes no more than the tree has, of which none is free. So if the others are few enough, they
+/// are not counted.
+pub(crate) fn remove_fits<R: Rows, A: Allocator>(
+    rows: &mut R,
+    desk: &Desk<A>,
+    link: u32,
+    key: &Sought,
+) -> bool
+    requires tree { (format : Format) × (s : State) × (t : SearchTree format
+        (R.content rows.old) s link)
+        × (without_rows format t key.now ≤ length desk.now.lives) }
+    ensures fits { (format : Format) (s : State) (t : SearchTree format (R.content rows.old) s link)
+        → without_rows format t key.now + free_count desk.now.lives ≤ length desk.now.lives
+        → MatchBool result (without_rows format t key.now ≤ free_count desk.now.lives)
+        (free_count desk.now.lives < without_rows format t key.now) }
+    ensures few { FewRows desk.now.lives }
+    ensures same { rows.new ≡ rows.old }
+{
+    let free = desk.free();
+    let others = desk.rows().saturating_sub(free);
+    if others <= free {
+        true
+    } else {
+        remove_cost(rows, link, key) <= free
     }
 }

@@ -82,13 +82,13 @@ fn plant_node<R: Rows, A: Allocator, B: Allocator>(
         (tree_of format node.now) result }
     ensures beside { StaysBeside R.blank R.kept rows.old rows.new }
 {
-    let mut writer = NodeWriter::begin(desk, node.layer, node.entries.len() as u32, format);
+    let mut writer = NodeWriter::begin(desk, node.layer, node.entries.len() as u32, format, false);
     for entry in &node.entries {
         let child = plant_child(rows, desk, &entry.child, format);
-        writer.entry(rows, desk, &child, &entry.key, &entry.value);
+        writer.entry(rows, desk, None, &child, &entry.key, &entry.value);
     }
     let tail = plant_child(rows, desk, &node.tail, format);
-    writer.finish(rows, &tail)
+    writer.finish(rows, desk, &tail)
 }
 
 /// Writes a whole tree into free rows. It takes exactly one row for each entry and each node, and

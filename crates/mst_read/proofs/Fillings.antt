@@ -189,11 +189,11 @@ pub pushed : {before after next : List Pair} (p : Pair) → after ≡ before →
     → next ≡ before ++ p ∷ []
 pushed p same is = is ∙ ap (λ (l : List Pair). l ++ p ∷ []) same
 
--- a pair that was pushed, with the value that stands there
-pub own-pushed : (to : Option (List ℕ)) (limit : ℕ) (found next : List Pair) (key v x : List ℕ)
-    (o : Option (List ℕ)) → next ≡ found ++ (key, x) ∷ [] → o ≡ Some x → o ≡ Some v
+-- a pair that was pushed, and is the one that stands there
+pub own-pushed : (to : Option (List ℕ)) (limit : ℕ) (found next : List Pair) (key v : List ℕ)
+    (p : Pair) (o : Option Pair) → next ≡ found ++ p ∷ [] → o ≡ Some p → o ≡ Some (key, v)
     → (length found < limit) × (below to key ≡ true) → next ≡ filled None to limit found
     ((key, v) ∷ [])
-own-pushed to limit found next key v x o pushed read is wanted =
-    pushed ∙ ap (λ (y : List ℕ). found ++ (key, y) ∷ []) (same_Some x v (sym read ∙ is))
+own-pushed to limit found next key v p o pushed read is wanted =
+    pushed ∙ ap (λ (x : Pair). found ++ x ∷ []) (same_Some p (key, v) (sym read ∙ is))
     ∙ own-wanted to limit found key v wanted

@@ -5,7 +5,7 @@ use Rattle.mst_key.specs.Map.{Pair, IsAscending, below}
 use Rattle.mst_key.proofs.Splits.{IsAscending-front, IsAscending-back, IsAscending-above}
 use Rattle.mst_node.specs.Tree.{pairs, entries_pairs, IsMstEntries}
 use Rattle.mst_arena.specs.Content.{Content, part_at}
-use Rattle.mst_arena.specs.Row.{entry_links, entry_value}
+use Rattle.mst_arena.specs.Row.{entry_links, entry_pair, entry_value}
 use Rattle.mst_arena.specs.declared.row.EntryLinks.{EntryLinks}
 use Rattle.mst_arena.specs.declared.row.HeadLinks.{HeadLinks}
 use Rattle.mst_arena.specs.Standing.{Placed, none, head, Chain, end, cell, tree_of, entries_of, count_of}
@@ -28,6 +28,11 @@ pub cell_value : {format : Format} {content : Content} {tail row done all : ℕ}
     {P : Chain → Type 0} (a : AtCell format content tail row done all e P)
     → part_at entry_value content row ≡ Some a.value
 cell_value a = ap (option_and_then entry_value) a.here
+
+pub cell_pair : {format : Format} {content : Content} {tail row done all : ℕ} {e : EntryLinks}
+    {P : Chain → Type 0} (a : AtCell format content tail row done all e P)
+    → part_at entry_pair content row ≡ Some (e.key, a.value)
+cell_pair a = ap (option_and_then entry_pair) a.here
 
 -- some part of a node stands in the rows after these links
 abbrev pub SomePart : Content → HeadLinks → Type 0

@@ -1,4 +1,5 @@
 pub mod Still
+pub mod Stops
 pub mod Walk
 pub mod Ways
 pub mod Descend

@@ -9,129 +9,20 @@ use Rattle.mst_key.proofs.KeyOrder.{same_from_equal, less_from_greater}
 use Rattle.mst_key.proofs.Splits.{IsAscending-front, IsAscending-back, IsAscending-below}
 use Rattle.mst_node.specs.Tree.{pairs, entries_pairs, IsMst, IsMstEntries, IsUnder}
 use Rattle.mst_node.specs.Trail.{by_order}
-use Rattle.mst_arena.specs.Content.{Content, part_at}
-use Rattle.mst_arena.specs.Ways.{entry_way, way_at}
-use Rattle.mst_arena.specs.declared.row.EntryLinks.{EntryLinks}
+use Rattle.mst_arena.specs.Content.{Content}
 use Rattle.mst_arena.specs.declared.row.HeadLinks.{HeadLinks}
-use Rattle.mst_arena.specs.declared.sought.Way.{Way}
-use Rattle.mst_arena.specs.declared.sought.Way.TheVariants.{Child, Here, Next}
-use Rattle.mst_arena.specs.Standing.{Placed, none, Chain, end, cell, tree_of, entries_of, link_of, first_of, tail_of, count_of, rows_of, chain_rows, HasRows}
+use Rattle.mst_arena.specs.Standing.{Placed, none, Chain, end, cell, tree_of, entries_of, link_of, rows_of, chain_rows, HasRows}
 use Rattle.mst_arena.proofs.Stands.{all-front, all-back}
-use Rattle.mst_arena.proofs.WayLemmas.{way_is, to_child, is_here, to_next}
 use Rattle.mst_read.specs.Search.{Lies, LiesBehind, TreeLies, ChainLies, head_of, chain_links, gap_placed}
 use Rattle.mst_read.specs.Span.{HeadStands, PartStands, filled, past_gap, rest_from}
-use Rattle.mst_read.proofs.Still.{lies_still, stands_still, part_still, read_before}
+use Rattle.mst_read.proofs.Still.{lies_still, stands_still, part_still}
 use Rattle.mst_read.proofs.Descend.{Reached, inside, falls, depth, depth_is}
-use Rattle.mst_read.proofs.Walk.{Onward, AtCell, at_cell, at_end, further, entry_left}
 use Rattle.mst_read.proofs.Fillings.{from_less, from_same, not_from_more, all_from, none_from, filled-append, filled-nothing, filled-unbound, outside-from}
-
--- ---- the search for the cut
-
--- the rest of a chain is cut at the place where the whole is
-pub record Cuts (k : List ℕ) (whole rest : Chain) : Type 0 where
-  pub gap : gap_placed k rest ≡ gap_placed k whole
-  pub part : rest_from k rest ≡ rest_from k whole
-
--- a link of a row that is left is one
-link_left : {format : Format} {content : Content} {tail next done all : ℕ} {P : Chain → Type 0}
-    (o : Onward format content tail next done all P) → done < all → 0 < next
-link_left {next = next} {done} {all} o lt = go o.rest o.first_is o.left
-  where
-    go : (c : Chain) → first_of c ≡ next → count_of c + done ≡ all → 0 < next
-    go (end p) first left = absurd (omega arith)
-    go (cell at p key v c) first left = omega arith
 
 -- the link of the tree in the gap, and the part after it
 abbrev pub CutIs : List ℕ → ℕ → Chain → ℕ × HeadLinks → Type 0
 CutIs k layer whole found =
     found ≡ (link_of (gap_placed k whole), chain_links layer (rest_from k whole))
-
--- the way from the first entry of the rest was asked for, while the rows are the same
-module _ {format : Format} {content : Content} {tail next done all : ℕ} (k : List ℕ) (layer : ℕ)
-    (whole : Chain) (o : Onward format content tail next done all (Cuts k whole)) (lt : done < all)
-    {after : Content} (same : after ≡ content) {w : Way}
-    (answer : part_at (entry_way k) after (next - 1) ≡ Some w) where
-  abbrev e : EntryLinks
-  e = (entry_left o lt).0
-
-  here : AtCell format content tail (next - 1) done all e (Cuts k whole)
-  here = at_cell o lt refl (entry_left o lt).1
-
-  way : way_at k e.child e.next e.key ≡ w
-  way = way_is content (next - 1) k e w (entry_left o lt).1
-      (read_before same (entry_way k) (next - 1) answer)
-
-  abbrev from_here : Chain
-  from_here = cell (next - 1) here.child e.key here.value here.rest
-
-  links_here : {part : HeadLinks} → part ≡ record {
-    layer = layer;
-    count = all - done;
-    first =
-        next;
-    tail = tail;
-  } → part ≡ chain_links layer from_here
-  links_here is =
-      let first : next ≡ (next - 1) + 1 = omega (arith, link_left o lt) in
-      let count : all - done ≡ count_of here.rest + 1 = omega (arith, here.left) in
-      let last : tail ≡ tail_of here.rest = sym here.tail_is in
-      is ∙ (λ i. record { layer = layer; count = count i; first = first i; tail = last i })
-
-  pub cut_before : {link : ℕ} {part : HeadLinks} → w ≡ Child link
-      → part ≡ record { layer = layer; count = all - done; first = next; tail = tail }
-      → CutIs k layer whole (link, part)
-  cut_before {link} {part} is links =
-      let less = to_child k e link (way ∙ is) in
-      let compared : key_cmp k e.key ≡ Less = less.0 in
-      let gap : here.child ≡ gap_placed k whole = rw compared at here.holds.gap in
-      let rest : from_here ≡ rest_from k whole = rw compared at here.holds.part in
-      let one : link ≡ link_of (gap_placed k whole) = sym (here.child_is ∙ less.1) ∙ ap link_of gap
-      in
-      let two : part ≡ chain_links layer (rest_from k whole) =
-      links_here links ∙ ap (chain_links layer) rest in
-      λ i. (one i, two i)
-
-  pub cut_here : {part : HeadLinks} → w ≡ Here
-      → part ≡ record { layer = layer; count = all - done; first = next; tail = tail }
-      → CutIs k layer whole (0, part)
-  cut_here {part} is links =
-      let compared : key_cmp k e.key ≡ Equal = is_here k e (way ∙ is) in
-      let gap : none ≡ gap_placed k whole = rw compared at here.holds.gap in
-      let rest : from_here ≡ rest_from k whole = rw compared at here.holds.part in
-      let one : 0 ≡ link_of (gap_placed k whole) = ap link_of gap in
-      let two : part ≡ chain_links layer (rest_from k whole) =
-      links_here links ∙ ap (chain_links layer) rest in
-      λ i. (one i, two i)
-
-  pub cut_past : {link : ℕ} → w ≡ Next link → Onward format content tail link (done + 1) all
-      (Cuts k whole)
-  cut_past {link} is =
-      let more = to_next k e link (way ∙ is) in
-      let compared : key_cmp k e.key ≡ Greater = more.0 in
-      let rest : Cuts k whole here.rest =
-      record { gap = rw compared at here.holds.gap; part = rw compared at here.holds.part } in
-      subst (λ (n : ℕ). Onward format content tail n (done + 1) all (Cuts k whole)) more.1
-      (further here (Cuts k whole) rest)
-
--- no entry is left
-pub cut_last : {format : Format} {content : Content} {tail next done all : ℕ} (k : List ℕ)
-    (layer : ℕ) (whole : Chain) (o : Onward format content tail next done all (Cuts k whole))
-    → all ≡ done → {part : HeadLinks} → part ≡ record {
-      layer = layer;
-      count = 0;
-      first = 0;
-      tail =
-          tail;
-    } → CutIs k layer whole (tail, part)
-cut_last {tail = tail} k layer whole o over {part} links =
-    let a = at_end o over in
-    let one : tail ≡ link_of (gap_placed k whole) = sym a.child_is ∙ ap link_of a.holds.gap in
-    let last : tail ≡ link_of a.child = sym a.child_is in
-    let empty : part ≡ chain_links layer (end a.child) =
-    links ∙ (λ i. record { layer = layer; count = 0; first = 0; tail = last i }) in
-    let two : part ≡ chain_links layer (rest_from k whole) =
-    empty ∙ ap (chain_links layer) a.holds.part in
-    λ i. (one i, two i)
 
 -- ---- what the cut says of the pairs
 

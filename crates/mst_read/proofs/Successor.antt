@@ -10,7 +10,7 @@ use Rattle.mst_key.proofs.KeyOrder.{by_order, less_chain, greater_from_less}
 use Rattle.mst_key.proofs.Splits.{IsAscending-front, IsAscending-back, IsAscending-below}
 use Rattle.mst_node.specs.Tree.{pairs, entries_pairs, IsMstEntries}
 use Rattle.mst_arena.specs.Content.{Content, part_at}
-use Rattle.mst_arena.specs.Row.{entry_links, entry_value}
+use Rattle.mst_arena.specs.Row.{entry_links, entry_pair}
 use Rattle.mst_arena.specs.declared.row.EntryLinks.{EntryLinks}
 use Rattle.mst_arena.specs.declared.row.HeadLinks.{HeadLinks}
 use Rattle.mst_arena.specs.declared.row.Row.{Row}
@@ -55,11 +55,7 @@ met bound front back key v is =
     ∙ ap (λ (o : Option Pair). option_or (map_next front bound) o)
     (cond-true (above bound key) (Some (key, v)) (map_next back bound) is))
 
--- the pair of an entry
-abbrev pub entry_pair : Row → Option Pair
-entry_pair (Entry child next key value) = Some (key, value)
-entry_pair (Head layer count first tail digest) = None
-
+-- the pair of the entry at a row, if one is given
 abbrev pub pair_at : Content → Option ℕ → Option Pair
 pair_at content None = None
 pair_at content (Some row) = part_at entry_pair content row
@@ -68,25 +64,12 @@ abbrev pub HasPair : Content → Option ℕ → Type 0
 HasPair content None = Unit {0}
 HasPair content (Some row) = IsSome (part_at entry_pair content row)
 
--- its key and its value are there to be read, and when they are it is of these two
-pub pair_parts : (o : Option Row) → IsSome (option_and_then entry_pair o)
-    → IsSome (option_and_then entry_links o) × IsSome (option_and_then entry_value o)
-pair_parts None is = absurd (false≢true is)
-pair_parts (Some (Head layer count first tail digest)) is = absurd (false≢true is)
-pair_parts (Some (Entry child next key value)) is = (refl, refl)
-
-pub pair_read : (o : Option Row) (e : EntryLinks) (v : List ℕ) → option_and_then entry_links o
-    ≡ Some e → option_and_then entry_value o ≡ Some v → option_and_then entry_pair o ≡ Some
-    (e.key, v)
-pair_read None e v links is = absurd (let no : None ≡ Some e = links in cc)
-pair_read (Some (Head layer count first tail digest)) e v links is =
-    absurd (let no : None ≡ Some e = links in cc)
-pair_read (Some (Entry child next key value)) e v links is =
-    let some : Some (record { child = child; next = next; key = key }) ≡ Some e = links in
-    let fields : record { child = child; next = next; key = key } ≡ e = cc in
-    let read : Some value ≡ Some v = is in
-    let same : value ≡ v = cc in
-    ap (λ (x : EntryLinks). Some (x.key, value)) fields ∙ ap (λ (x : List ℕ). Some (e.key, x)) same
+-- its links are there too
+pub pair_there : (o : Option Row) → IsSome (option_and_then entry_pair o)
+    → IsSome (option_and_then entry_links o)
+pair_there None is = absurd (false≢true is)
+pair_there (Some (Head layer count first tail digest)) is = absurd (false≢true is)
+pair_there (Some (Entry child next key value)) is = refl
 
 -- the least key above the bound is in the tree under the search; otherwise it is that of the entry
 -- to the right

@@ -1,8 +1,7 @@
--- Where a search goes on from an entry of a node, and that for the first key above a bound.
-use Rattle.std.proofs.Common.{◌≡◌, ◌+◌, ◌-◌, ◌<◌, ℕ, true, false, List, Option, Some, None, IsSome, refl, ◌∙◌, sym, ap, subst, arith, is_gt, is_lt}
-use Rattle.std.specs.declared.cmp.Ordering.TheVariants.{Less, Equal, Greater}
+-- Whether the key of an entry is below a bound, and the first key above one.
+use Rattle.std.proofs.Common.{◌≡◌, ◌-◌, ◌<◌, ℕ, true, false, List, Option, Some, None, IsSome, refl, ◌∙◌, sym, ap, subst, arith, is_lt}
 use Rattle.mst_key.specs.declared.format.Format.{Format}
-use Rattle.mst_key.specs.Map.{key_cmp, above, below}
+use Rattle.mst_key.specs.Map.{above, below}
 use Rattle.mst_arena.specs.Content.{Content, part_at}
 use Rattle.mst_arena.specs.Row.{entry_links}
 use Rattle.mst_arena.specs.Ways.{entry_way, way_at}
@@ -13,103 +12,12 @@ use Rattle.mst_arena.specs.Standing.{Chain}
 use Rattle.mst_arena.specs.declared.row.HeadLinks.{HeadLinks}
 use Rattle.mst_key.proofs.KeyOrder.{same_from_equal, equal_from_same, less_from_greater, greater_from_less}
 use Rattle.mst_arena.proofs.WayLemmas.{way_is, to_child, is_here, to_next}
-use Rattle.mst_read.specs.Search.{LiesBehind, place, entry_above}
-use Rattle.mst_read.specs.declared.lookup.Place.TheVariants.{Held, Gap}
-use Rattle.mst_read.proofs.Still.{read_before}
-use Rattle.mst_read.proofs.Walk.{Onward, AtCell, at_cell, further, entry_left}
-
--- the search in the rest of a chain ends at the place where the search in the whole ends
-abbrev pub ComesTo : List ℕ → Chain → Chain → Type 0
-ComesTo k whole rest = place k rest ≡ place k whole
-
--- the way from the first entry of the rest was asked for, while the rows are the same
-module _ {format : Format} {content : Content} {tail next done all : ℕ} (k : List ℕ) (whole : Chain)
-    (o : Onward format content tail next done all (ComesTo k whole)) (lt : done < all)
-    {after : Content} (same : after ≡ content) {w : Way}
-    (answer : part_at (entry_way k) after (next - 1) ≡ Some w) where
-  abbrev e : EntryLinks
-  e = (entry_left o lt).0
-
-  here : AtCell format content tail (next - 1) done all e (ComesTo k whole)
-  here = at_cell o lt refl (entry_left o lt).1
-
-  way : way_at k e.child e.next e.key ≡ w
-  way = way_is content (next - 1) k e w (entry_left o lt).1
-      (read_before same (entry_way k) (next - 1) answer)
-
-  pub into_gap : {link : ℕ} → w ≡ Child link → Gap link ≡ place k whole
-  into_gap {link} is =
-      let less = to_child k e link (way ∙ is) in
-      let compared : key_cmp k e.key ≡ Less = less.0 in
-      ap Gap (sym (here.child_is ∙ less.1)) ∙ rw compared at here.holds
-
-  pub at_entry : w ≡ Here → Held (next - 1) ≡ place k whole
-  at_entry is =
-      let compared : key_cmp k e.key ≡ Equal = is_here k e (way ∙ is) in
-      rw compared at here.holds
-
-  pub past_entry : {link : ℕ} → w ≡ Next link → Onward format content tail link (done + 1) all
-      (ComesTo k whole)
-  past_entry {link} is =
-      let more = to_next k e link (way ∙ is) in
-      let compared : key_cmp k e.key ≡ Greater = more.0 in
-      subst (λ (n : ℕ). Onward format content tail n (done + 1) all (ComesTo k whole)) more.1
-      (further here (ComesTo k whole) (rw compared at here.holds))
+use Rattle.mst_read.specs.Search.{LiesBehind, entry_above}
+use Rattle.mst_read.proofs.Walk.{Onward, at_cell, entry_left}
 
 -- the first entry of the rest of a chain whose key is above the bound is the first of the whole
 abbrev pub BeginsAbove : Option (List ℕ) → Chain → Chain → Type 0
 BeginsAbove bound whole rest = entry_above bound rest ≡ entry_above bound whole
-
--- the way from the first entry of the rest was asked for, while the rows are the same
-module _ {format : Format} {content : Content} {tail next done all : ℕ} (k : List ℕ) (whole : Chain)
-    (o : Onward format content tail next done all (BeginsAbove (Some k) whole)) (lt : done < all)
-    {after : Content} (same : after ≡ content) {w : Way}
-    (answer : part_at (entry_way k) after (next - 1) ≡ Some w) where
-  met : {e : EntryLinks} → part_at entry_links content (next - 1) ≡ Some e → AtCell format content
-      tail (next - 1) done all e (BeginsAbove (Some k) whole)
-  met read = at_cell o lt refl read
-
-  met_way : {e : EntryLinks} → part_at entry_links content (next - 1) ≡ Some e
-      → way_at k e.child e.next e.key ≡ w
-  met_way {e} read =
-      way_is content (next - 1) k e w read (read_before same (entry_way k) (next - 1) answer)
-
-  past : {e : EntryLinks} → part_at entry_links content (next - 1) ≡ Some e → above (Some k) e.key
-      ≡ false → Onward format content tail e.next (done + 1) all (BeginsAbove (Some k) whole)
-  past read low = further (met read) (BeginsAbove (Some k) whole) (rw low at (met read).holds)
-
-  first_left : (e : EntryLinks) × (part_at entry_links content (next - 1) ≡ Some e)
-  first_left = entry_left o lt
-
-  pub at_first : {child : ℕ} → w ≡ Child child → Some (next - 1, child) ≡ entry_above (Some k) whole
-  at_first {child} is =
-      let read = first_left.1 in
-      let less = to_child k first_left.0 child (met_way read ∙ is) in
-      let high : above (Some k) first_left.0.key ≡ true =
-      ap is_gt (greater_from_less k first_left.0.key less.0) in
-      ap (λ (link : ℕ). Some (next - 1, link)) (sym ((met read).child_is ∙ less.1))
-      ∙ rw high at (met read).holds
-
-  pub past_lesser : {link : ℕ} → w ≡ Next link → Onward format content tail link (done + 1) all
-      (BeginsAbove (Some k) whole)
-  past_lesser {link} is =
-      let read = first_left.1 in
-      let more = to_next k first_left.0 link (met_way read ∙ is) in
-      let low : above (Some k) first_left.0.key ≡ false =
-      ap is_gt (less_from_greater k first_left.0.key more.0) in
-      subst (λ (n : ℕ). Onward format content tail n (done + 1) all (BeginsAbove (Some k) whole))
-      more.1 (past read low)
-
-  -- the entry has the key, and was then read
-  pub past_same : {later : Content} {e : EntryLinks} → w ≡ Here → later ≡ content
-      → part_at entry_links later (next - 1) ≡ Some e → Onward format content tail e.next (done + 1)
-      all (BeginsAbove (Some k) whole)
-  past_same {e = e} is still read =
-      let there = read_before still entry_links (next - 1) read in
-      let equal : key_cmp k e.key ≡ Equal = is_here k e (met_way there ∙ is) in
-      let low : above (Some k) e.key ≡ false =
-      ap is_gt (equal_from_same e.key k (sym (same_from_equal k e.key equal))) in
-      past there low
 
 -- whether the key of an entry is below a bound, by the way to the bound from the entry
 module _ (content : Content) (row : ℕ) (k : List ℕ) {e : EntryLinks} {w : Way}

@@ -6,6 +6,9 @@ use mst_node::TextSink;
 use std::alloc::Allocator;
 use std::marker::Model;
 
+/// The least room that a text asks for, so that most texts lie in that of the first.
+const LEAST_ROOM: usize = 2_048;
+
 /// The text of one node after another, each in the room of those before. A refused growth ends it,
 /// and `bytes` then returns `Memory`.
 #[derive(Drop)]
@@ -34,12 +37,12 @@ impl<A: Allocator> NodeBuffer<A> {
         }
     }
 
-    /// Begins another text, and asks for room for so many bytes.
+    /// Begins another text, and asks for room for so many bytes, or for more.
     pub fn begin(&mut self, room: usize)
         ensures empty { IfSome self.new (λ bytes. bytes ≡ []) }
     {
         self.bytes.clear();
-        match self.bytes.reserve(room) {
+        match self.bytes.reserve(room.max(LEAST_ROOM)) {
             Ok(()) => {}
             Err(refused) => self.refused = Some(Memory::from(refused)),
         }

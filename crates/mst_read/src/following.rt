@@ -8,7 +8,7 @@ ghost use Rattle.mst_arena.specs.Standing.{Chain, Stands};
 ghost use Rattle.mst_read.specs.Search.{ChainLies, LiesBehind, LinkStands, MapStands, StandsBelow, entry_above};
 
 use crate::descent::head_at;
-use mst_arena::{HeadLinks, Root, Rows, Sought, Way};
+use mst_arena::{HeadLinks, Root, Rows, Sought, Stop};
 use mst_key::{Key, Value};
 
 /// The bound to be sought.
@@ -29,13 +29,16 @@ fn first_above<R: Rows>(rows: &mut R, head: &HeadLinks, bound: &Sought) -> Optio
         → result ≡ entry_above (Some bound.now) c }
     ensures same { rows.new ≡ rows.old }
 {
-    let mut link = head.first;
-    for _ in 0..head.count {
-        let row = link - 1;
-        match rows.way(row, bound) {
-            Way::Child(child) => return Some((row, child)),
-            Way::Here => link = rows.entry(row).next,
-            Way::Next(next) => link = next,
+    let mut first = head.first;
+    let mut count = head.count;
+    while count > 0 {
+        match rows.search(first, count, bound) {
+            Stop::Gap { link, child, .. } => return Some((link - 1, child)),
+            Stop::Held { link, left } => {
+                first = rows.links(link - 1).next;
+                count = left - 1;
+            }
+            Stop::End => return None,
         }
     }
     None
@@ -57,7 +60,7 @@ fn first_entry<R: Rows>(
         Some(bound) => first_above(rows, head, bound),
         None => {
             let row = head.first - 1;
-            Some((row, rows.entry(row).child))
+            Some((row, rows.links(row).child))
         }
     }
 }
@@ -88,8 +91,7 @@ pub fn next_below<R: Rows>(rows: &mut R, link: u32, after: Option<&Key>) -> Opti
         }
     }
     let row = right?;
-    let entry = rows.entry(row);
-    Some((entry.key, rows.value(row)))
+    Some(rows.pair(row))
 }
 
 /// The pair of the least key above the bound, in the map that stands at the root, as [`next_below`]

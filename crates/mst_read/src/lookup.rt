@@ -6,7 +6,7 @@ ghost use Rattle.mst_arena.specs.Standing.{Chain, Stands};
 ghost use Rattle.mst_read.specs.Search.{ChainLies, LiesBehind, LinkStands, MapStands, StandsBelow, place};
 
 use crate::descent::head_at;
-use mst_arena::{HeadLinks, Root, Rows, Sought, Way};
+use mst_arena::{HeadLinks, Root, Rows, Sought, Stop};
 use mst_key::{Key, Value};
 
 /// Where a search in a node ends.
@@ -25,16 +25,11 @@ pub fn seek<R: Rows>(rows: &mut R, head: &HeadLinks, key: &Sought) -> Place
         → result ≡ place key.now c }
     ensures same { rows.new ≡ rows.old }
 {
-    let mut link = head.first;
-    for _ in 0..head.count {
-        let row = link - 1;
-        match rows.way(row, key) {
-            Way::Child(link) => return Place::Gap(link),
-            Way::Here => return Place::Held(row),
-            Way::Next(next) => link = next,
-        }
+    match rows.search(head.first, head.count, key) {
+        Stop::Gap { child, .. } => Place::Gap(child),
+        Stop::Held { link, .. } => Place::Held(link - 1),
+        Stop::End => Place::Gap(head.tail),
     }
-    Place::Gap(head.tail)
 }
 
 /// The value of the key in the map that stands at the link, or `None` if the map does not have the

@@ -19,8 +19,8 @@ use mst_key::{Format, Key, Memory, Value};
 use mst_node::{TextSink, format_byte, take_entry};
 use std::alloc::Allocator;
 
-/// How many bytes a proof asks room for at first.
-const FIRST_ROOM: usize = 2_048;
+/// How many bytes a proof asks room for at first. Those of a map of some thousand pairs have fewer.
+const FIRST_ROOM: usize = 8_192;
 
 /// The digest of the tree at the link, as it stands in the text of the node above; `None` for the
 /// empty tree.
@@ -58,11 +58,11 @@ fn write_node<R: Rows, A: Allocator>(
     let mut link = head.first;
     for _ in 0..head.count {
         let row = link - 1;
-        let entry = rows.entry(row);
-        let value = rows.value(row);
-        let child = digest_at(rows, entry.child);
-        take_entry(out, format, child, entry.key.bytes(), value.bytes());
-        link = entry.next;
+        let links = rows.links(row);
+        let child = digest_at(rows, links.child);
+        let (key, value) = rows.pair(row);
+        take_entry(out, format, child, key.bytes(), value.bytes());
+        link = links.next;
     }
     out.child(digest_at(rows, head.tail));
 }

@@ -13,7 +13,7 @@ ghost use Rattle.mst_read.specs.Span.{HeadStands, PartStands, filled, past_gap, 
 
 use crate::descent::head_at;
 use crate::following::sought;
-use mst_arena::{HeadLinks, Root, Rows, Sought, Way};
+use mst_arena::{HeadLinks, Root, Rows, Sought, Stop, Way};
 use mst_key::{Key, Memory, Value};
 use std::alloc::Allocator;
 
@@ -50,16 +50,11 @@ fn part_from<R: Rows>(rows: &mut R, head: &HeadLinks, from: &Sought) -> (u32, He
         ) }
     ensures same { rows.new ≡ rows.old }
 {
-    let mut link = head.first;
-    for passed in 0..head.count {
-        let row = link - 1;
-        match rows.way(row, from) {
-            Way::Child(child) => return (child, part_of(head, link, head.count - passed)),
-            Way::Here => return (0, part_of(head, link, head.count - passed)),
-            Way::Next(next) => link = next,
-        }
+    match rows.search(head.first, head.count, from) {
+        Stop::Gap { link, child, left } => (child, part_of(head, link, left)),
+        Stop::Held { link, left } => (0, part_of(head, link, left)),
+        Stop::End => (head.tail, part_of(head, 0, 0)),
     }
-    (head.tail, part_of(head, 0, 0))
 }
 
 /// The part of a node of so many entries from the link on.
@@ -140,16 +135,16 @@ fn gather_part<R: Rows, A: Allocator>(
     let mut link = part.first;
     for _ in 0..part.count {
         let row = link - 1;
-        let entry = rows.entry(row);
-        if let Some(gap) = head_at(rows, entry.child) {
+        let links = rows.links(row);
+        if let Some(gap) = head_at(rows, links.child) {
             gather_part(rows, &gap, to, limit, found)?;
         }
-        link = entry.next;
+        link = links.next;
         if !is_wanted(rows, row, to, limit, found) {
             return Ok(());
         }
         make_room(found, limit)?;
-        found.push_reserved((entry.key, rows.value(row)));
+        found.push_reserved(rows.pair(row));
         if found.len() >= limit {
             return Ok(());
         }
@@ -182,13 +177,13 @@ fn gather_behind<R: Rows, A: Allocator>(
         return Ok(());
     }
     let row = part.first - 1;
-    let entry = rows.entry(row);
-    let rest = part_of(part, entry.next, part.count - 1);
+    let links = rows.links(row);
+    let rest = part_of(part, links.next, part.count - 1);
     if !is_wanted(rows, row, to, limit, found) {
         return Ok(());
     }
     make_room(found, limit)?;
-    found.push_reserved((entry.key, rows.value(row)));
+    found.push_reserved(rows.pair(row));
     if found.len() >= limit {
         return Ok(());
     }

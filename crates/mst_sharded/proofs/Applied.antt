@@ -4,8 +4,8 @@ use Rattle.mst_key.specs.declared.format.Format.{Format}
 use Rattle.mst_key.specs.declared.history.Edit.{Edit}
 use Rattle.mst_key.specs.History.{key_of}
 use Rattle.mst_store.specs.Passes.{Known}
-use Rattle.mst_store.specs.Applying.{RefusesBatch}
-use Rattle.mst_store.specs.Migrating.{RefusesMigration}
+use Rattle.mst_versions.specs.Applying.{RefusesBatch}
+use Rattle.mst_versions.specs.Migrating.{RefusesMigration}
 use Rattle.mst_versions.specs.declared.faults.ApplyFault.{ApplyFault}
 use Rattle.mst_versions.specs.declared.faults.MigrateFault.{MigrateFault}
 use Rattle.mst_sharded.specs.Sharding.{sharding, place, AllStep, SeesMore}

@@ -6,8 +6,8 @@ use Rattle.mst_key.specs.declared.memory.Memory.{Memory as Refused}
 use Rattle.mst_key.specs.History.{after, batched}
 use Rattle.mst_versions.specs.declared.faults.ApplyFault.TheVariants as apply
 use Rattle.mst_versions.specs.declared.faults.MigrateFault.TheVariants as move
-use Rattle.mst_store.specs.Applying.{RefusesBatch}
-use Rattle.mst_store.specs.Migrating.{RefusesMigration}
+use Rattle.mst_versions.specs.Applying.{RefusesBatch}
+use Rattle.mst_versions.specs.Migrating.{RefusesMigration}
 use Rattle.mst_store.specs.Passes.{Known, having_asked}
 use Rattle.mst_sharded.specs.Listing.{IsOnly}
 use Rattle.mst_sharded.specs.Entries.{Stays, HasRowsBeside}

@@ -5,11 +5,11 @@ use Rattle.std.specs.Prelude.{slice_index_or}
 use Rattle.std.proofs.lemmas.List.{length-map, get_or-map, map-set, set-get_or}
 use Rattle.std.proofs.lemmas.Bool.{cases_order}
 use Rattle.mst_key.specs.declared.history.Change.{Change}
-use Rattle.mst_store.specs.Migrating.{RefusesMigration}
+use Rattle.mst_versions.specs.Migrating.{RefusesMigration}
 use Rattle.mst_versions.specs.declared.faults.MigrateFault.{MigrateFault}
 use Rattle.mst_versions.specs.declared.faults.MigrateFault.TheVariants as migrate
 use Rattle.mst_key.specs.declared.history.Edit.{Edit}
-use Rattle.mst_store.specs.Applying.{RefusesBatch}
+use Rattle.mst_versions.specs.Applying.{RefusesBatch}
 use Rattle.mst_versions.specs.declared.faults.ApplyFault.{ApplyFault}
 use Rattle.mst_versions.specs.declared.faults.ApplyFault.TheVariants as apply
 use Rattle.mst_sharded.specs.declared.faults.StoppedMigration.{StoppedMigration}

@@ -8,8 +8,8 @@ use Rattle.mst_key.specs.declared.history.Event.{Event}
 use Rattle.mst_key.specs.declared.format.Format.{Format}
 use Rattle.mst_key.specs.History.{History, Reply, IsPrefix}
 use Rattle.mst_store.specs.Passes.{Known, Wrote, having_missed}
-use Rattle.mst_store.specs.Applying.{RefusesBatch}
-use Rattle.mst_store.specs.Migrating.{RefusesMigration}
+use Rattle.mst_versions.specs.Applying.{RefusesBatch}
+use Rattle.mst_versions.specs.Migrating.{RefusesMigration}
 use Rattle.mst_versions.specs.declared.faults.ApplyFault.{ApplyFault}
 use Rattle.mst_versions.specs.declared.faults.ApplyFault.TheVariants as apply
 use Rattle.mst_versions.specs.declared.faults.MigrateFault.{MigrateFault}

@@ -6,8 +6,8 @@ use Rattle.mst_key.specs.declared.history.Edit.{Edit}
 use Rattle.mst_key.specs.History.{History, IsPrefix, after, key_of, value_after, done, was}
 use Rattle.mst_key.specs.Map.{map_get}
 use Rattle.mst_store.specs.Passes.{Known, Wrote, made_by}
-use Rattle.mst_store.specs.Applying.{RefusesBatch}
-use Rattle.mst_store.specs.Migrating.{RefusesMigration}
+use Rattle.mst_versions.specs.Applying.{RefusesBatch}
+use Rattle.mst_versions.specs.Migrating.{RefusesMigration}
 use Rattle.mst_versions.specs.declared.faults.ApplyFault.{ApplyFault}
 use Rattle.mst_versions.specs.declared.faults.MigrateFault.{MigrateFault}
 use Rattle.mst_sharded.specs.Sharding.{Sharding, place}

@@ -1,8 +1,8 @@
 //! A batch of edits of a sharded map, and its migration: one shard after the other.
 ghost use Rattle.std.specs.Prelude.{◌≡◌, ◌==◌, ◌<◌, ◌≤◌, ◌+◌, ◌++◌, nat_le, if◌then◌else◌, [], ◌∷◌, map, length, vec_len, vec_capacity, IfOk, IfErr, OnOk, OnErr};
 ghost use Rattle.mst_key.specs.History.{key_of};
-ghost use Rattle.mst_store.specs.Applying.{RefusesBatch};
-ghost use Rattle.mst_store.specs.Migrating.{RefusesMigration};
+ghost use Rattle.mst_versions.specs.Applying.{RefusesBatch};
+ghost use Rattle.mst_versions.specs.Migrating.{RefusesMigration};
 ghost use Rattle.mst_sharded_proof.specs.Shards.{least, AreSplits};
 ghost use Rattle.mst_sharded.specs.Sharding.{sharding, AllStep, SeesMore, place as place_in};
 ghost use Rattle.mst_sharded.specs.Applying.{edits_behind, picked, AppliesPart, Migrates, StepsFrom, StopsAt, AppliesAll, RefusesEdits, MigratesAll, StopsMigrating};

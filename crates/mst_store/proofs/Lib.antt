@@ -1,4 +1,5 @@
 mod FewPairs
+mod FromSeats
 mod Lawful
 pub mod Courier
 pub mod AllPasses

@@ -1,5 +1,3 @@
 pub mod Passes
 pub mod Settling
 pub mod Waiting
-pub mod Migrating
-pub mod Applying

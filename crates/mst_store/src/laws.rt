@@ -8,7 +8,7 @@ ghost use Rattle.mst_key.specs.declared.history.Edit.{Edit};
 ghost use Rattle.mst_key.specs.History.{History, Reply, events_of, IsPrefix};
 ghost use Rattle.mst_key.specs.Map.{Pair};
 ghost use Rattle.mst_words.specs.Notes.{IsOfPasses};
-ghost use Rattle.mst_store.specs.Applying.{RefusesBatch};
+ghost use Rattle.mst_versions.specs.Applying.{RefusesBatch};
 ghost use Rattle.mst_versions.specs.declared.faults.ApplyFault.{ApplyFault};
 ghost use Rattle.mst_versions.specs.declared.faults.ApplyFault.TheVariants.{Busy, VersionsSpent, NoRoom};
 ghost use Rattle.mst_versions.specs.declared.faults.WriteFault.TheVariants as write;

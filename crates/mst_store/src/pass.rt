@@ -9,8 +9,8 @@ ghost use Rattle.std.specs.Option.{option_copied};
 ghost use Rattle.mst_store.specs.Passes.{Looks, Answers, format_seen, having_asked, made_by, AreFree, Wrote, FindsBusy, Refuses};
 ghost use Rattle.mst_key.specs.History.{after, had, was, done, IsMigration, IsBatch};
 ghost use Rattle.mst_versions.specs.Writes.{rows_of, AreFound};
-ghost use Rattle.mst_store.specs.Migrating.{RefusesMigration};
-ghost use Rattle.mst_store.specs.Applying.{RefusesBatch};
+ghost use Rattle.mst_versions.specs.Migrating.{RefusesMigration};
+ghost use Rattle.mst_versions.specs.Applying.{RefusesBatch};
 
 use mst_key::{Change, Edit, Event, Format, Key, Memory, Value};
 use mst_versions::{

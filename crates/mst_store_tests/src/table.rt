@@ -119,14 +119,14 @@ fn opens_in<R: Abort + AllocGlobal>(rt: &R, bytes: usize) -> bool {
 fn each_growth_of_open_is_refused_in_turn(rt: HostRuntime) {
     // The words alone take more than two kilobytes, so growths beyond the first are refused too.
     let mut refused = 0u32;
-    for step in 1..512usize {
+    for step in 1..1024usize {
         if !opens_in(&rt, step * 16) {
             // once opened, a larger heap serves too
             confirm_at(&rt, refused as usize == step - 1, step);
             refused = step as u32;
         }
     }
-    confirm_at(&rt, 152 <= refused && refused < 511, refused as usize);
+    confirm_at(&rt, 152 <= refused && refused < 1023, refused as usize);
 }
 
 #[test]

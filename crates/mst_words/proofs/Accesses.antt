@@ -1,5 +1,5 @@
 -- What a pass may read and write of the rows, as the steps ask for it.
-use Rattle.std.proofs.Common.{◌≡◌, ℕ, zero, suc, ◌+◌, ◌*◌, ◌<◌, ◌≤◌, ◌≢◌, ◌⊎◌, inl, inr, Bool, true, false, not, ◌&&◌, ◌||◌, eqb, is_some, is_none, nat_lt, Option, Some, None, IsSome, IfSome, List, [], length, map, take, set, get_or, replicate, subst, refl, sym, ap, ◌∙◌, arith, ⊎_elim, if◌then◌else◌, length-set, get_or-set_same, get_or-set_other}
+use Rattle.std.proofs.Common.{◌≡◌, ℕ, zero, suc, ◌+◌, ◌*◌, ◌<◌, ◌≤◌, ◌≢◌, ◌⊎◌, inl, inr, Bool, true, false, not, ◌&&◌, ◌||◌, eqb, is_some, is_none, nat_lt, Option, Some, None, IsSome, IfSome, List, [], length, map, take, set, get_or, subst, refl, sym, ap, ◌∙◌, arith, ⊎_elim, if◌then◌else◌, length-set, get_or-set_same, get_or-set_other}
 use Rattle.std.specs.Prelude.{option_and_then}
 use Rattle.std.specs.List.{list_any, range_with_len}
 use mathlib.Core.Logic.{dite}
@@ -163,51 +163,6 @@ stored_next old now new x n value words s so_far lt room is =
     (sym (ap (λ (z : Me (Option lives.State) View). z.0.known_words) s))
     (stored_more x n words old.0.known_words now.0.known_words so_far lt
     (omega (arith, room, so_far.long)) value is)
-
--- words that are those of another list as far as they were stored
-pub stored_as : (x n : ℕ) (words others old new : List ℕ) → RowStored x n words old new
-    → ((k : ℕ) → k < n → get_or words k 0 ≡ get_or others k 0) → RowStored x n others old new
-stored_as x n words others old new s same = record {
-  long = s.long;
-  so_far = λ k l. s.so_far k l ∙ same k l;
-  others = s.others;
-}
-
--- the words of an entry with another child and another next
-abbrev pub relinked_list : (ℕ → ℕ) → ℕ → ℕ → List ℕ
-relinked_list f child next = set (set (map f (range_with_len 0 16)) 1 child) 2 next
-
-pub front_words : (f : ℕ → ℕ) (kind child next : ℕ) → kind ≡ f 0 → (k : ℕ) → k < 3
-    → get_or (set (set (set (replicate 16 0) 0 kind) 1 child) 2 next) k 0
-    ≡ get_or (relinked_list f child next) k 0
-front_words f kind child next is zero lt = is
-front_words f kind child next is (suc zero) lt = refl
-front_words f kind child next is (suc (suc zero)) lt = refl
-front_words f kind child next is (suc (suc (suc k))) lt = absurd (omega arith)
-
-pub back_words : (f : ℕ → ℕ) (child next k : ℕ) → 3 ≤ k → k < 16
-    → get_or (relinked_list f child next) k 0 ≡ f k
-back_words f child next k ge lt =
-    get_or-set_other (set (map f (range_with_len 0 16)) 1 child) 2 k next 0
-    (λ e. absurd (omega (arith, e, ge)))
-    ∙ get_or-set_other (map f (range_with_len 0 16)) 1 k child 0
-    (λ e. absurd (omega (arith, e, ge)))
-    ∙ get_or-map-range_with_len f 0 16 k k 0 lt (omega arith)
-
--- a word of any row that was not yet reached is as before, also where it is of the same row
-pub not_reached : (x n from : ℕ) (words old new : List ℕ) → RowStored x n words old new
-    → n < row_words → records.row new from n ≡ records.row old from n
-not_reached x n from words old new s lt = s.others (row_word from n) (λ k l e. absurd
-    (omega (arith, l, e)))
-
--- a list that is filled up to one word more
-pub filled_more : (words others : List ℕ) (n value : ℕ) → n < length words
-    → ((k : ℕ) → k < n → get_or words k 0 ≡ get_or others k 0) → value ≡ get_or others n 0
-    → (k : ℕ) → k < n + 1 → get_or (set words n value) k 0 ≡ get_or others k 0
-filled_more words others n value lt so_far is k l = dite (ℕ_discrete k n)
-    (λ same. ap (λ (j : ℕ). get_or (set words n value) j 0) same
-    ∙ get_or-set_same words n value 0 lt ∙ is ∙ ap (λ (j : ℕ). get_or others j 0) (sym same))
-    (λ other. get_or-set_other words n k value 0 other ∙ so_far k (omega (arith, l, other)))
 
 -- the rows are as before but for the one that was written
 pub written : (v : View) (x : ℕ) (value : Row) (words held : List ℕ) → is_blank v x ≡ true

@@ -24,6 +24,7 @@ pub mod Hearing
 pub mod Opens
 pub mod ByDeed
 pub mod Accesses
+pub mod Copied
 pub mod Limits
 pub mod WordWays
 pub mod ShortRows

@@ -1,16 +1,19 @@
 -- The words of an entry behind a key of 16 bytes, and behind a value of 32, are 0.
-use Rattle.std.proofs.Common.{◌≡◌, ℕ, ◌+◌, ◌*◌, ◌/◌, ◌%◌, List, [], ◌∷◌, length, Bool, true, false, Some, None, refl, sym, ◌∙◌, ap, arith, if◌then◌else◌}
-use Rattle.std.specs.Prelude.{slice_index, slice_index_or, option_and_then, IsSome}
+use Rattle.std.proofs.Common.{◌≡◌, ℕ, zero, suc, ◌+◌, ◌*◌, ◌<◌, ◌≤◌, ◌/◌, ◌%◌, List, [], ◌∷◌, length, Bool, true, false, Option, Some, None, map, refl, subst, sym, ◌∙◌, ap, arith, if◌then◌else◌}
+use Rattle.std.specs.Prelude.{slice_index, slice_index_or, slice_range, option_and_then, IsSome}
+use Rattle.std.specs.List.{range_with_len}
 use Rattle.mst_arena.specs.Content.{part_at}
-use Rattle.mst_arena.specs.Row.{HasBytes, entry_links, entry_value}
-use Rattle.mst_arena.specs.Words.{words_of, word_from}
+use Rattle.mst_arena.specs.Row.{HasBytes, entry_links, entry_ends, entry_value}
+use Rattle.mst_arena.specs.Words.{words_of, word_from, part_in}
+use Rattle.mst_arena.specs.declared.row.Row.{Row}
 use Rattle.mst_arena.specs.declared.row.Row.TheVariants.{Entry}
 use Rattle.mst_arena.proofs.Packing.{past_word}
 use Rattle.mst_arena.proofs.Readers.{EntryIn, entry_with}
+use Rattle.mst_arena.proofs.EntryParts.{links_in_words}
 use Rattle.mst_words.specs.declared.view.View.{View}
 use Rattle.mst_words.specs.Records.{row}
 use Rattle.mst_words.specs.Stored.{rows_in}
-use Rattle.mst_words.specs.Access.{may_read, content_of}
+use Rattle.mst_words.specs.Access.{may_read, content_of, HasEnds}
 
 key_ends : (words : List ℕ) → EntryIn words → slice_index words 3 % 256 ≡ 16
     → (0 ≡ slice_index words 6) × (0 ≡ slice_index words 7)
@@ -59,6 +62,13 @@ key_words f a b is_a is_b ends =
     ∷ 0 ∷ 0 ∷ []) is_b
     ∙ (λ i. f 1 ∷ f 2 ∷ f 3 ∷ f 4 ∷ f 5 ∷ ends.0 i ∷ ends.1 i ∷ [])
 
+-- the words of a key alone
+pub key_four : (f : ℕ → ℕ) (a : List ℕ) → a ≡ f 4 ∷ f 5 ∷ [] → (0 ≡ f 6) × (0 ≡ f 7)
+    → slice_index_or a 0 0 ∷ slice_index_or a 1 0 ∷ 0 ∷ 0 ∷ [] ≡ f 4 ∷ f 5 ∷ f 6 ∷ f 7 ∷ []
+key_four f a is_a ends =
+    ap (λ (x : List ℕ). slice_index_or x 0 0 ∷ slice_index_or x 1 0 ∷ 0 ∷ 0 ∷ []) is_a
+    ∙ (λ i. f 4 ∷ f 5 ∷ ends.0 i ∷ ends.1 i ∷ [])
+
 pub value_words : (f : ℕ → ℕ) (a : List ℕ) → a ≡ f 8 ∷ f 9 ∷ f 10 ∷ f 11 ∷ []
     → (0 ≡ f 12) × (0 ≡ f 13) × (0 ≡ f 14) × (0 ≡ f 15)
     → slice_index_or a 0 0 ∷ slice_index_or a 1 0 ∷ slice_index_or a 2 0 ∷ slice_index_or a 3 0
@@ -104,4 +114,78 @@ value_of v x some = go (may_read v x) refl some
       ends = value_ends _
           (entry_with entry_value _ (λ layer count first tail digest. refl) some);
     }
+    go false e some = cc
+
+-- an entry that is copied
+pub record Source (v : View) (x : ℕ) : Type 0 where
+  pub readable : may_read v x ≡ true
+  pub kind : row v.known_words x 0 ≡ 1
+  pub ends : HasEnds (row v.known_words x 3) (row v.known_words x)
+
+by_two : (f : ℕ → ℕ) → (0 ≡ f 6) × (0 ≡ f 7) → (k : ℕ) → k < 2 → f (6 + k) ≡ 0
+by_two f ends zero lt = sym ends.0
+by_two f ends (suc zero) lt = sym ends.1
+by_two f ends (suc (suc k)) lt = absurd (omega arith)
+
+by_four : (f : ℕ → ℕ) → (0 ≡ f 12) × (0 ≡ f 13) × (0 ≡ f 14) × (0 ≡ f 15) → (k : ℕ) → k < 4
+    → f (12 + k) ≡ 0
+by_four f ends zero lt = sym ends.0
+by_four f ends (suc zero) lt = sym ends.1
+by_four f ends (suc (suc zero)) lt = sym ends.2
+by_four f ends (suc (suc (suc zero))) lt = sym ends.3
+by_four f ends (suc (suc (suc (suc k)))) lt = absurd (omega arith)
+
+pub source_of : (v : View) (x : ℕ) → IsSome (part_at entry_links (content_of v) x) → Source v x
+source_of v x some = go (may_read v x) refl some
+  where
+    go : (b : Bool) → may_read v x ≡ b
+        → IsSome (option_and_then entry_links (if b then rows_in (row v.known_words) x else None))
+        → Source v x
+    go true e some =
+        let i = entry_with entry_links _ (λ layer count first tail digest. refl) some in
+        record {
+          readable = e;
+          kind = sym (ap (λ (l : List ℕ). slice_index l 0) i.same);
+          ends = record {
+            key = λ is k lt. let size : row v.known_words x 3 % 256 ≡ 16 = omega (arith, is) in
+                by_two (row v.known_words x) (key_ends _ i size) k lt;
+            value = λ is k lt. let size : row v.known_words x 3 / 256 ≡ 32 = omega (arith, is) in
+                by_four (row v.known_words x) (value_ends _ i size) k lt;
+          };
+        }
+    go false e some = cc
+
+-- the value that was read of the words of an entry
+pub value_read : (v : View) (x lengths : ℕ) (words : List ℕ) (value : Option (List ℕ))
+    → IsSome (part_at entry_links (content_of v) x) → lengths ≡ row v.known_words x 3
+    → words ≡ map (row v.known_words x) (range_with_len 8 8)
+    → ((all : List ℕ) → lengths ≡ slice_index all 3 → words ≡ slice_range all 8 16
+    → IsSome (part_in entry_value all) → part_in entry_value all ≡ value)
+    → part_at entry_value (content_of v) x ≡ value
+value_read v x lengths words value some size is reads = go (may_read v x) some
+  where
+    go : (b : Bool)
+        → IsSome (option_and_then entry_links (if b then rows_in (row v.known_words) x else None))
+        → option_and_then entry_value (if b then rows_in (row v.known_words) x else None) ≡ value
+    go true some =
+        let i = entry_with entry_links _ (λ layer count first tail digest. refl) some in
+        reads _ size is (subst (λ (o : Option Row). IsSome (option_and_then entry_value o))
+        (sym i.row) refl)
+    go false some = cc
+
+-- its links are small, and stand in words 1 and 2
+pub record LinksAt (v : View) (x : ℕ) : Type 0 where
+  pub child : row v.known_words x 1 ≤ 65535
+  pub next : row v.known_words x 2 ≤ 65535
+  pub ends : part_at entry_ends (content_of v) x ≡ Some
+      (record { child = row v.known_words x 1; next = row v.known_words x 2 })
+
+pub links_of : (v : View) (x : ℕ) → IsSome (part_at entry_links (content_of v) x) → LinksAt v x
+links_of v x some = go (may_read v x) refl some
+  where
+    go : (b : Bool) → may_read v x ≡ b
+        → IsSome (option_and_then entry_links (if b then rows_in (row v.known_words) x else None))
+        → LinksAt v x
+    go true e some = let w = links_in_words _ some in
+        record { child = w.child; next = w.next; ends = rw e w.ends }
     go false e some = cc

@@ -1,17 +1,22 @@
 -- The way to a key from a row that a pass may read, by the row's words.
-use Rattle.std.proofs.Common.{◌≡◌, ℕ, ◌≤◌, List, Bool, true, false, Ordering, Less, Equal, Greater, refl, sym, ◌∙◌, ap, Some, None, if◌then◌else◌}
+use Rattle.std.proofs.Common.{◌≡◌, ℕ, ◌+◌, ◌-◌, ◌<◌, ◌≤◌, List, Option, subst, Bool, true, false, Ordering, Less, Equal, Greater, refl, sym, ◌∙◌, ap, Some, None, if◌then◌else◌}
 use Rattle.std.specs.Prelude.{option_and_then, IsSome}
 use Rattle.mst_key.specs.Bytes.{IsKey, IsBytes}
 use Rattle.mst_node.specs.Trail.{by_order}
 use Rattle.mst_arena.specs.Content.{part_at}
 use Rattle.mst_arena.specs.Row.{entry_links}
-use Rattle.mst_arena.specs.Ways.{entry_way, words_order}
+use Rattle.mst_arena.specs.Lives as lives
+use Rattle.mst_arena.specs.Ways.{entry_way, stop_from, words_order}
 use Rattle.mst_arena.specs.declared.sought.Way.TheVariants.{Child, Here, Next}
+use Rattle.mst_arena.specs.declared.sought.Stop.TheVariants.{Gap, Held}
 use Rattle.mst_arena.proofs.WayLemmas.{way_in_words}
+use Rattle.mst_arena.proofs.StopLemmas.{Goes, entry_met, in_gap, at_key, past_entry}
+use Rattle.atomic_table.specs.Table.{Me}
 use Rattle.mst_words.specs.declared.view.View.{View}
 use Rattle.mst_words.specs.Records.{row}
 use Rattle.mst_words.specs.Stored.{rows_in}
 use Rattle.mst_words.specs.Access.{may_read, content_of}
+use Rattle.mst_words.proofs.ShortRows.{key_of}
 
 -- the links of an entry are small, and the order by words chooses the way
 pub record WayAt (k : List ℕ) (v : View) (x : ℕ) : Type 0 where
@@ -63,3 +68,45 @@ module _ {k : List ℕ} {v : View} {x : ℕ} (w : WayAt k v x) {o : Ordering}
       (λ (r : Ordering). Some
       (by_order r (Child (row v.known_words x 1)) Here (Next (row v.known_words x 2)))) is
       ∙ ap (λ (l : ℕ). Some (Next l)) (sym word)
+
+-- a word of a row that was loaded while the words are the same
+pub loaded_still : {old now : Me (Option lives.State) View} → now ≡ old → (x i : ℕ) → {n : ℕ}
+    → n ≡ row now.0.known_words x i → n ≡ row old.0.known_words x i
+loaded_still same x i {n} =
+    subst (λ (m : Me (Option lives.State) View). n ≡ row m.0.known_words x i) same
+
+-- a search has come to an entry
+module _ {k : List ℕ} {old : Me (Option lives.State) View} {count first passed link : ℕ}
+    (s : Goes k (content_of old.0) count first passed link) (lt : passed < count) where
+  pub may_be_read : {now : Me (Option lives.State) View} → now ≡ old
+      → may_read now.0 (link - 1) ≡ true
+  may_be_read same =
+      ap (λ (m : Me (Option lives.State) View). may_read m.0 (link - 1)) same
+      ∙ (key_of old.0 (link - 1) (entry_met s lt).there).readable
+
+  -- and knows the order of the key and the entry's, and then a link, while the words are the same
+  module _ (size : IsKey k) (all : IsBytes k) {now : Me (Option lives.State) View}
+      (same : now ≡ old)
+      {o : Ordering} (order : o ≡ words_order k (row now.0.known_words (link - 1))) where
+    pub met : WayAt k old.0 (link - 1)
+    met = way_of_row k old.0 (link - 1) size all (entry_met s lt).there
+
+    ordered : o ≡ words_order k (row old.0.known_words (link - 1))
+    ordered = subst
+        (λ (m : Me (Option lives.State) View). o ≡ words_order k (row m.0.known_words (link - 1)))
+        same order
+
+    pub stops_at : o ≡ Equal → stop_from k (content_of old.0) count first ≡ Some
+        (Held link (count - passed))
+    stops_at is = at_key s lt (way_here met ordered is) refl
+
+    pub stops_before : {n : ℕ} → o ≡ Less → n ≡ row old.0.known_words (link - 1) 1
+        → stop_from k (content_of old.0) count first ≡ Some (Gap link n (count - passed))
+    stops_before is word = in_gap s lt (way_to_child met ordered is word) refl
+
+    pub goes_on : {n : ℕ} → o ≡ Greater → n ≡ row old.0.known_words (link - 1) 2
+        → Goes k (content_of old.0) count first (passed + 1) n
+    goes_on is word = record {
+      some = s.some;
+      onward = past_entry s lt (way_to_next met ordered is word) refl;
+    }

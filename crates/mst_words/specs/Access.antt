@@ -1,6 +1,6 @@
 -- What a pass may read and write of the rows, by what it knows of the words.
-use Rattle.std.specs.Prelude.{◌≡◌, ◌≢◌, ◌<◌, length, take, slice_index, List, [], ℕ, zero, suc, ◌+◌, is_some, is_none, Bool, true, ◌&&◌, ◌||◌, not, nat_lt, eqb, if◌then◌else◌, Option, None}
-use Rattle.std.specs.List.{list_any}
+use Rattle.std.specs.Prelude.{◌≡◌, ◌≢◌, ◌<◌, length, take, map, slice_index, slice_set, List, [], ℕ, zero, suc, ◌+◌, ◌*◌, is_some, is_none, Bool, true, ◌&&◌, ◌||◌, not, nat_lt, eqb, if◌then◌else◌, Option, None}
+use Rattle.std.specs.List.{list_any, range_with_len}
 use Rattle.atomic_table.specs.Seated.{TableId}
 use Rattle.atomic_table.specs.Table.{Me}
 use Rattle.mst_arena.specs.Content.{Content}
@@ -68,3 +68,20 @@ pub record RowStored (x n : ℕ) (words old new : List ℕ) : Type 0 where
   pub so_far : (k : ℕ) → k < n → row new x k ≡ slice_index words k
   pub others : (i : ℕ) → ((k : ℕ) → k < n → i ≢ row_word x k)
       → slice_index new i ≡ slice_index old i
+
+-- so many words of a row, from one on, are those of a function, and no other word has changed
+pub record PartStored (x at n : ℕ) (word : ℕ → ℕ) (old new : List ℕ) : Type 0 where
+  pub long : length new ≡ length old
+  pub so_far : (k : ℕ) → k < n → row new x (at + k) ≡ word (at + k)
+  pub others : (i : ℕ) → ((k : ℕ) → k < n → i ≢ row_word x (at + k))
+      → slice_index new i ≡ slice_index old i
+
+-- if these are the lengths of a key of 16 bytes and a value of 32, the words behind both are 0
+pub record HasEnds (lengths : ℕ) (word : ℕ → ℕ) : Type 0 where
+  pub key : lengths ≡ 16 + 256 * 32 → (k : ℕ) → k < 2 → word (6 + k) ≡ 0
+  pub value : lengths ≡ 16 + 256 * 32 → (k : ℕ) → k < 4 → word (12 + k) ≡ 0
+
+-- the words of an entry with another child and another next
+abbrev pub relinked_list : (ℕ → ℕ) → ℕ → ℕ → List ℕ
+relinked_list word child next =
+    slice_set (slice_set (map word (range_with_len 0 16)) 1 child) 2 next

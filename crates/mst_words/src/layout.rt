@@ -44,7 +44,7 @@ pub(crate) const FIRST_FORMAT: usize = FIRST_RECORD + 6;
 const SPARE_WORDS: usize = 4;
 
 /// The place of the first word of the first row.
-const FIRST_ROW: usize = FIRST_RECORD + MOST_RECORDS * RECORD_WORDS + SPARE_WORDS;
+pub(crate) const FIRST_ROW: usize = FIRST_RECORD + MOST_RECORDS * RECORD_WORDS + SPARE_WORDS;
 
 /// The place of word k of a record.
 pub const fn record_word(which: u32, k: usize) -> usize

@@ -2,15 +2,22 @@
 //!
 //! The loops are the board's and not the seat's: so the compiled code has the board's place in a
 //! register, and does not load it from the seat again for each word.
-ghost use Rattle.std.specs.Prelude.{◌≡◌, ◌+◌, ◌<◌, ◌≤◌, length, map, slice_set, true, IsTrue};
+ghost use Rattle.std.specs.Prelude.{◌≡◌, ◌+◌, ◌-◌, ◌^◌, ◌<◌, ◌≤◌, ℕ, length, map, slice_set, true, IsTrue, IsSome, Some};
 ghost use Rattle.std.specs.List.{range_with_len};
 ghost use Rattle.mst_words.specs.Layout.{row_words, row_word, table_words};
 ghost use Rattle.mst_words.specs.Records as records;
-ghost use Rattle.mst_words.specs.Access.{may_read, is_blank, RowStored};
+ghost use Rattle.mst_words.specs.Access.{may_read, content_of, is_blank, RowStored, PartStored, HasEnds, relinked_list};
+ghost use Rattle.mst_arena.specs.Content.{part_at};
+ghost use Rattle.mst_arena.specs.Row.{entry_links, entry_ends, entry_pair, entry_value};
 
 use crate::board::{Board, Token};
-use crate::layout::{ROW_WORDS, row_word};
+use crate::layout::{FIRST_ROW, ROW_WORDS, row_word};
+use mst_arena::{Links, Row};
+use mst_key::{Key, Value};
 use std::alloc::Allocator;
+
+/// The word of the lengths of a key of 16 bytes and a value of 32.
+const COMMON_LENGTHS: u64 = 16 + 256 * 32;
 
 impl<A: Allocator + Copy> Board<A> {
     /// Word k of a row: one load.
@@ -24,6 +31,23 @@ impl<A: Allocator + Copy> Board<A> {
             × (seat.new.me ≡ seat.old.me) }
     {
         self.load(seat, row_word(row, k))
+    }
+
+    /// Word k of the row that a link leads to: one load. It adds to the link no more than a
+    /// constant, so that a search which goes from link to link does not reckon the number of each
+    /// row.
+    pub(crate) fn linked_word(&self, seat: &mut Token<A>, link: usize, k: usize) -> u64
+        requires own { seat.old.table_id ≡ self.now }
+        requires wide { self.now.words ≡ table_words seat.old.me.0.rows }
+        requires some { 0 < link }
+        requires narrow { link ≤ 2 ^ 32 }
+        requires readable { may_read seat.old.me.0 (link - 1) ≡ true }
+        requires there { k < row_words }
+        ensures word { result ≡ records.row seat.old.me.0.known_words (link - 1) k }
+        ensures same { (seat.new.table_id ≡ seat.old.table_id) × (seat.new.id ≡ seat.old.id)
+            × (seat.new.me ≡ seat.old.me) }
+    {
+        self.load(seat, link * ROW_WORDS + k + (FIRST_ROW - ROW_WORDS))
     }
 
     /// The words of a row from one on: a load for each.
@@ -49,6 +73,102 @@ impl<A: Allocator + Copy> Board<A> {
         words
     }
 
+    /// The links of an entry: two loads.
+    #[inline(always)]
+    pub(crate) fn links(&self, seat: &mut Token<A>, row: u32) -> Links
+        requires own { seat.old.table_id ≡ self.now }
+        requires wide { self.now.words ≡ table_words seat.old.me.0.rows }
+        requires there { IsSome (part_at entry_links (content_of seat.old.me.0) row) }
+        ensures value { part_at entry_ends (content_of seat.old.me.0) row ≡ Some result }
+        ensures same { (seat.new.table_id ≡ seat.old.table_id) × (seat.new.id ≡ seat.old.id)
+            × (seat.new.me ≡ seat.old.me) }
+    {
+        let child = self.word(seat, row, 1);
+        let next = self.word(seat, row, 2);
+        Links {
+            child: child as u32,
+            next: next as u32,
+        }
+    }
+
+    // The words of an entry's key. Behind a key of 16 bytes they are 0, and not loaded.
+    #[inline(always)]
+    fn key_words(&self, seat: &mut Token<A>, row: u32, lengths: u64) -> [u64; 4]
+        requires own { seat.old.table_id ≡ self.now }
+        requires wide { self.now.words ≡ table_words seat.old.me.0.rows }
+        requires there { IsSome (part_at entry_links (content_of seat.old.me.0) row) }
+        requires lengths { lengths ≡ records.row seat.old.me.0.known_words row 3 }
+        ensures words { result
+            ≡ map (records.row seat.old.me.0.known_words row) (range_with_len 4 4) }
+        ensures same { (seat.new.table_id ≡ seat.old.table_id) × (seat.new.id ≡ seat.old.id)
+            × (seat.new.me ≡ seat.old.me) }
+    {
+        if lengths % 256 == 16 {
+            let [a, b] = self.words::<2>(seat, row, 4);
+            [a, b, 0, 0]
+        } else {
+            self.words::<4>(seat, row, 4)
+        }
+    }
+
+    /// The words of an entry's value. Behind a value of 32 bytes they are 0, and not loaded.
+    #[inline(always)]
+    pub(crate) fn value_words(&self, seat: &mut Token<A>, row: u32, lengths: u64) -> [u64; 8]
+        requires own { seat.old.table_id ≡ self.now }
+        requires wide { self.now.words ≡ table_words seat.old.me.0.rows }
+        requires there { IsSome (part_at entry_value (content_of seat.old.me.0) row) }
+        requires lengths { lengths ≡ records.row seat.old.me.0.known_words row 3 }
+        ensures words { result
+            ≡ map (records.row seat.old.me.0.known_words row) (range_with_len 8 8) }
+        ensures same { (seat.new.table_id ≡ seat.old.table_id) × (seat.new.id ≡ seat.old.id)
+            × (seat.new.me ≡ seat.old.me) }
+    {
+        if lengths / 256 == 32 {
+            let [a, b, c, d] = self.words::<4>(seat, row, 8);
+            [a, b, c, d, 0, 0, 0, 0]
+        } else {
+            self.words::<8>(seat, row, 8)
+        }
+    }
+
+    // The pair of an entry of these lengths.
+    #[inline(always)]
+    fn pair_by(&self, seat: &mut Token<A>, row: u32, lengths: u64) -> (Key, Value)
+        requires own { seat.old.table_id ≡ self.now }
+        requires wide { self.now.words ≡ table_words seat.old.me.0.rows }
+        requires there { IsSome (part_at entry_links (content_of seat.old.me.0) row) }
+        requires lengths { lengths ≡ records.row seat.old.me.0.known_words row 3 }
+        ensures pair { part_at entry_pair (content_of seat.old.me.0) row ≡ Some result }
+        ensures same { (seat.new.table_id ≡ seat.old.table_id) × (seat.new.id ≡ seat.old.id)
+            × (seat.new.me ≡ seat.old.me) }
+    {
+        let key = self.key_words(seat, row, lengths);
+        let value = self.value_words(seat, row, lengths);
+        match Row::read_pair(lengths, &key, &value) {
+            Some(pair) => pair,
+            None => unreachable!(),
+        }
+    }
+
+    /// The key and the value of an entry. One of a key of 16 bytes and a value of 32 has an arm of
+    /// its own: there the compiled code knows the lengths, and makes both with no further test.
+    #[inline(always)]
+    pub(crate) fn pair(&self, seat: &mut Token<A>, row: u32) -> (Key, Value)
+        requires own { seat.old.table_id ≡ self.now }
+        requires wide { self.now.words ≡ table_words seat.old.me.0.rows }
+        requires there { IsSome (part_at entry_links (content_of seat.old.me.0) row) }
+        ensures pair { part_at entry_pair (content_of seat.old.me.0) row ≡ Some result }
+        ensures same { (seat.new.table_id ≡ seat.old.table_id) × (seat.new.id ≡ seat.old.id)
+            × (seat.new.me ≡ seat.old.me) }
+    {
+        let lengths = self.word(seat, row, 3);
+        if lengths == COMMON_LENGTHS {
+            self.pair_by(seat, row, COMMON_LENGTHS)
+        } else {
+            self.pair_by(seat, row, lengths)
+        }
+    }
+
     /// Sets word k of a blank row to `value`: one load, and a store only if another word stands
     /// there, since a store costs some twenty times as much as a load.
     fn store_word(&self, seat: &mut Token<A>, row: u32, k: usize, value: u64)
@@ -70,30 +190,103 @@ impl<A: Allocator + Copy> Board<A> {
         }
     }
 
-    /// Makes the words of a blank row these.
-    pub(crate) fn store_words(&self, seat: &mut Token<A>, row: u32, words: &[u64; ROW_WORDS])
+    /// Makes the first words of a blank row these.
+    pub(crate) fn store_words<const N: usize>(
+        &self,
+        seat: &mut Token<A>,
+        row: u32,
+        words: &[u64; N],
+    )
         requires own { seat.old.table_id ≡ self.now }
         requires wide { self.now.words ≡ table_words seat.old.me.0.rows }
         requires blank { IsTrue (is_blank seat.old.me.0 row) }
+        requires there { N ≤ row_words }
         ensures same { (seat.new.table_id ≡ seat.old.table_id) × (seat.new.id ≡ seat.old.id)
             × (seat.new.me ≡ (
               record seat.old.me.0 { known_words = seat.new.me.0.known_words },
               seat.old.me.1,
             )) }
-        ensures stored { RowStored row row_words words.now
+        ensures stored { RowStored row N words.now
             seat.old.me.0.known_words seat.new.me.0.known_words }
     {
-        for k in 0..ROW_WORDS {
+        for k in 0..N {
             self.store_word(seat, row, k, words[k]);
         }
     }
 
-    /// Copies the words of a row into a blank row, with another child and another next. It returns
-    /// the words of the copy.
+    /// Copies so many words of a row, from one on, into a blank row, and makes so many words behind
+    /// them 0, as they are in the row that is copied. It returns the words that it copied.
     ///
     /// Each word is stored as soon as it is loaded, so no list of them is filled first and read
     /// again. The loops have a fixed number of turns and no choice in them: so the compiler lays
     /// them out without a loop.
+    fn copy_part<const N: usize, const M: usize>(
+        &self,
+        seat: &mut Token<A>,
+        from: u32,
+        to: u32,
+        at: usize,
+    ) -> [u64; N]
+        requires own { seat.old.table_id ≡ self.now }
+        requires wide { self.now.words ≡ table_words seat.old.me.0.rows }
+        requires readable { may_read seat.old.me.0 from ≡ true }
+        requires blank { IsTrue (is_blank seat.old.me.0 to) }
+        requires there { at + (N + M) ≤ row_words }
+        requires zeros { (k : ℕ) → k < M
+            → records.row seat.old.me.0.known_words from (at + (N + k)) ≡ 0 }
+        ensures words { result
+            ≡ map (records.row seat.old.me.0.known_words from) (range_with_len at N) }
+        ensures same { (seat.new.table_id ≡ seat.old.table_id) × (seat.new.id ≡ seat.old.id)
+            × (seat.new.me ≡ (
+              record seat.old.me.0 { known_words = seat.new.me.0.known_words },
+              seat.old.me.1,
+            )) }
+        ensures stored { PartStored to at (N + M) (records.row seat.old.me.0.known_words from)
+            seat.old.me.0.known_words seat.new.me.0.known_words }
+    {
+        let mut words = [0; N];
+        for k in 0..N {
+            let word = self.word(seat, from, at + k);
+            words[k] = word;
+            self.store_word(seat, to, at + k, word);
+        }
+        for k in 0..M {
+            self.store_word(seat, to, at + (N + k), 0);
+        }
+        words
+    }
+
+    /// Copies the words of an entry's key and value into a blank row, and returns those of the
+    /// value. In an entry with a key of 16 bytes and a value of 32, six of them are 0, and not
+    /// loaded.
+    fn copy_bytes(&self, seat: &mut Token<A>, from: u32, to: u32, lengths: u64) -> [u64; 8]
+        requires own { seat.old.table_id ≡ self.now }
+        requires wide { self.now.words ≡ table_words seat.old.me.0.rows }
+        requires readable { may_read seat.old.me.0 from ≡ true }
+        requires blank { IsTrue (is_blank seat.old.me.0 to) }
+        requires ends { HasEnds lengths (records.row seat.old.me.0.known_words from) }
+        ensures value { result
+            ≡ map (records.row seat.old.me.0.known_words from) (range_with_len 8 8) }
+        ensures same { (seat.new.table_id ≡ seat.old.table_id) × (seat.new.id ≡ seat.old.id)
+            × (seat.new.me ≡ (
+              record seat.old.me.0 { known_words = seat.new.me.0.known_words },
+              seat.old.me.1,
+            )) }
+        ensures stored { PartStored to 4 12 (records.row seat.old.me.0.known_words from)
+            seat.old.me.0.known_words seat.new.me.0.known_words }
+    {
+        if lengths == COMMON_LENGTHS {
+            self.copy_part::<2, 2>(seat, from, to, 4);
+            let [a, b, c, d] = self.copy_part::<4, 4>(seat, from, to, 8);
+            [a, b, c, d, 0, 0, 0, 0]
+        } else {
+            let [_, _, _, _, a, b, c, d, e, f, g, h] = self.copy_part::<12, 0>(seat, from, to, 4);
+            [a, b, c, d, e, f, g, h]
+        }
+    }
+
+    /// Copies the words of an entry into a blank row, with another child and another next. It
+    /// returns the word of its lengths, and those of its value.
     pub(crate) fn copy_words(
         &self,
         seat: &mut Token<A>,
@@ -101,34 +294,30 @@ impl<A: Allocator + Copy> Board<A> {
         to: u32,
         child: u32,
         next: u32,
-    ) -> [u64; ROW_WORDS]
+    ) -> (u64, [u64; 8])
         requires own { seat.old.table_id ≡ self.now }
         requires wide { self.now.words ≡ table_words seat.old.me.0.rows }
         requires readable { may_read seat.old.me.0 from ≡ true }
         requires blank { IsTrue (is_blank seat.old.me.0 to) }
-        ensures words { result ≡ slice_set (slice_set
-            (map (records.row seat.old.me.0.known_words from) (range_with_len 0 row_words))
-            1 child) 2 next }
+        requires kind { records.row seat.old.me.0.known_words from 0 ≡ 1 }
+        requires ends { HasEnds (records.row seat.old.me.0.known_words from 3)
+            (records.row seat.old.me.0.known_words from) }
+        ensures lengths { result.0 ≡ records.row seat.old.me.0.known_words from 3 }
+        ensures value { result.1
+            ≡ map (records.row seat.old.me.0.known_words from) (range_with_len 8 8) }
         ensures same { (seat.new.table_id ≡ seat.old.table_id) × (seat.new.id ≡ seat.old.id)
             × (seat.new.me ≡ (
               record seat.old.me.0 { known_words = seat.new.me.0.known_words },
               seat.old.me.1,
             )) }
-        ensures stored { RowStored to row_words result
+        ensures stored { RowStored to row_words
+            (relinked_list (records.row seat.old.me.0.known_words from) child next)
             seat.old.me.0.known_words seat.new.me.0.known_words }
     {
-        let mut words = [0; ROW_WORDS];
-        words[0] = self.word(seat, from, 0);
-        words[1] = u64::from(child);
-        words[2] = u64::from(next);
-        for k in 0..3 {
-            self.store_word(seat, to, k, words[k]);
-        }
-        for k in 3..ROW_WORDS {
-            let word = self.word(seat, from, k);
-            words[k] = word;
-            self.store_word(seat, to, k, word);
-        }
-        words
+        let lengths = self.word(seat, from, 3);
+        let front = [1, u64::from(child), u64::from(next), lengths];
+        self.store_words(seat, to, &front);
+        let value = self.copy_bytes(seat, from, to, lengths);
+        (lengths, value)
     }
 }

@@ -1,5 +1,5 @@
 //! The rows of the table, as a pass reads and writes them.
-ghost use Rattle.std.specs.Prelude.{◌≡◌, ◌+◌, ◌<◌, ◌≤◌, map, slice_set, true, IsTrue, IsSome, Some};
+ghost use Rattle.std.specs.Prelude.{◌≡◌, ◌+◌, ◌<◌, ◌≤◌, map, true, IsTrue, IsSome, Some};
 ghost use Rattle.std.specs.List.{range_with_len};
 ghost use Rattle.mst_arena.specs.Content.{Writes, part_at};
 ghost use Rattle.mst_arena.specs.Row.{entry_links, entry_value};
@@ -7,12 +7,12 @@ ghost use Rattle.mst_arena.specs.Words.{row_in};
 ghost use Rattle.mst_arena.specs.declared.row.Row.{Row};
 ghost use Rattle.mst_words.specs.Layout.{row_words};
 ghost use Rattle.mst_words.specs.Records as records;
-ghost use Rattle.mst_words.specs.Access.{may_read, is_blank, content_of, beside};
+ghost use Rattle.mst_words.specs.Access.{may_read, is_blank, content_of, beside, relinked_list};
 
 use crate::layout::ROW_WORDS;
 use crate::seat::PassSeat;
-use mst_arena::{EntryLinks, HeadLinks, Row, Rows, Sought, Way};
-use mst_key::Value;
+use mst_arena::{EntryLinks, HeadLinks, Links, Row, Rows, Sought, Stop, Way};
+use mst_key::{Key, Value};
 use std::alloc::Allocator;
 
 impl<'a, A: Allocator + Copy> PassSeat<'a, A> {
@@ -55,23 +55,6 @@ impl<'a, A: Allocator + Copy> PassSeat<'a, A> {
         }
     }
 
-    // The words of an entry's value. Behind a value of 32 bytes they are 0, and not loaded.
-    #[inline(always)]
-    fn value_words(&mut self, row: u32, lengths: u64) -> [u64; 8]
-        requires there { IsSome (part_at entry_value (content_of self.old.me.0) row) }
-        requires lengths { lengths ≡ records.row self.old.me.0.known_words row 3 }
-        ensures words { result
-            ≡ map (records.row self.old.me.0.known_words row) (range_with_len 8 8) }
-        ensures same { self.new ≡ self.old }
-    {
-        if lengths / 256 == 32 {
-            let [a, b, c, d] = self.words::<4>(row, 8);
-            [a, b, c, d, 0, 0, 0, 0]
-        } else {
-            self.words::<8>(row, 8)
-        }
-    }
-
     // Makes the words of a blank row these.
     fn store_words(&mut self, row: u32, words: &[u64; ROW_WORDS])
         requires blank { IsTrue (is_blank self.old.me.0 row) }
@@ -84,14 +67,16 @@ impl<'a, A: Allocator + Copy> PassSeat<'a, A> {
     }
 
     // Copies an entry's words into a blank row, with another child and another next. It returns
-    // the words of the copy.
-    fn copy_words(&mut self, from: u32, to: u32, child: u32, next: u32) -> [u64; ROW_WORDS]
-        requires readable { may_read self.old.me.0 from ≡ true }
+    // the word of its lengths, and those of its value.
+    fn copy_words(&mut self, from: u32, to: u32, child: u32, next: u32) -> (u64, [u64; 8])
+        requires there { IsSome (part_at entry_links (content_of self.old.me.0) from) }
         requires blank { IsTrue (is_blank self.old.me.0 to) }
-        ensures words { result ≡ slice_set (slice_set
-            (map (records.row self.old.me.0.known_words from) (range_with_len 0 row_words))
-            1 child) 2 next }
-        ensures writes { (value : Row) → row_in result ≡ Some value
+        ensures lengths { result.0 ≡ records.row self.old.me.0.known_words from 3 }
+        ensures value { result.1
+            ≡ map (records.row self.old.me.0.known_words from) (range_with_len 8 8) }
+        ensures writes { (value : Row)
+            → row_in (relinked_list (records.row self.old.me.0.known_words from) child next)
+            ≡ Some value
             → Writes (content_of self.old.me.0) (content_of self.new.me.0) to value }
         ensures blank { is_blank self.new.me.0 ≡ is_blank self.old.me.0 }
         ensures kept { beside self.new ≡ beside self.old }
@@ -125,9 +110,8 @@ impl<'a, A: Allocator + Copy> Rows for PassSeat<'a, A> {
     }
 
     fn copy_entry(&mut self, from: u32, to: u32, child: u32, next: u32) -> Value {
-        let words = self.copy_words(from, to, child, next);
-        let [_, _, _, lengths, _, _, _, _, a, b, c, d, e, f, g, h] = words;
-        match Row::read_value(lengths, &[a, b, c, d, e, f, g, h]) {
+        let (lengths, words) = self.copy_words(from, to, child, next);
+        match Row::read_value(lengths, &words) {
             Some(value) => value,
             None => unreachable!(),
         }
@@ -152,14 +136,30 @@ impl<'a, A: Allocator + Copy> Rows for PassSeat<'a, A> {
         }
     }
 
+    #[inline(always)]
+    fn links(&mut self, row: u32) -> Links {
+        self.board.links(&mut self.token, row)
+    }
+
+    #[inline(always)]
+    fn pair(&mut self, row: u32) -> (Key, Value) {
+        self.board.pair(&mut self.token, row)
+    }
+
     fn way(&mut self, row: u32, key: &Sought) -> Way {
         self.board.way(&mut self.token, row, key)
     }
 
     #[inline(always)]
+    fn search(&mut self, first: u32, count: u32, key: &Sought) -> Stop {
+        self.board.search(&mut self.token, first, count, key)
+    }
+
+    #[inline(always)]
     fn value(&mut self, row: u32) -> Value {
         let lengths = self.word(row, 3);
-        match Row::read_value(lengths, &self.value_words(row, lengths)) {
+        let words = self.board.value_words(&mut self.token, row, lengths);
+        match Row::read_value(lengths, &words) {
             Some(value) => value,
             None => unreachable!(),
         }

@@ -1,21 +1,22 @@
-//! The way of a search for a key from an entry of a node, by the entry's words.
+//! The way of a search for a key from an entry of a node, by the entry's words, and the search
+//! among the entries of a node, each named by its link.
 //!
 //! The loads are the board's and not the seat's, as in `row_words`: so the compiled code has the
 //! board's place in a register for all loads of one entry.
-ghost use Rattle.std.specs.Prelude.{◌≡◌, ◌%◌, ◌<◌, true, IsSome, Some};
+ghost use Rattle.std.specs.Prelude.{◌≡◌, ◌-◌, ◌%◌, ◌^◌, ◌<◌, ◌≤◌, true, IsSome, Some};
 ghost use Rattle.std.specs.Ordering.{nat_cmp, ordering_then};
 ghost use Rattle.std.specs.declared.cmp.Ordering.TheVariants.{Equal};
 ghost use Rattle.mst_key.specs.Bytes.{IsKey, IsBytes};
 ghost use Rattle.mst_arena.specs.Content.{part_at};
 ghost use Rattle.mst_arena.specs.Row.{entry_links};
-ghost use Rattle.mst_arena.specs.Ways.{entry_way, words_order};
+ghost use Rattle.mst_arena.specs.Ways.{entry_way, stop_from, words_order};
 ghost use Rattle.mst_arena.specs.Words.{word_from};
 ghost use Rattle.mst_words.specs.Layout.{row_words, table_words};
 ghost use Rattle.mst_words.specs.Records as records;
 ghost use Rattle.mst_words.specs.Access.{may_read, content_of};
 
 use crate::board::{Board, Token};
-use mst_arena::{Sought, Way};
+use mst_arena::{Sought, Stop, Way};
 use std::alloc::Allocator;
 use std::cmp::Ordering;
 
@@ -27,80 +28,90 @@ impl<A: Allocator + Copy> Board<A> {
         seat: &mut Token<A>,
         before: Ordering,
         number: u64,
-        row: u32,
+        link: usize,
         k: usize,
     ) -> Ordering
         requires own { seat.old.table_id ≡ self.now }
         requires wide { self.now.words ≡ table_words seat.old.me.0.rows }
-        requires readable { may_read seat.old.me.0 row ≡ true }
+        requires some { 0 < link }
+        requires narrow { link ≤ 2 ^ 32 }
+        requires readable { may_read seat.old.me.0 (link - 1) ≡ true }
         requires there { k < row_words }
         ensures order { result ≡ ordering_then before
-            (nat_cmp number (records.row seat.old.me.0.known_words row k)) }
+            (nat_cmp number (records.row seat.old.me.0.known_words (link - 1) k)) }
         ensures same { (seat.new.table_id ≡ seat.old.table_id) × (seat.new.id ≡ seat.old.id)
             × (seat.new.me ≡ seat.old.me) }
     {
         match before {
             Ordering::Less => Ordering::Less,
-            Ordering::Equal => number.cmp(&self.word(seat, row, k)),
+            Ordering::Equal => number.cmp(&self.linked_word(seat, link, k)),
             Ordering::Greater => Ordering::Greater,
         }
     }
 
     // The order of what was compared before, and if that is equal, the order of a length and that
     // of the key of a row.
-    fn length_order(&self, seat: &mut Token<A>, before: Ordering, len: u64, row: u32) -> Ordering
+    fn length_order(&self, seat: &mut Token<A>, before: Ordering, len: u64, link: usize) -> Ordering
         requires own { seat.old.table_id ≡ self.now }
         requires wide { self.now.words ≡ table_words seat.old.me.0.rows }
-        requires readable { may_read seat.old.me.0 row ≡ true }
+        requires some { 0 < link }
+        requires narrow { link ≤ 2 ^ 32 }
+        requires readable { may_read seat.old.me.0 (link - 1) ≡ true }
         ensures order { result ≡ ordering_then before
-            (nat_cmp len (records.row seat.old.me.0.known_words row 3 % 256)) }
+            (nat_cmp len (records.row seat.old.me.0.known_words (link - 1) 3 % 256)) }
         ensures same { (seat.new.table_id ≡ seat.old.table_id) × (seat.new.id ≡ seat.old.id)
             × (seat.new.me ≡ seat.old.me) }
     {
         match before {
             Ordering::Less => Ordering::Less,
-            Ordering::Equal => len.cmp(&(self.word(seat, row, 3) % 256)),
+            Ordering::Equal => len.cmp(&(self.linked_word(seat, link, 3) % 256)),
             Ordering::Greater => Ordering::Greater,
         }
     }
 
     // The order of a key and that of an entry whose first words are the same: words are loaded
     // until two differ.
-    fn order_behind(&self, seat: &mut Token<A>, row: u32, key: &Sought) -> Ordering
+    fn order_behind(&self, seat: &mut Token<A>, link: usize, key: &Sought) -> Ordering
         requires own { seat.old.table_id ≡ self.now }
         requires wide { self.now.words ≡ table_words seat.old.me.0.rows }
-        requires readable { may_read seat.old.me.0 row ≡ true }
-        ensures order { nat_cmp (word_from key.now 0) (records.row seat.old.me.0.known_words row 4)
-            ≡ Equal → result ≡ words_order key.now (records.row seat.old.me.0.known_words row) }
+        requires some { 0 < link }
+        requires narrow { link ≤ 2 ^ 32 }
+        requires readable { may_read seat.old.me.0 (link - 1) ≡ true }
+        ensures order { nat_cmp (word_from key.now 0)
+            (records.row seat.old.me.0.known_words (link - 1) 4) ≡ Equal
+            → result ≡ words_order key.now (records.row seat.old.me.0.known_words (link - 1)) }
         ensures same { (seat.new.table_id ≡ seat.old.table_id) × (seat.new.id ≡ seat.old.id)
             × (seat.new.me ≡ seat.old.me) }
     {
         let [_, second, third, last] = key.words();
-        let order = second.cmp(&self.word(seat, row, 5));
-        let order = self.next_order(seat, order, third, row, 6);
-        let order = self.next_order(seat, order, last, row, 7);
-        self.length_order(seat, order, key.len(), row)
+        let order = second.cmp(&self.linked_word(seat, link, 5));
+        let order = self.next_order(seat, order, third, link, 6);
+        let order = self.next_order(seat, order, last, link, 7);
+        self.length_order(seat, order, key.len(), link)
     }
 
     // The order of a key and that of an entry: mostly the first word decides, by one load.
-    fn order(&self, seat: &mut Token<A>, row: u32, key: &Sought) -> Ordering
+    fn order(&self, seat: &mut Token<A>, link: usize, key: &Sought) -> Ordering
         requires own { seat.old.table_id ≡ self.now }
         requires wide { self.now.words ≡ table_words seat.old.me.0.rows }
-        requires readable { may_read seat.old.me.0 row ≡ true }
-        ensures order { result ≡ words_order key.now (records.row seat.old.me.0.known_words row) }
+        requires some { 0 < link }
+        requires narrow { link ≤ 2 ^ 32 }
+        requires readable { may_read seat.old.me.0 (link - 1) ≡ true }
+        ensures order { result
+            ≡ words_order key.now (records.row seat.old.me.0.known_words (link - 1)) }
         ensures limits { IsKey key.now }
         ensures range { IsBytes key.now }
         ensures same { (seat.new.table_id ≡ seat.old.table_id) × (seat.new.id ≡ seat.old.id)
             × (seat.new.me ≡ seat.old.me) }
     {
         let [first, ..] = key.words();
-        let stored = self.word(seat, row, 4);
-        if first < stored {
-            Ordering::Less
-        } else if stored < first {
+        let stored = self.linked_word(seat, link, 4);
+        if stored < first {
             Ordering::Greater
+        } else if first < stored {
+            Ordering::Less
         } else {
-            self.order_behind(seat, row, key)
+            self.order_behind(seat, link, key)
         }
     }
 
@@ -113,10 +124,43 @@ impl<A: Allocator + Copy> Board<A> {
         ensures same { (seat.new.table_id ≡ seat.old.table_id) × (seat.new.id ≡ seat.old.id)
             × (seat.new.me ≡ seat.old.me) }
     {
-        match self.order(seat, row, key) {
+        match self.order(seat, row as usize + 1, key) {
             Ordering::Less => Way::Child(self.word(seat, row, 1) as u32),
             Ordering::Equal => Way::Here,
             Ordering::Greater => Way::Next(self.word(seat, row, 2) as u32),
         }
+    }
+
+    /// Where a search for the key ends among so many entries of which the first has this link. The
+    /// board's place stays in a register from entry to entry.
+    #[inline(always)]
+    pub(crate) fn search(&self, seat: &mut Token<A>, first: u32, count: u32, key: &Sought) -> Stop
+        requires own { seat.old.table_id ≡ self.now }
+        requires wide { self.now.words ≡ table_words seat.old.me.0.rows }
+        requires there { IsSome (stop_from key.now (content_of seat.old.me.0) count first) }
+        ensures stop { stop_from key.now (content_of seat.old.me.0) count first ≡ Some result }
+        ensures same { (seat.new.table_id ≡ seat.old.table_id) × (seat.new.id ≡ seat.old.id)
+            × (seat.new.me ≡ seat.old.me) }
+    {
+        let mut link = first as usize;
+        for passed in 0..count {
+            match self.order(seat, link, key) {
+                Ordering::Less => {
+                    return Stop::Gap {
+                        link: link as u32,
+                        child: self.linked_word(seat, link, 1) as u32,
+                        left: count - passed,
+                    };
+                }
+                Ordering::Equal => {
+                    return Stop::Held {
+                        link: link as u32,
+                        left: count - passed,
+                    };
+                }
+                Ordering::Greater => link = self.linked_word(seat, link, 2) as usize,
+            }
+        }
+        Stop::End
     }
 }

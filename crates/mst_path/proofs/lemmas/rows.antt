@@ -2,7 +2,6 @@
 pub mod Taking
 pub mod Entries
 pub mod Moving
-pub mod Fewness
 pub mod FreeCounts
 pub mod RowCounts
 pub mod Copies

@@ -1,13 +1,13 @@
 //! Plain rows that count what is read of them.
 ghost use Rattle.std.specs.Prelude.{◌≡◌, ◌≤◌, ◌<◌, None, IfOk, replicate};
 
-use mst_arena::{EntryLinks, HeadLinks, PlainRows, Row, Rows};
-use mst_key::{Memory, Value};
+use mst_arena::{EntryLinks, HeadLinks, Links, PlainRows, Row, Rows};
+use mst_key::{Key, Memory, Value};
 use std::alloc::{Allocator, Global};
 use std::marker::Model;
 
-/// How many parts of rows were read: heads, entries with their keys, values, and digests or whole
-/// rows.
+/// How many parts of rows were read: heads, entries by their links, with their keys or without,
+/// values by themselves or with their keys, and digests or whole rows.
 #[derive(Clone, Copy)]
 pub struct Reads {
     pub heads: u32,
@@ -101,6 +101,16 @@ impl<A: Allocator> Rows for CountedRows<A> {
     fn entry(&mut self, row: u32) -> EntryLinks {
         self.reads.entries = self.reads.entries.saturating_add(1);
         self.rows.entry(row)
+    }
+
+    fn links(&mut self, row: u32) -> Links {
+        self.reads.entries = self.reads.entries.saturating_add(1);
+        self.rows.links(row)
+    }
+
+    fn pair(&mut self, row: u32) -> (Key, Value) {
+        self.reads.values = self.reads.values.saturating_add(1);
+        self.rows.pair(row)
     }
 
     fn value(&mut self, row: u32) -> Value {

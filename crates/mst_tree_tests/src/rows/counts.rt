@@ -4,11 +4,10 @@
 //! The rows are of 300 pairs in three layers, with the numbers in three bytes as keys. The counts
 //! were worked out separately, from the layers of these keys (Python's hashlib): the head of each
 //! node that is met, its entries up to the one that ends the search in it, and the value of each
-//! pair of the answer. An entry whose way was asked for is read once more if its key or its links
-//! are needed: the entry of a next pair and that of the bound, and of a range that has a lower
-//! bound the first entry that is not below it in each node on the way whose pairs are added. A
-//! range that has an upper bound asks each of its pairs, and in each node on the way the one that
-//! ends it, for their way to it.
+//! pair of the answer. An entry whose way was asked for is read once more if its links are needed:
+//! that of the bound of a next pair, and of a range that has a lower bound the first entry that is
+//! not below it in each node on the way whose pairs are added. A range that has an upper bound asks
+//! each of its pairs, and in each node on the way the one that ends it, for their way to it.
 use crate::confirming::confirm_at;
 use crate::pairs::{key_of, numbered, numbered_key};
 use crate::rows::counted::Reads;
@@ -136,11 +135,11 @@ fn a_look_up_reads_one_path(rt: HostRuntime) {
 }
 
 const NEXTS: &[Case] = &[
-    (Ask::Next(None), 3, 4, 1),
-    (Ask::Next(Some(39)), 3, 8, 1),
-    (Ask::Next(Some(100)), 3, 28, 1),
-    (Ask::Next(Some(150)), 3, 15, 1),
-    (Ask::Next(Some(246)), 3, 23, 1),
+    (Ask::Next(None), 3, 3, 1),
+    (Ask::Next(Some(39)), 3, 7, 1),
+    (Ask::Next(Some(100)), 3, 27, 1),
+    (Ask::Next(Some(150)), 3, 14, 1),
+    (Ask::Next(Some(246)), 3, 22, 1),
     (Ask::Next(Some(299)), 3, 8, 0),
 ];
 

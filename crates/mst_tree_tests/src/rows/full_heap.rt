@@ -55,7 +55,7 @@ fn desk_goes_on(rt: &impl Abort, desk: &mut Desk<&LocalHeap>)
 
 #[test]
 fn a_desk_goes_on_over_a_full_heap(rt: HostRuntime) {
-    let heap = heap_of(&rt, rt.alloc(), 2_048);
+    let heap = heap_of(&rt, rt.alloc(), 8_192);
     let mut desk = Desk::new(&heap, 4, 3, 0).expect(&rt, "an ample heap");
     let blocks = fill(&rt, rt.alloc(), &heap);
     confirm(&rt, is_full(&heap) && !blocks.is_empty(), "full");

@@ -225,11 +225,11 @@ fn rows_fit(rt: &impl Abort, alloc: Global, bytes: usize) -> bool {
 
 #[test]
 fn each_growth_is_refused_in_turn(rt: HostRuntime) {
-    // a desk of 100 rows takes 24 bytes a row for lives and 8 for lists, and less than 200 bytes
-    // more
+    // a desk of 100 rows takes 48 bytes a row for lives, lists and the places of what is kept of
+    // texts, 350 bytes for each of 72 texts with a value, and some 2,000 more
     let mut refused = 0u32;
     for step in 1..300usize {
-        if !desk_fits(&rt, rt.alloc(), step * 16) {
+        if !desk_fits(&rt, rt.alloc(), step * 128) {
             // once made, a larger heap serves too
             confirm_at(&rt, refused as usize == step - 1, step);
             refused = step as u32;

@@ -429,10 +429,15 @@ sow_node-returns-clause-sown g t c = λ at p.
     (map planned_entry (items A n)) (tail A n) x)
     (node_rows A n) (c.finish.ensures.root c.args.format) (c.finish.ensures.stands c.args.format)
     c.finish.ensures.keeps in
-    subst sown
+    subst (λ s. Sown c.args.format (g.R.Rows.content c.args.rows.now)
+    (g.R.Rows.content c.finish.new.rows) c.args.desk.now s
+    (tree_planned c.args.format at (plan_of_node n)) c.finish.result
+    (rows_kept at (plan_of_node n)) (rows_planned (plan_of_node n)))
+    (sym c.finish.ensures.desk)
+    (subst sown
     (ap (λ xs. tree.node c.args.format (out-PlanNode A n).layer xs)
     (sym (tree_with c.args.format at (map planned_entry (items A n)) (tail A n)))
-    ∙ ap (tree_planned c.args.format at) (sym (plan_out A n))) made
+    ∙ ap (tree_planned c.args.format at) (sym (plan_out A n))) made)
 
 -- ---- a tree that is kept
 

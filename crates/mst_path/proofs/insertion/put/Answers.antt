@@ -1,5 +1,6 @@
 use Rattle.mst_key.specs.Layer.{layer_in}
-use Rattle.std.proofs.Common.{◌≡◌, ◌∙◌, ◌≤◌, List, ℕ, true, true≢false, sym, ap, subst, arith, rules}
+use Rattle.std.proofs.Common.{◌≡◌, ◌∙◌, ◌≤◌, ◌<◌, ◌+◌, ◌*◌, List, ℕ, Bool, length, true, true≢false, sym, ap, subst, arith, rules}
+use Rattle.std.specs.Bool.{MatchBool}
 use Rattle.mst_key.specs.Map.{Pair, map_get}
 use Rattle.mst_key.specs.declared.format.Format.{Format}
 use Rattle.mst_arena.specs.Content.{Content}
@@ -9,9 +10,9 @@ use Rattle.mst_path.specs.Making.{Grown}
 use Rattle.mst_path.specs.PutPath.{RisingTree, in_rising, with_pair, pair_rows}
 use Rattle.mst_path.specs.Changing.{AreOld}
 use Rattle.mst_path.proofs.lemmas.versions.Changes.{any_old, search_at, rises, says}
-use Rattle.mst_path.proofs.lemmas.versions.Inserted.{is_same, same_found, rising_at, few_new, cost_other, AfterPut, after_other, after_same}
+use Rattle.mst_path.proofs.lemmas.versions.Inserted.{is_same, same_found, rising_at, least_new, cost_other, AfterPut, after_other, after_same}
 use Rattle.mst_path.proofs.insertion.put.Given.{Over}
-use Rattle.mst_path.proofs.insertion.put.Goals.{After-find-old, After-put_cost, After-put_at-new}
+use Rattle.mst_path.proofs.insertion.put.Goals.{After-find-old, After-put_fits, After-put_at-new}
 use Rattle.mst_path.proofs.insertion.put.Goals as goal
 
 pub find-old-requires : goal.find-old-requires
@@ -88,18 +89,18 @@ returns-then-is_same-clause-made g c =
 
 -- ---- the room
 
-pub put_cost-requires : goal.put_cost-requires
-put_cost-requires g c =
+pub put_fits-requires : goal.put_fits-requires
+put_fits-requires g c =
     let one = c.requires.stands in
-    let few = few_new c.args.format (g.R.Rows.content c.args.rows.now) c.args.desk.now
-    c.args.root.now one.0 one.1 c.args.key.now c.args.value.now one.2 c.layer_in-layer.result
-    c.free-free.ensures.few in
+    let least = least_new c.args.format (g.R.Rows.content c.args.rows.now) c.args.desk.now
+    c.args.root.now one.0 one.1 c.args.key.now c.args.value.now one.2 c.layer_in-layer.result in
     record {
       tree =
           rw (sym c.new-sought.ensures.key) at
           (subst (λ (x : Content). (f : Format) × (q : State)
           × (t : RisingTree f x q c.args.root.now.link) × (w : List ℕ)
-          × (pair_rows f t c.layer_in-layer.result c.args.key.now w ≤ 4294967295)
+          × (pair_rows f t c.layer_in-layer.result c.args.key.now w
+          ≤ 2 * length c.args.desk.now.lives + 2)
           × (c.layer_in-layer.result ≡ layer_in f c.args.key.now))
           (sym (ap g.R.Rows.content c.find-old.ensures.same)) (
             c.args.format,
@@ -107,12 +108,12 @@ put_cost-requires g c =
             rising_at c.args.format (g.R.Rows.content c.args.rows.now)
                 c.args.desk.now c.args.root.now one.0 one.1 c.args.key.now c.args.value.now one.2,
             c.args.value.now,
-            omega (arith, few),
+            omega (arith, least),
             c.layer_in-layer.ensures.layer,
           ));
     }
 
-module _ (g : Over) (c : goal.After-put_cost g) (m : List Pair)
+module _ (g : Over) (c : goal.After-put_fits g) (m : List Pair)
     (st : Stands c.args.format (g.R.Rows.content c.args.rows.now) c.args.root.now m)
     (old : AreOld c.args.desk.now (numbers st)) where
   abbrev tree : RisingTree c.args.format (g.R.Rows.content c.args.rows.now) c.args.desk.now
@@ -120,53 +121,67 @@ module _ (g : Over) (c : goal.After-put_cost g) (m : List Pair)
   tree = rising_at c.args.format (g.R.Rows.content c.args.rows.now) c.args.desk.now c.args.root.now
       m st c.args.key.now c.args.value.now old
 
-  counted : c.put_cost.result ≡ pair_rows c.args.format tree c.layer_in-layer.result c.args.key.now
-      c.args.value.now
-  counted =
+  fits : MatchBool c.put_fits.result
+      (pair_rows c.args.format tree c.layer_in-layer.result c.args.key.now c.args.value.now
+      ≤ free_count c.args.desk.now.lives)
+      (free_count c.args.desk.now.lives
+      < pair_rows c.args.format tree c.layer_in-layer.result c.args.key.now c.args.value.now)
+  fits =
       subst (λ (x : Content). (q : State) (t : RisingTree c.args.format x q c.args.root.now.link)
       (w : List ℕ) → c.layer_in-layer.result ≡ layer_in c.args.format c.args.key.now
-      → c.put_cost.result ≡ pair_rows c.args.format t c.layer_in-layer.result c.args.key.now w)
+      → pair_rows c.args.format t c.layer_in-layer.result c.args.key.now w
+      + 2 * free_count c.args.desk.now.lives ≤ 2 * length c.args.desk.now.lives + 2
+      → MatchBool c.put_fits.result
+      (pair_rows c.args.format t c.layer_in-layer.result c.args.key.now w
+      ≤ free_count c.args.desk.now.lives)
+      (free_count c.args.desk.now.lives
+      < pair_rows c.args.format t c.layer_in-layer.result c.args.key.now w))
       (ap g.R.Rows.content c.find-old.ensures.same)
-      (rw c.new-sought.ensures.key at (c.put_cost.ensures.cost c.args.format)) c.args.desk.now tree
+      (rw c.new-sought.ensures.key at (c.put_fits.ensures.fits c.args.format)) c.args.desk.now tree
       c.args.value.now c.layer_in-layer.ensures.layer
+      (least_new c.args.format (g.R.Rows.content c.args.rows.now) c.args.desk.now c.args.root.now m
+      st c.args.key.now c.args.value.now old c.layer_in-layer.result)
 
-pub returns-then-put_cost-free-clause-no_room :
-    goal.returns-then-put_cost-free-clause-no_room
-returns-then-put_cost-free-clause-no_room g c m st =
-    let at = goal.at.returns-then-put_cost-free-clause-no_room g c in
+pub returns-then-not-put_fits-clause-no_room :
+    goal.returns-then-not-put_fits-clause-no_room
+returns-then-not-put_fits-clause-no_room g c m st =
+    let at = goal.at.returns-then-not-put_fits-clause-no_room g c in
     let old = any_old c.args.format (g.R.Rows.content c.args.rows.now) c.args.desk.now
     c.args.root.now c.requires.stands m st in
     let layer =
-    ap (λ (n : ℕ). pair_rows c.args.format (tree g at.After-put_cost m st old) n c.args.key.now
+    ap (λ (n : ℕ). pair_rows c.args.format (tree g at.After-put_fits m st old) n c.args.key.now
     c.args.value.now) c.layer_in-layer.ensures.layer in
     let cost = cost_other c.args.format (g.R.Rows.content c.args.rows.now) c.args.desk.now
     c.args.root.now m st c.args.key.now c.args.value.now c.find-old.result
     (found g at.After-find-old m st) (sym c.is_same.ensures.same ∙ c.if-is_same.false) in
-    omega (
-      arith,
-      counted g at.After-put_cost m st old,
-      layer,
-      cost,
-      c.free-free.ensures.count,
-      c.if-put_cost-free.true,
-    )
+    let t = tree g at.After-put_fits m st old in
+    let lacks = subst (λ (b : Bool). MatchBool b
+    (pair_rows c.args.format t c.layer_in-layer.result c.args.key.now c.args.value.now
+    ≤ free_count c.args.desk.now.lives)
+    (free_count c.args.desk.now.lives
+    < pair_rows c.args.format t c.layer_in-layer.result c.args.key.now c.args.value.now))
+    c.if-not-put_fits.true (fits g at.After-put_fits m st old) in
+    omega (arith, lacks, layer, cost)
 
 pub put_at-new-requires-clause-tree : goal.put_at-new-requires-clause-tree
 put_at-new-requires-clause-tree g c =
-    let at = (goal.at.put_at-new-requires-clause-tree g c).After-put_cost in
+    let at = (goal.at.put_at-new-requires-clause-tree g c).After-put_fits in
     rw (sym c.new-sought.ensures.key) at
     (subst (λ (x : Content).
     (t : RisingTree c.args.format x c.args.desk.now c.args.root.now.link)
     × (pair_rows c.args.format t c.layer_in-layer.result c.args.key.now c.args.value.now
     ≤ free_count c.args.desk.now.lives))
-    (sym (ap g.R.Rows.content (c.put_cost.ensures.same ∙ c.find-old.ensures.same))) (
+    (sym (ap g.R.Rows.content (c.put_fits.ensures.same ∙ c.find-old.ensures.same))) (
       tree g at c.requires.stands.0 c.requires.stands.1 c.requires.stands.2,
-      omega (
-        arith,
-        counted g at c.requires.stands.0 c.requires.stands.1 c.requires.stands.2,
-        c.free-free.ensures.count,
-        c.if-put_cost-free.false,
-      ),
+      subst (λ (b : Bool). MatchBool b
+          (pair_rows c.args.format
+          (tree g at c.requires.stands.0 c.requires.stands.1 c.requires.stands.2)
+          c.layer_in-layer.result c.args.key.now c.args.value.now
+          ≤ free_count c.args.desk.now.lives)
+          (free_count c.args.desk.now.lives < pair_rows c.args.format
+          (tree g at c.requires.stands.0 c.requires.stands.1 c.requires.stands.2)
+          c.layer_in-layer.result c.args.key.now c.args.value.now)) c.if-not-put_fits.false
+          (fits g at c.requires.stands.0 c.requires.stands.1 c.requires.stands.2),
     ))
 
 -- ---- the pair is put
@@ -186,7 +201,7 @@ module _ (g : Over) (c : goal.After-put_at-new g)
       (with_pair c.args.format t c.layer_in-layer.result c.args.key.now c.args.value.now)
       c.put_at-new.result (in_rising c.args.format t)
       (pair_rows c.args.format t c.layer_in-layer.result c.args.key.now c.args.value.now))
-      (ap g.R.Rows.content (c.put_cost.ensures.same ∙ c.find-old.ensures.same))
+      (ap g.R.Rows.content (c.put_fits.ensures.same ∙ c.find-old.ensures.same))
       (rw c.new-sought.ensures.key at c.put_at-new.ensures.put) in
       after_other c.args.format (g.R.Rows.content c.args.rows.now) c.args.desk.now c.args.root.now
       c.args.key.now c.args.value.now c.within_limits.ensures.key c.within_limits.ensures.value
@@ -238,35 +253,35 @@ returns-then-is_same-clause-no_room g c = search rules
 pub returns-then-is_same-clause-untouched : goal.returns-then-is_same-clause-untouched
 returns-then-is_same-clause-untouched g c = search rules
 
-pub returns-then-put_cost-free-clause-stands : goal.returns-then-put_cost-free-clause-stands
-returns-then-put_cost-free-clause-stands g c = search rules
+pub returns-then-not-put_fits-clause-stands : goal.returns-then-not-put_fits-clause-stands
+returns-then-not-put_fits-clause-stands g c = search rules
 
-pub returns-then-put_cost-free-clause-value : goal.returns-then-put_cost-free-clause-value
-returns-then-put_cost-free-clause-value g c = search rules
+pub returns-then-not-put_fits-clause-value : goal.returns-then-not-put_fits-clause-value
+returns-then-not-put_fits-clause-value g c = search rules
 
-pub returns-then-put_cost-free-clause-written : goal.returns-then-put_cost-free-clause-written
-returns-then-put_cost-free-clause-written g c = search rules
+pub returns-then-not-put_fits-clause-written : goal.returns-then-not-put_fits-clause-written
+returns-then-not-put_fits-clause-written g c = search rules
 
-pub returns-then-put_cost-free-clause-cost : goal.returns-then-put_cost-free-clause-cost
-returns-then-put_cost-free-clause-cost g c = search rules
+pub returns-then-not-put_fits-clause-cost : goal.returns-then-not-put_fits-clause-cost
+returns-then-not-put_fits-clause-cost g c = search rules
 
-pub returns-then-put_cost-free-clause-changes : goal.returns-then-put_cost-free-clause-changes
-returns-then-put_cost-free-clause-changes g c = search rules
+pub returns-then-not-put_fits-clause-changes : goal.returns-then-not-put_fits-clause-changes
+returns-then-not-put_fits-clause-changes g c = search rules
 
-pub returns-then-put_cost-free-clause-versions : goal.returns-then-put_cost-free-clause-versions
-returns-then-put_cost-free-clause-versions g c = search rules
+pub returns-then-not-put_fits-clause-versions : goal.returns-then-not-put_fits-clause-versions
+returns-then-not-put_fits-clause-versions g c = search rules
 
-pub returns-then-put_cost-free-clause-made : goal.returns-then-put_cost-free-clause-made
-returns-then-put_cost-free-clause-made g c = search rules
+pub returns-then-not-put_fits-clause-made : goal.returns-then-not-put_fits-clause-made
+returns-then-not-put_fits-clause-made g c = search rules
 
-pub returns-then-put_cost-free-clause-same_value : goal.returns-then-put_cost-free-clause-same_value
-returns-then-put_cost-free-clause-same_value g c = search rules
+pub returns-then-not-put_fits-clause-same_value : goal.returns-then-not-put_fits-clause-same_value
+returns-then-not-put_fits-clause-same_value g c = search rules
 
-pub returns-then-put_cost-free-clause-beside : goal.returns-then-put_cost-free-clause-beside
-returns-then-put_cost-free-clause-beside g c = search rules
+pub returns-then-not-put_fits-clause-beside : goal.returns-then-not-put_fits-clause-beside
+returns-then-not-put_fits-clause-beside g c = search rules
 
-pub returns-then-put_cost-free-clause-untouched : goal.returns-then-put_cost-free-clause-untouched
-returns-then-put_cost-free-clause-untouched g c = search rules
+pub returns-then-not-put_fits-clause-untouched : goal.returns-then-not-put_fits-clause-untouched
+returns-then-not-put_fits-clause-untouched g c = search rules
 
 pub put_at-new-requires-clause-layer : goal.put_at-new-requires-clause-layer
 put_at-new-requires-clause-layer g c = search rules
@@ -275,7 +290,10 @@ pub put_at-new-requires-clause-low : goal.put_at-new-requires-clause-low
 put_at-new-requires-clause-low g c = search rules
 
 pub put_at-new-requires-clause-ready : goal.put_at-new-requires-clause-ready
-put_at-new-requires-clause-ready g c = record { few = search rules; free = search rules }
+put_at-new-requires-clause-ready g c = record {
+  few = c.put_fits.ensures.few;
+  free = search rules;
+}
 
 pub returns-clause-beside : goal.returns-clause-beside
 returns-clause-beside g c = search rules

@@ -1,6 +1,9 @@
 -- A remove makes no more new rows than its tree has, and a put no more than twice as many and two.
 use Rattle.mst_key.specs.declared.format.Format.{Format}
-use Rattle.std.proofs.Common.{◌≡◌, ℕ, ◌+◌, ◌*◌, ◌≤◌, false, List, length, refl, arith, length-append}
+use Rattle.std.proofs.Common.{◌≡◌, ℕ, ◌+◌, ◌*◌, ◌<◌, ◌≤◌, Bool, true, false, List, length, refl, arith, length-append}
+use Rattle.std.specs.Prelude.{nat_le}
+use Rattle.std.specs.Bool.{MatchBool}
+use Rattle.std.proofs.lemmas.Bool.Decides.{nat_tests}
 use Rattle.mst_node.specs.Tree.{Tree, empty, node, Entries, last, entry, entry_count}
 use Rattle.mst_node.specs.Trail.{by_order}
 use Rattle.mst_arena.specs.Standing.{Placed, none, head, Chain, end, cell, tree_of, entries_of, used, chain_used}
@@ -175,3 +178,13 @@ mutual
       (λ less. omega (arith, put_le child l k v, counted rest))
       (λ same. omega (arith, counted rest))
       (λ more. omega (arith, put_gap_le rest l k v))
+
+-- ---- whether so many rows are free
+
+pub decided : (n f cost free : ℕ) → n ≡ cost → f ≡ free
+    → MatchBool (nat_le n f) (cost ≤ free) (free < cost)
+decided n f cost free counted is = go (nat_le n f) refl
+  where
+    go : (t : Bool) → nat_le n f ≡ t → MatchBool t (cost ≤ free) (free < cost)
+    go true e = let le : n ≤ f = grind (arith, nat_tests) in omega (arith, le, counted, is)
+    go false e = let lt : f < n = grind (arith, nat_tests) in omega (arith, lt, counted, is)

@@ -106,7 +106,8 @@ copy_in r e = record { at = r; child = e.child; key = e.key; value = e.value }
 pub at_self : (x : ℕ) → bit (eqb x x) ≡ 1
 at_self x = let e : eqb x x ≡ true = grind (arith, nat_tests) in ap bit e
 
-module _ (format : Format) (w w' : NodeWriter) (c c' : Content) (s s' : State) (e : PlacedEntry)
+module _ {A : Type 0} (format : Format) (w w' : NodeWriter A) (c c' : Content) (s s' : State)
+    (e : PlacedEntry)
     (rest ws : List PlacedEntry) (behind link count r : ℕ)
     (run : Run format c s link count behind (e ∷ rest)) (going : Going format w c s ws)
     (once : (x : ℕ) → times x (entries_used ws) + times x (own (e ∷ rest)) + times x
@@ -286,7 +287,7 @@ copies-append (c ∷ cs) ds [] fs same more = absurd same
 copies-append (c ∷ cs) ds (e ∷ es) fs same more =
     (same.0, same.1, same.2, copies-append cs ds es fs same.3 more)
 
-abbrev copied_none : (format : Format) (w : NodeWriter) (c : Content) (s : State)
+abbrev copied_none : {A : Type 0} (format : Format) (w : NodeWriter A) (c : Content) (s : State)
     (ws : List PlacedEntry) → Going format w c s ws → Copied format w w c c s s ws []
 copied_none format w c s ws going = record {
   copies = [];
@@ -299,7 +300,8 @@ copied_none format w c s ws going = record {
   counted = omega arith;
 }
 
-module _ (format : Format) (w0 w1 w2 : NodeWriter) (c0 c1 c2 : Content) (s0 s1 s2 : State)
+module _ {A : Type 0} (format : Format) (w0 w1 w2 : NodeWriter A) (c0 c1 c2 : Content)
+    (s0 s1 s2 : State)
     (ws es fs : List PlacedEntry) (one : Copied format w0 w1 c0 c1 s0 s1 ws es)
     (two : Copied format w1 w2 c1 c2 s1 s2 (ws ++ one.copies) fs) where
   abbrev copied_then : Copied format w0 w2 c0 c2 s0 s2 ws (es ++ fs)
@@ -350,10 +352,11 @@ module _ (format : Format) (w0 w1 w2 : NodeWriter) (c0 c1 c2 : Content) (s0 s1 s
 
 -- ---- so many of them
 
-module _ (format : Format) {w0 : NodeWriter} {c0 : Content} {s0 : State} {from count : ℕ}
+module _ {A : Type 0} (format : Format) {w0 : NodeWriter A} {c0 : Content} {s0 : State}
+    {from count : ℕ}
     (k : Copying format w0 c0 s0 from count) where
   -- the first i entries are copied
-  pub record Progress (i : ℕ) (w : NodeWriter) (c : Content) (s : State) (link : ℕ) : Type 0 where
+  pub record Progress (i : ℕ) (w : NodeWriter A) (c : Content) (s : State) (link : ℕ) : Type 0 where
     pub first : List PlacedEntry
     pub rest : List PlacedEntry
     pub split : k.es ≡ first ++ rest
@@ -383,13 +386,13 @@ module _ (format : Format) {w0 : NodeWriter} {c0 : Content} {s0 : State} {from c
   }
 
   -- the next entry to be copied
-  pub record Next (i : ℕ) (w : NodeWriter) (c : Content) (s : State) (link : ℕ)
+  pub record Next (i : ℕ) (w : NodeWriter A) (c : Content) (s : State) (link : ℕ)
       (p : Progress i w c s link) : Type 0 where
     pub entry : PlacedEntry
     pub more : List PlacedEntry
     pub is : p.rest ≡ entry ∷ more
 
-  pub some_left : {i : ℕ} {w : NodeWriter} {c : Content} {s : State} {link : ℕ}
+  pub some_left : {i : ℕ} {w : NodeWriter A} {c : Content} {s : State} {link : ℕ}
       (p : Progress i w c s link) → i < count → Next i w c s link p
   some_left {i = i} {w = w} {c = c} {s = s} {link = link} p lt = go p.rest refl
     where
@@ -405,7 +408,8 @@ module _ (format : Format) {w0 : NodeWriter} {c0 : Content} {s0 : State} {from c
           ))
       go (x ∷ xs) e = record { entry = x; more = xs; is = e }
 
-  module _ {i : ℕ} {w : NodeWriter} {c : Content} {s : State} {link : ℕ} {p : Progress i w c s link}
+  module _ {i : ℕ} {w : NodeWriter A} {c : Content} {s : State} {link : ℕ}
+      {p : Progress i w c s link}
       (n : Next i w c s link p) where
     pub next_run : Run format c s link p.left k.behind (n.entry ∷ n.more)
     next_run = subst (Run format c s link p.left k.behind) n.is p.run
@@ -431,7 +435,7 @@ module _ (format : Format) {w0 : NodeWriter} {c0 : Content} {s0 : State} {from c
         subst (λ (l : List PlacedEntry). (x : ℕ) → times x (entries_used (k.ws ++ p.copied.copies))
         + times x (own l) + times x (gaps_used l) ≤ 1) n.is p.once
 
-    pub steps : (w' : NodeWriter) (c' : Content) (s' : State) (r : ℕ) → w.next ≡ Some r
+    pub steps : (w' : NodeWriter A) (c' : Content) (s' : State) (r : ℕ) → w.next ≡ Some r
         → Moves s s' (ahead w'.next) (n.entry.at ∷ []) → KeepsBut (ahead w.next) c c'
         → IsWritten format w' c' ((k.ws ++ p.copied.copies) ++ copy_in r n.entry ∷ [])
         → Progress (i + 1) w' c' s' (link_from k.behind n.more)
@@ -462,7 +466,7 @@ module _ (format : Format) {w0 : NodeWriter} {c0 : Content} {s0 : State} {from c
               );
         }
 
-  pub ends : {i : ℕ} {w : NodeWriter} {c : Content} {s : State} {link : ℕ} → Progress i w c s link
+  pub ends : {i : ℕ} {w : NodeWriter A} {c : Content} {s : State} {link : ℕ} → Progress i w c s link
       → i ≡ count → (link ≡ k.behind) × Copied format w0 w c0 c s0 s k.ws k.es
   ends {w = w} {c = c} {s = s} {link = link} p all = go p.rest refl
     where
@@ -518,7 +522,7 @@ still_writable s s' t k blank blank' m same ready = record {
   free = subst (FreeIsBlank s'.lives) (sym same) (blank_free s s' t k m blank ready.free);
 }
 
-pub blank_ahead : (w : NodeWriter) (blank : ℕ → Bool)
+pub blank_ahead : {A : Type 0} (w : NodeWriter A) (blank : ℕ → Bool)
     → ((r : ℕ) → In r (ahead w.next) → IsTrue (blank r)) → IfSome w.next (λ r. IsTrue (blank r))
 blank_ahead w blank each = go w.next each
   where
@@ -561,7 +565,8 @@ one_ahead None = omega arith
 one_ahead (Some r) = omega arith
 
 -- the new row is none of those that are written, nor of an old tree
-pub row_out : (format : Format) (w : NodeWriter) (c : Content) (s : State) (ws : List PlacedEntry)
+pub row_out : {A : Type 0} (format : Format) (w : NodeWriter A) (c : Content) (s : State)
+    (ws : List PlacedEntry)
     (p : Placed) (r : ℕ) → Going format w c s ws → w.next ≡ Some r
     → ((x : ℕ) → In x (used p) → IsOld s x) → IsOut r (entries_used ws ++ used p)
 row_out format w c s ws p r going is old =

@@ -1,4 +1,5 @@
--- How many rows are free, if a list has each of the other rows once.
+-- How many rows are free, if a list has each of the other rows once, and at most, beside rows that
+-- are alive.
 use Rattle.std.proofs.Common.{◌≡◌, ℕ, zero, suc, ◌+◌, ◌<◌, ◌≤◌, Bool, true, false, cond, eqb, List, [], ◌∷◌, length, map, filter, Option, Some, None, refl, sym, ◌∙◌, ap, arith}
 use Rattle.std.specs.Prelude.{◌↔◌, slice_get, option_map}
 use Rattle.std.specs.List.{list_any}
@@ -6,7 +7,11 @@ use Rattle.std.proofs.lemmas.Bool.Decides.{nat_tests}
 use Rattle.std.proofs.lemmas.Option.{slice_get-map}
 use Rattle.mst_arena.specs.Lives.{State, version, reached_at, reaches, reaches_life, free_count, swept_life}
 use Rattle.mst_arena.specs.Lists.{In, times, bit, is_at, Lists}
-use Rattle.mst_arena.specs.Standing.{IsDistinct}
+use Rattle.mst_key.specs.declared.format.Format.{Format}
+use Rattle.mst_key.specs.Map.{Pair}
+use Rattle.mst_arena.specs.Content.{Content}
+use Rattle.mst_arena.specs.Standing.{IsDistinct, Stands, tree_of, used, numbers}
+use Rattle.mst_arena.specs.declared.row.Root.{Root}
 use Rattle.mst_arena.specs.declared.life.Life.{Life}
 use Rattle.mst_arena.specs.declared.life.Life.TheVariants.{Free, Born, Dead}
 use Rattle.mst_arena.proofs.ListLemmas.{suc_test, there}
@@ -17,6 +22,10 @@ use Rattle.mst_path.proofs.lemmas.versions.Changes.{distinct_times}
 use Rattle.mst_arena.proofs.ListLemmas.{one_row}
 use Rattle.mst_path.proofs.lemmas.versions.Reached.{some_reach, by_place}
 use Rattle.mst_path.proofs.lemmas.rows.RowCounts.{as_many}
+use Rattle.mst_path.specs.Changing.{AreOld}
+use Rattle.mst_path.specs.Moves.{IsAlive}
+use Rattle.mst_path.proofs.lemmas.cost.Sizes.{size, size_used}
+use Rattle.mst_path.proofs.lemmas.rows.Copies.{old_alive}
 
 -- ---- sums over the numbers below one
 
@@ -102,6 +111,45 @@ count_used lives rows lists = omega (
   same_sum (λ r. times r rows) (λ r. bit (is_at is_used (slice_get lives r))) lists (length lives),
   sum_times rows (length lives) (λ r i. there is_used lives r (omega (arith, i, lists r))),
 )
+
+sum_least : (f g : ℕ → ℕ) → ((i : ℕ) → f i ≤ g i) → (n : ℕ) → sum_to f n ≤ sum_to g n
+sum_least f g least zero = omega arith
+sum_least f g least (suc n) =
+    omega (arith, least 0, sum_least (λ i. f (suc i)) (λ i. g (suc i)) (λ i. least (suc i)) n)
+
+-- rows that are alive, none of them twice, are no more than those that are not free
+few_used : (s : State) (rows : List ℕ) → ((r : ℕ) → times r rows ≤ 1)
+    → ((r : ℕ) → In r rows → IsAlive s r) → free_count s.lives + length rows ≤ length s.lives
+few_used s rows once alive = omega (
+  arith,
+  frees_is s.lives,
+  sum_used s.lives,
+  sum_least (λ r. times r rows) (λ r. bit (is_at is_used (slice_get s.lives r))) each
+      (length s.lives),
+  sum_times rows (length s.lives) (λ r i. there is_used s.lives r (omega (arith, i, each r))),
+)
+  where
+    each : (r : ℕ) → times r rows ≤ bit (is_at is_used (slice_get s.lives r))
+    each r = go (times r rows) refl
+      where
+        go : (n : ℕ) → times r rows ≡ n → times r rows ≤ bit (is_at is_used (slice_get s.lives r))
+        go zero e = omega (arith, e)
+        go (suc n) e =
+            let a = alive r (omega (arith, e)) in
+            let one : bit (is_at is_used (slice_get s.lives r)) ≡ 1 =
+            ap (λ o. bit (is_at is_used o)) a.1 in
+            omega (arith, once r, one)
+
+-- a tree that stands has no more rows than are not free
+pub rows_beside_free : (format : Format) (c : Content) (s : State) (root : Root) (m : List Pair)
+    (stands : Stands format c root m) → AreOld s (numbers stands)
+    → free_count s.lives + size (tree_of format stands.tree.placed) ≤ length s.lives
+rows_beside_free format c s root m stands old =
+    let all =
+    few_used s (used stands.tree.placed)
+    (distinct_times (used stands.tree.placed) stands.tree.once) (λ r i. old_alive s r (old r i))
+    in
+    omega (arith, all, size_used format stands.tree.placed)
 
 -- ---- after a sweep
 

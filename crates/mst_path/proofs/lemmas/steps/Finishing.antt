@@ -30,7 +30,7 @@ use Rattle.mst_path.proofs.lemmas.rows.Copies.{at_self, kept_at, all_in, new_not
 
 -- ---- one more entry, with any tree before it
 
-module _ (format : Format) (w w' : NodeWriter) (c c' : Content) (s s' : State)
+module _ {A : Type 0} (format : Format) (w w' : NodeWriter A) (c c' : Content) (s s' : State)
     (ws : List PlacedEntry) (r : ℕ) (child : Placed) (key value : List ℕ) (killed : List ℕ)
     (going : Going format w c s ws) (is : w.next ≡ Some r)
     (moves : Moves s s' (ahead w'.next) killed)
@@ -136,7 +136,8 @@ entries-front (e ∷ es) fs more = ap (λ (x : Entries). entry e.child e.key e.v
 
 -- ---- the head is written
 
-module _ (format : Format) (w : NodeWriter) (c c' : Content) (s : State) (es : List PlacedEntry)
+module _ {A : Type 0} (format : Format) (w : NodeWriter A) (c c' : Content) (s : State)
+    (es : List PlacedEntry)
     (tail : Placed) (going : Going format w c s es) (tail_piece : Piece format c s tail)
     (head_new : IsNew s w.head) where
   placed : Placed
@@ -208,7 +209,8 @@ no_entries (e ∷ es) tail len has = absurd (omega (arith, len))
 
 -- ---- no entries at the back
 
-module _ (format : Format) (w : NodeWriter) (c c' : Content) (s : State) (parts : Parts)
+module _ {A : Type 0} (format : Format) (w : NodeWriter A) (c c' : Content) (s : State)
+    (parts : Parts)
     (r : Rest format w c s parts) (at : Root) where
   pub at_seam : IsWriter w → w.left ≡ parts.back.count → parts.back.count ≡ 0 → IsRootOf format
       (head w.head w.layer (chain_of r.ws r.seam)) at
@@ -246,7 +248,8 @@ module _ (format : Format) (w : NodeWriter) (c c' : Content) (s : State) (parts 
         counted = omega (arith, left, zero_count);
       }
 
-pub head_out : (format : Format) (w : NodeWriter) (c : Content) (s : State) (parts : Parts)
+pub head_out : {A : Type 0} (format : Format) (w : NodeWriter A) (c : Content) (s : State)
+    (parts : Parts)
     (r : Rest format w c s parts) → IsOut w.head (entries_used r.ws ++ used r.seam)
 head_out format w c s parts r = out_of_times w.head (entries_used r.ws ++ used r.seam)
     (omega (
@@ -259,7 +262,8 @@ head_out format w c s parts r = out_of_times w.head (entries_used r.ws ++ used r
 
 -- ---- the first entry at the back
 
-pub record FirstBack (format : Format) (w : NodeWriter) (c : Content) (s : State) (parts : Parts)
+pub record FirstBack {A : Type 0} (format : Format) (w : NodeWriter A) (c : Content) (s : State)
+    (parts : Parts)
     (r : Rest format w c s parts) : Type 0 where
   pub entry : PlacedEntry
   pub more : List PlacedEntry
@@ -270,7 +274,8 @@ pub record FirstBack (format : Format) (w : NodeWriter) (c : Content) (s : State
       (EntryRow (link_of entry.child) (link_from 0 more) entry.key entry.value)
   pub old : IsOld s (parts.back.first - 1)
 
-pub first_back : (format : Format) (w : NodeWriter) (c : Content) (s : State) (parts : Parts)
+pub first_back : {A : Type 0} (format : Format) (w : NodeWriter A) (c : Content) (s : State)
+    (parts : Parts)
     (r : Rest format w c s parts) → 0 < parts.back.count → FirstBack format w c s parts r
 first_back format w c s parts r some = go r.back refl r.back_run
   where
@@ -291,7 +296,8 @@ first_back format w c s parts r some = go r.back refl r.back_run
 
 -- The first entry at the back is written after the seam, in the new row, and its old row is killed;
 -- the entries after it are at the link.
-pub record Seamed (format : Format) (w w1 : NodeWriter) (c c1 : Content) (s s1 : State)
+pub record Seamed {A : Type 0} (format : Format) (w w1 : NodeWriter A) (c c1 : Content)
+    (s s1 : State)
     (parts : Parts) (r : Rest format w c s parts) (link : ℕ) : Type 0 where
   pub back : FirstBack format w c s parts r
   pub row : ℕ
@@ -303,7 +309,8 @@ pub record Seamed (format : Format) (w w1 : NodeWriter) (c c1 : Content) (s s1 :
       ∷ [])
   pub begins : link ≡ link_from 0 back.more
 
-module _ (format : Format) {w w1 : NodeWriter} {c c1 : Content} {s s1 : State} {parts : Parts}
+module _ {A : Type 0} (format : Format) {w w1 : NodeWriter A} {c c1 : Content} {s s1 : State}
+    {parts : Parts}
     {r : Rest format w c s parts} {link : ℕ} (m : Seamed format w w1 c c1 s s1 parts r link) where
   -- the entries that are written then
   abbrev pub with_seam : List PlacedEntry
@@ -370,7 +377,7 @@ module _ (format : Format) {w w1 : NodeWriter} {c c1 : Content} {s s1 : State} {
     once = λ x. omega (arith, seam_used x, all_once x);
   }
 
-  module _ {w2 : NodeWriter} {c2 : Content} {s2 : State}
+  module _ {w2 : NodeWriter A} {c2 : Content} {s2 : State}
       (copied : Copied format w1 w2 c1 c2 s1 s2 with_seam m.back.more)
       (same_head : w2.head ≡ w.head) (same_layer : w2.layer ≡ w.layer)
       (all : (x : ℕ) → times x (ahead w2.next) ≡ 0) where
@@ -534,7 +541,8 @@ module _ (format : Format) {w w1 : NodeWriter} {c c1 : Content} {s s1 : State} {
       }
 
 -- the new row is none of those that are written, nor of the seam
-pub seam_out : (format : Format) (w : NodeWriter) (c : Content) (s : State) (parts : Parts)
+pub seam_out : {A : Type 0} (format : Format) (w : NodeWriter A) (c : Content) (s : State)
+    (parts : Parts)
     (r : Rest format w c s parts) (r0 : ℕ) → w.next ≡ Some r0
     → IsOut r0 (entries_used r.ws ++ used r.seam)
 seam_out format w c s parts r r0 is =

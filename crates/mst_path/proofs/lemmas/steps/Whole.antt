@@ -96,17 +96,19 @@ module _ (format : Format) (c c' : Content) (s s' : State) (t k ks : List ℕ) (
 -- ---- a node begins
 
 -- a node is begun: rows were taken for its head and its next entry
-pub record Begun (format : Format) (w : NodeWriter) (c : Content) (s s1 : State) : Type 0 where
+pub record Begun {A : Type 0} (format : Format) (w : NodeWriter A) (c : Content) (s s1 : State) :
+    Type 0 where
   pub moves : Moves s s1 (w.head ∷ ahead w.next) []
   pub written : IsWritten format w c []
 
-pub begun_by : (format : Format) {w : NodeWriter} {s s1 : State}
+pub begun_by : {A : Type 0} (format : Format) {w : NodeWriter A} {s s1 : State}
     → Takes s s1 (w.head ∷ ahead w.next) → ((c : Content) → IsWritten format w c []) → (c : Content)
     → Begun format w c s s1
 begun_by format {w = w} {s = s} {s1 = s1} takes written c =
     record { moves = moves_takes s s1 (w.head ∷ ahead w.next) takes; written = written c }
 
-module _ (format : Format) {w : NodeWriter} {c : Content} {s s1 : State} {parts : Parts}
+module _ {A : Type 0} (format : Format) {w : NodeWriter A} {c : Content} {s s1 : State}
+    {parts : Parts}
     (p : PartsStand format c s parts) (begun : Begun format w c s s1) where
   begin_next : next s1 ≡ next s
   begin_next = let v : version s1 ≡ version s = rw (begun.moves.current, begun.moves.versions) in
@@ -158,7 +160,7 @@ module _ (format : Format) {w : NodeWriter} {c : Content} {s s1 : State} {parts 
       go zero ae zero be zero de zero ee zero fe =
           old_alive s x (p.back_run.tail_piece.old x (omega (arith, some, ae, be, de, ee, fe)))
 
-  module _ {w2 : NodeWriter} {c2 : Content} {s2 : State}
+  module _ {w2 : NodeWriter A} {c2 : Content} {s2 : State}
       (copied : Copied format w w2 c c2 s1 s2 [] p.front) (same_head : w2.head ≡ w.head) where
     -- the rows that are taken up to here
     pub all_taken : Moves s s2 ((w.head ∷ ahead w.next) ++ copied.taken) ([] ++ own p.front)
@@ -353,7 +355,7 @@ module _ (format : Format) {w : NodeWriter} {c : Content} {s s1 : State} {parts 
     -- ---- with a new entry after the front
     module _ {child : Placed} (key value : List ℕ) {r2 : ℕ} (next2 : w2.next ≡ Some r2)
         (child_piece : Piece format c s child)
-        (apart : (x : ℕ) → in_parts format p x + times x (used child) ≤ 1) {w3 : NodeWriter}
+        (apart : (x : ℕ) → in_parts format p x + times x (used child) ≤ 1) {w3 : NodeWriter A}
         {c3 : Content} {s3 : State} (moves3 : Moves s2 s3 (ahead w3.next) [])
         (keeps3 : KeepsBut (ahead w2.next) c2 c3)
         (written3 : IsWritten format w3 c3

@@ -42,12 +42,12 @@ used_needed format (e ∷ es) =
 
 -- the rows of a node that is being written: its head's, those of its entries and of the trees
 -- before them, and that of the next entry
-abbrev pub so_far : NodeWriter → List PlacedEntry → List ℕ
+abbrev pub so_far : {A : Type 0} → NodeWriter A → List PlacedEntry → List ℕ
 so_far w es = w.head ∷ entries_used es ++ ahead w.next
 
 -- these entries of a node are planted
-pub record PlantedSoFar (format : Format) (old now : State) (before content : Content)
-    (w : NodeWriter) (xs : List TreeEntry) : Type 0 where
+pub record PlantedSoFar {A : Type 0} (format : Format) (old now : State) (before content : Content)
+    (w : NodeWriter A) (xs : List TreeEntry) : Type 0 where
   pub es : List PlacedEntry
   pub is : map (seen format) es ≡ xs
   pub written : IsWritten format w content es
@@ -100,7 +100,8 @@ root_small format old new before after t at q few =
           (takes_small old new (used q.placed) q.takes few),
     )
 
-module _ (format : Format) (old now : State) (before content : Content) (w : NodeWriter)
+module _ {A : Type 0} (format : Format) (old now : State) (before content : Content)
+    (w : NodeWriter A)
     (xs : List TreeEntry) (s : PlantedSoFar format old now before content w xs) where
   -- how many rows are free
   pub free_now : free_count now.lives + length (ahead w.next) + entries_needed xs + 1 ≡ free_count
@@ -176,7 +177,7 @@ module _ (format : Format) (old now : State) (before content : Content) (w : Nod
 
     -- ---- one more entry
 
-    pub entry_more : (now3 : State) (content3 : Content) (w2 : NodeWriter) (r : ℕ) (k v : List ℕ)
+    pub entry_more : (now3 : State) (content3 : Content) (w2 : NodeWriter A) (r : ℕ) (k v : List ℕ)
         → w.next ≡ Some r → w2.head ≡ w.head
         → ((es : List PlacedEntry) (p : Placed) (n : ℕ) → w.next ≡ Some n
         → IsWritten format w content2 es → IsRootOf format p at → HasRows content2

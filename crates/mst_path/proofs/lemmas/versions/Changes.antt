@@ -1,7 +1,7 @@
 -- From the rows that a change of the tree took and killed to what its caller learns: by the rows
 -- that stood before it and those that stand after it.
 use Rattle.mst_key.specs.declared.format.Format.{Format}
-use Rattle.std.proofs.Common.{◌≡◌, ◌≢◌, ℕ, zero, suc, ◌+◌, ◌<◌, ◌≤◌, eqb, Bool, true, false, List, [], ◌∷◌, length, Option, Some, refl, sym, ◌∙◌, ap, subst, arith}
+use Rattle.std.proofs.Common.{◌≡◌, ◌≢◌, ℕ, zero, suc, ◌+◌, ◌<◌, ◌≤◌, eqb, Bool, true, false, List, [], ◌∷◌, Option, Some, refl, sym, ◌∙◌, ap, subst, arith}
 use Rattle.std.specs.Prelude.{slice_get}
 use Rattle.std.specs.List.{AllByRecursion}
 use Rattle.std.proofs.lemmas.Bool.Decides.{nat_tests}
@@ -23,10 +23,8 @@ use Rattle.mst_path.specs.Making.{Grown}
 use Rattle.mst_path.specs.RemovePath.{SearchTree}
 use Rattle.mst_path.specs.Changing.{AreOld, MapStands, IsTaken, AreTaken, AreKilled, OthersLive, OnlyFreeWritten, SameVersions}
 use Rattle.mst_path.specs.Reached.{Changes}
-use Rattle.mst_path.proofs.lemmas.rows.Copies.{kept_at, old_alive}
-use Rattle.mst_path.proofs.lemmas.rows.Fewness.{few_alive}
+use Rattle.mst_path.proofs.lemmas.rows.Copies.{kept_at}
 use Rattle.mst_path.proofs.lemmas.trees.Joined.{unchanged}
-use Rattle.mst_path.proofs.lemmas.cost.Sizes.{size, size_used}
 
 -- ---- lists without a number twice
 
@@ -289,17 +287,6 @@ unchanged_map format c s root change m stands old same free =
     (record { link = sym stands.tree.at; sum = stands.digest ∙ sym (ap digest stands.tree.is) })
     (tree format (change m)) (stands.tree.is ∙ sym (ap (tree format) same))
     (λ x. times x (used stands.tree.placed)) (λ x. refl) (cost format m (change m)) free
-
--- a tree that stands has no more rows than there are
-pub few_rows : (format : Format) (c : Content) (s : State) (root : Root) (m : List Pair)
-    (stands : Stands format c root m) → AreOld s (numbers stands)
-    → size (tree_of format stands.tree.placed) ≤ length s.lives
-few_rows format c s root m stands old =
-    let all =
-    few_alive s (used stands.tree.placed)
-    (distinct_times (used stands.tree.placed) stands.tree.once) (λ r i. old_alive s r (old r i))
-    in
-    omega (arith, all, size_used format stands.tree.placed)
 
 -- ---- what a look-up of a key says
 

@@ -1,6 +1,6 @@
 -- A put into a map that stands at a root: what it takes, and what stands then.
 use Rattle.mst_key.specs.declared.format.Format.{Format}
-use Rattle.std.proofs.Common.{◌≡◌, ℕ, ◌≤◌, Bool, true, false, cond, List, length, Option, Some, None, refl, sym, ◌∙◌, ap, arith}
+use Rattle.std.proofs.Common.{◌≡◌, ℕ, ◌+◌, ◌*◌, ◌≤◌, Bool, true, false, cond, List, length, Option, Some, None, refl, sym, ◌∙◌, ap, arith}
 use Rattle.std.specs.Option.{option_map_or}
 use Rattle.mst_key.specs.Bytes.{IsKey, IsValue}
 use Rattle.mst_key.specs.Layer.{layer_in}
@@ -11,7 +11,7 @@ use Rattle.mst_node.specs.Tree.{Tree, tree}
 use Rattle.mst_node.specs.Cost.{same_bytes, cost}
 use Rattle.mst_node.proofs.UniqueTree.{pairs_tree}
 use Rattle.mst_arena.specs.Content.{Content}
-use Rattle.mst_arena.specs.Lives.{State}
+use Rattle.mst_arena.specs.Lives.{State, free_count}
 use Rattle.mst_arena.specs.Lists.{times}
 use Rattle.mst_arena.specs.declared.row.Root.{Root}
 use Rattle.mst_arena.specs.Standing.{tree_of, used, Stands, numbers}
@@ -20,11 +20,12 @@ use Rattle.mst_change.specs.Cost.{put_rows}
 use Rattle.mst_path.specs.Making.{Grown}
 use Rattle.mst_path.specs.PutPath.{RisingTree, in_rising, with_pair, pair_rows}
 use Rattle.mst_path.specs.Changing.{AreOld, MapStands}
-use Rattle.mst_path.proofs.lemmas.versions.Changes.{search_at, rises, AfterChange, Changed, after_change, unchanged_map, few_rows}
+use Rattle.mst_path.proofs.lemmas.versions.Changes.{search_at, rises, AfterChange, Changed, after_change, unchanged_map}
 use Rattle.mst_change.proofs.Cost.Put.{cost_put}
 use Rattle.mst_change.proofs.Put.Trees.{put_tree}
 use Rattle.mst_path.proofs.lemmas.steps.Rounds.{regrown}
 use Rattle.mst_path.proofs.lemmas.cost.Sizes.{put_le}
+use Rattle.mst_path.proofs.lemmas.rows.FreeCounts.{rows_beside_free}
 
 -- whether a value was found, and is this one
 abbrev pub is_same : Option (List ℕ) → List ℕ → Bool
@@ -74,12 +75,12 @@ module _ (format : Format) (c : Content) (s : State) (root : Root) (m : List Pai
               rises format c root m stands;
         }
 
-    pub few_new : (l : ℕ) → length s.lives ≤ 65535 → pair_rows format rising_at l k v ≤ 131072
-    few_new l few =
+    pub least_new : (l : ℕ)
+        → pair_rows format rising_at l k v + 2 * free_count s.lives ≤ 2 * length s.lives + 2
+    least_new l =
         omega (
           arith,
-          few,
-          few_rows format c s root m stands old,
+          rows_beside_free format c s root m stands old,
           put_le (tree_of format stands.tree.placed) l k v,
         )
 

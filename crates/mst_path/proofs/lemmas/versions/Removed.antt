@@ -1,6 +1,6 @@
 -- A remove from a map that stands at a root: what it takes, and what stands then.
 use Rattle.mst_key.specs.declared.format.Format.{Format}
-use Rattle.std.proofs.Common.{◌≡◌, ℕ, ◌≤◌, List, length, Option, Some, None, refl, sym, ◌∙◌, ap, arith}
+use Rattle.std.proofs.Common.{◌≡◌, ℕ, ◌+◌, ◌≤◌, List, length, Option, Some, None, refl, sym, ◌∙◌, ap, arith}
 use Rattle.std.specs.Option.{option_map_or}
 use Rattle.mst_key.specs.Map.{Pair, map_get, remove}
 use Rattle.mst_key.proofs.MapLaws.{remove-unchanged, IsMap-remove}
@@ -8,7 +8,7 @@ use Rattle.mst_node.specs.Tree.{Tree, tree}
 use Rattle.mst_node.specs.Cost.{cost}
 use Rattle.mst_node.proofs.UniqueTree.{pairs_tree}
 use Rattle.mst_arena.specs.Content.{Content}
-use Rattle.mst_arena.specs.Lives.{State}
+use Rattle.mst_arena.specs.Lives.{State, free_count}
 use Rattle.mst_arena.specs.Lists.{times}
 use Rattle.mst_arena.specs.declared.row.Root.{Root}
 use Rattle.mst_arena.specs.Standing.{tree_of, used, Stands, numbers}
@@ -17,11 +17,12 @@ use Rattle.mst_change.specs.Cost.{remove_rows}
 use Rattle.mst_path.specs.Making.{Grown}
 use Rattle.mst_path.specs.RemovePath.{SearchTree, in_tree, without, without_rows}
 use Rattle.mst_path.specs.Changing.{AreOld, MapStands}
-use Rattle.mst_path.proofs.lemmas.versions.Changes.{search_at, AfterChange, Changed, after_change, unchanged_map, few_rows}
+use Rattle.mst_path.proofs.lemmas.versions.Changes.{search_at, AfterChange, Changed, after_change, unchanged_map}
 use Rattle.mst_change.proofs.Cost.Remove.{cost_remove}
 use Rattle.mst_change.proofs.Remove.Trees.{removed_tree}
 use Rattle.mst_path.proofs.lemmas.steps.Rounds.{regrown}
 use Rattle.mst_path.proofs.lemmas.cost.Sizes.{remove_le}
+use Rattle.mst_path.proofs.lemmas.rows.FreeCounts.{rows_beside_free}
 
 module _ (format : Format) (c : Content) (s : State) (root : Root) (m : List Pair)
     (stands : Stands format c root m) (k : List ℕ) where
@@ -41,14 +42,13 @@ module _ (format : Format) (c : Content) (s : State) (root : Root) (m : List Pai
   cost_found v is = ap (λ (t : Tree). remove_rows t k) stands.tree.is ∙ sym (cost_at (Some v) is)
 
   module _ (old : AreOld s (numbers stands)) where
-    pub few_new : length s.lives ≤ 65535 → remove_rows (tree_of format stands.tree.placed) k ≤ 65535
-    few_new few =
+    pub least_new : remove_rows (tree_of format stands.tree.placed) k + free_count s.lives
+        ≤ length s.lives
+    least_new =
         omega (
           arith,
-          few,
-          few_rows format c s root m stands old,
-          remove_le
-              (tree_of format stands.tree.placed) k,
+          rows_beside_free format c s root m stands old,
+          remove_le (tree_of format stands.tree.placed) k,
         )
 
     -- the key has a value

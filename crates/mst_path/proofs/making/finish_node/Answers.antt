@@ -1,4 +1,5 @@
-use Rattle.std.proofs.Common.{arith}
+use Rattle.std.proofs.Common.{sym, subst, arith}
+use Rattle.mst_path.specs.Making.{Finished}
 use Rattle.mst_path.proofs.lemmas.rows.Copies.{small_link}
 use Rattle.mst_path.proofs.lemmas.steps.Finishing.{at_seam, head_out}
 use Rattle.mst_path.proofs.lemmas.trees.Made.{piece_alive}
@@ -17,11 +18,14 @@ finish-requires-clause-tail g c =
 
 pub returns-then-parts-eq0-clause-finished : goal.returns-then-parts-eq0-clause-finished
 returns-then-parts-eq0-clause-finished g c = λ format r.
-    at_seam format c.args.writer (g.R.Rows.content c.args.rows.now)
+    subst (λ s. Finished format c.args.writer (g.R.Rows.content c.args.rows.now)
+    (g.R.Rows.content c.finish.new.rows) c.args.desk.now s c.args.parts.now r c.finish.result)
+    (sym c.finish.ensures.desk)
+    (at_seam format c.args.writer (g.R.Rows.content c.args.rows.now)
     (g.R.Rows.content c.finish.new.rows) c.args.desk.now c.args.parts.now r c.finish.result
     c.requires.writer c.requires.left c.if-parts-eq0.true
     (c.finish.ensures.root format r.ws r.seam r.going.written r.seam_at)
     (c.finish.ensures.stands format r.ws r.seam r.going.written r.seam_at r.seam_piece.rows
     (head_out format c.args.writer (g.R.Rows.content c.args.rows.now) c.args.desk.now
     c.args.parts.now r))
-    c.finish.ensures.keeps
+    c.finish.ensures.keeps)

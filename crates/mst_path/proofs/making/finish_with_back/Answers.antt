@@ -9,7 +9,7 @@ use Rattle.mst_path.specs.Moves.{Moves}
 use Rattle.mst_path.specs.Runs.{OldPiece}
 use Rattle.mst_path.specs.Writing.{ahead, IsWritten, IsRootOf}
 use Rattle.mst_path.specs.Copying.{Copied}
-use Rattle.mst_path.specs.Making.{Rest}
+use Rattle.mst_path.specs.Making.{Rest, Finished}
 use Rattle.mst_path.proofs.lemmas.rows.Copies.{small_link, old_alive, links_are, value_there, next_some}
 use Rattle.mst_path.proofs.lemmas.steps.Finishing.{first_back, none_ahead, no_length, seam_out, Seamed, with_seam, back_copying, tail_stays, back_head_out, with_back}
 use Rattle.mst_path.proofs.lemmas.trees.Made.{piece_alive}
@@ -185,7 +185,10 @@ returns-clause-finished g c = λ format r.
     (with_seam format m ++ k.copies)) (sym kept) k.going.written in
     let tail_rows = subst (λ (x : Content). HasRows x (rows_of format r.tail)) (sym kept) stays.rows
     in
-    with_back format m k (same_head g run) (same_layer g run) (all_written g run)
+    subst (λ s. Finished format c.args.writer (g.R.Rows.content c.args.rows.now)
+    (g.R.Rows.content c.finish.new.rows) c.args.desk.now s c.args.parts.now r c.finish.result)
+    (sym c.finish.ensures.desk)
+    (with_back format m k (same_head g run) (same_layer g run) (all_written g run)
     (g.R.Rows.content c.finish.new.rows) c.finish.result
     (c.finish.ensures.root format (with_seam format m ++ k.copies) r.tail written tail_root)
     (c.finish.ensures.stands format (with_seam format m ++ k.copies) r.tail written tail_root
@@ -196,4 +199,4 @@ returns-clause-finished g c = λ format r.
     c.requires.left
     (ap (λ (o : Option ℕ). length (ahead o)) m.next_is)
     (no_length c.move_run.new.writer.next c.move_run.new.writer.left
-    c.move_run.ensures.writer.reserved (none_left g run))
+    c.move_run.ensures.writer.reserved (none_left g run)))

@@ -1,4 +1,5 @@
-use Rattle.std.proofs.Common.{◌≡◌, ◌∙◌, ◌≤◌, List, Some, None, sym, ap, subst, arith, rules}
+use Rattle.std.proofs.Common.{◌≡◌, ◌∙◌, ◌≤◌, ◌<◌, ◌+◌, List, Bool, length, Some, None, sym, ap, subst, arith, rules}
+use Rattle.std.specs.Bool.{MatchBool}
 use Rattle.mst_key.specs.Map.{Pair, map_get}
 use Rattle.mst_key.specs.declared.format.Format.{Format}
 use Rattle.mst_arena.specs.Content.{Content}
@@ -8,9 +9,9 @@ use Rattle.mst_path.specs.Making.{Grown}
 use Rattle.mst_path.specs.RemovePath.{SearchTree, in_tree, without, without_rows}
 use Rattle.mst_path.specs.Changing.{AreOld}
 use Rattle.mst_path.proofs.lemmas.versions.Changes.{any_old, search_at, rises, says}
-use Rattle.mst_path.proofs.lemmas.versions.Removed.{few_new, cost_found, AfterRemove, after_found, after_none}
+use Rattle.mst_path.proofs.lemmas.versions.Removed.{least_new, cost_found, AfterRemove, after_found, after_none}
 use Rattle.mst_path.proofs.removal.remove.Given.{Over}
-use Rattle.mst_path.proofs.removal.remove.Goals.{After-find, After-remove_cost, After-remove_at-new}
+use Rattle.mst_path.proofs.removal.remove.Goals.{After-find, After-remove_fits, After-remove_at-new}
 use Rattle.mst_path.proofs.removal.remove.Goals as goal
 
 pub find-requires : goal.find-requires
@@ -80,26 +81,27 @@ returns-in_default-clause-made g c =
 
 -- ---- the room
 
-pub remove_cost-requires : goal.remove_cost-requires
-remove_cost-requires g c =
+pub remove_fits-requires : goal.remove_fits-requires
+remove_fits-requires g c =
     let one = c.requires.stands in
-    let few = few_new c.args.format (g.R.Rows.content c.args.rows.now) c.args.desk.now
-    c.args.root.now one.0 one.1 c.args.key.now one.2 c.free-free.ensures.few in
+    let least = least_new c.args.format (g.R.Rows.content c.args.rows.now) c.args.desk.now
+    c.args.root.now one.0 one.1 c.args.key.now one.2 in
     record {
       tree =
           rw (sym c.new-sought.ensures.key) at
           (subst (λ (x : Content). (f : Format) × (q : State)
-          × (t : SearchTree f x q c.args.root.now.link) × (without_rows f t c.args.key.now ≤ 65535))
+          × (t : SearchTree f x q c.args.root.now.link)
+          × (without_rows f t c.args.key.now ≤ length c.args.desk.now.lives))
           (sym (ap g.R.Rows.content c.find.ensures.same)) (
             c.args.format,
             c.args.desk.now,
             search_at c.args.format (g.R.Rows.content c.args.rows.now)
                 c.args.desk.now c.args.root.now one.0 one.1 one.2,
-            few,
+            omega (arith, least),
           ));
     }
 
-module _ (g : Over) (c : goal.After-remove_cost g) (m : List Pair)
+module _ (g : Over) (c : goal.After-remove_fits g) (m : List Pair)
     (st : Stands c.args.format (g.R.Rows.content c.args.rows.now) c.args.root.now m)
     (old : AreOld c.args.desk.now (numbers st)) where
   abbrev tree : SearchTree c.args.format (g.R.Rows.content c.args.rows.now) c.args.desk.now
@@ -107,46 +109,55 @@ module _ (g : Over) (c : goal.After-remove_cost g) (m : List Pair)
   tree = search_at c.args.format (g.R.Rows.content c.args.rows.now) c.args.desk.now c.args.root.now
       m st old
 
-  counted : c.remove_cost.result ≡ without_rows c.args.format tree c.args.key.now
-  counted =
+  fits : MatchBool c.remove_fits.result
+      (without_rows c.args.format tree c.args.key.now ≤ free_count c.args.desk.now.lives)
+      (free_count c.args.desk.now.lives < without_rows c.args.format tree c.args.key.now)
+  fits =
       subst (λ (x : Content). (q : State) (t : SearchTree c.args.format x q c.args.root.now.link)
-      → c.remove_cost.result ≡ without_rows c.args.format t c.args.key.now)
+      → without_rows c.args.format t c.args.key.now + free_count c.args.desk.now.lives
+      ≤ length c.args.desk.now.lives
+      → MatchBool c.remove_fits.result
+      (without_rows c.args.format t c.args.key.now ≤ free_count c.args.desk.now.lives)
+      (free_count c.args.desk.now.lives < without_rows c.args.format t c.args.key.now))
       (ap g.R.Rows.content c.find.ensures.same)
-      (rw c.new-sought.ensures.key at (c.remove_cost.ensures.cost c.args.format)) c.args.desk.now
+      (rw c.new-sought.ensures.key at (c.remove_fits.ensures.fits c.args.format)) c.args.desk.now
       tree
+      (least_new c.args.format (g.R.Rows.content c.args.rows.now) c.args.desk.now c.args.root.now m
+      st c.args.key.now old)
 
-pub returns-then-remove_cost-free-clause-no_room :
-    goal.returns-then-remove_cost-free-clause-no_room
-returns-then-remove_cost-free-clause-no_room g c m st =
-    let at = goal.at.returns-then-remove_cost-free-clause-no_room g c in
+pub returns-then-not-remove_fits-clause-no_room :
+    goal.returns-then-not-remove_fits-clause-no_room
+returns-then-not-remove_fits-clause-no_room g c m st =
+    let at = goal.at.returns-then-not-remove_fits-clause-no_room g c in
     let old = any_old c.args.format (g.R.Rows.content c.args.rows.now) c.args.desk.now
     c.args.root.now c.requires.stands m st in
     let cost = cost_found c.args.format (g.R.Rows.content c.args.rows.now) c.args.desk.now
     c.args.root.now m st c.args.key.now c.in-Some.value
     (found g at.After-find m st ∙ c.in-Some.is) in
-    omega (
-      arith,
-      counted g at.After-remove_cost m st old,
-      cost,
-      c.free-free.ensures.count,
-      c.if-remove_cost-free.true,
-    )
+    let t = tree g at.After-remove_fits m st old in
+    let lacks = subst (λ (b : Bool). MatchBool b
+    (without_rows c.args.format t c.args.key.now ≤ free_count c.args.desk.now.lives)
+    (free_count c.args.desk.now.lives < without_rows c.args.format t c.args.key.now))
+    c.if-not-remove_fits.true (fits g at.After-remove_fits m st old) in
+    omega (arith, lacks, cost)
 
 pub remove_at-new-requires-clause-tree : goal.remove_at-new-requires-clause-tree
 remove_at-new-requires-clause-tree g c =
-    let at = (goal.at.remove_at-new-requires-clause-tree g c).After-remove_cost in
+    let at = (goal.at.remove_at-new-requires-clause-tree g c).After-remove_fits in
     rw (sym c.new-sought.ensures.key) at
     (subst (λ (x : Content).
     (t : SearchTree c.args.format x c.args.desk.now c.args.root.now.link)
     × (without_rows c.args.format t c.args.key.now ≤ free_count c.args.desk.now.lives))
-    (sym (ap g.R.Rows.content (c.remove_cost.ensures.same ∙ c.find.ensures.same))) (
+    (sym (ap g.R.Rows.content (c.remove_fits.ensures.same ∙ c.find.ensures.same))) (
       tree g at c.requires.stands.0 c.requires.stands.1 c.requires.stands.2,
-      omega (
-        arith,
-        counted g at c.requires.stands.0 c.requires.stands.1 c.requires.stands.2,
-        c.free-free.ensures.count,
-        c.if-remove_cost-free.false,
-      ),
+      subst (λ (b : Bool). MatchBool b
+          (without_rows c.args.format
+          (tree g at c.requires.stands.0 c.requires.stands.1 c.requires.stands.2) c.args.key.now
+          ≤ free_count c.args.desk.now.lives)
+          (free_count c.args.desk.now.lives < without_rows c.args.format
+          (tree g at c.requires.stands.0 c.requires.stands.1 c.requires.stands.2) c.args.key.now))
+          c.if-not-remove_fits.false
+          (fits g at c.requires.stands.0 c.requires.stands.1 c.requires.stands.2),
     ))
 
 -- ---- the key is removed
@@ -164,7 +175,7 @@ module _ (g : Over) (c : goal.After-remove_at-new g)
       → Grown c.args.format x (g.R.Rows.content c.remove_at-new.new.rows) c.args.desk.now
       c.remove_at-new.new.desk (without c.args.format t c.args.key.now) c.remove_at-new.result
       (in_tree c.args.format t) (without_rows c.args.format t c.args.key.now))
-      (ap g.R.Rows.content (c.remove_cost.ensures.same ∙ c.find.ensures.same))
+      (ap g.R.Rows.content (c.remove_fits.ensures.same ∙ c.find.ensures.same))
       (rw c.new-sought.ensures.key at c.remove_at-new.ensures.removed) in
       after_found c.args.format (g.R.Rows.content c.args.rows.now) c.args.desk.now c.args.root.now
       c.args.key.now c.requires.stands (g.R.Rows.content c.remove_at-new.new.rows)
@@ -214,40 +225,43 @@ returns-in_default-clause-no_room g c = search rules
 pub returns-in_default-clause-untouched : goal.returns-in_default-clause-untouched
 returns-in_default-clause-untouched g c = search rules
 
-pub returns-then-remove_cost-free-clause-stands : goal.returns-then-remove_cost-free-clause-stands
-returns-then-remove_cost-free-clause-stands g c = search rules
+pub returns-then-not-remove_fits-clause-stands : goal.returns-then-not-remove_fits-clause-stands
+returns-then-not-remove_fits-clause-stands g c = search rules
 
-pub returns-then-remove_cost-free-clause-value : goal.returns-then-remove_cost-free-clause-value
-returns-then-remove_cost-free-clause-value g c = search rules
+pub returns-then-not-remove_fits-clause-value : goal.returns-then-not-remove_fits-clause-value
+returns-then-not-remove_fits-clause-value g c = search rules
 
-pub returns-then-remove_cost-free-clause-written : goal.returns-then-remove_cost-free-clause-written
-returns-then-remove_cost-free-clause-written g c = search rules
+pub returns-then-not-remove_fits-clause-written : goal.returns-then-not-remove_fits-clause-written
+returns-then-not-remove_fits-clause-written g c = search rules
 
-pub returns-then-remove_cost-free-clause-cost : goal.returns-then-remove_cost-free-clause-cost
-returns-then-remove_cost-free-clause-cost g c = search rules
+pub returns-then-not-remove_fits-clause-cost : goal.returns-then-not-remove_fits-clause-cost
+returns-then-not-remove_fits-clause-cost g c = search rules
 
-pub returns-then-remove_cost-free-clause-changes : goal.returns-then-remove_cost-free-clause-changes
-returns-then-remove_cost-free-clause-changes g c = search rules
+pub returns-then-not-remove_fits-clause-changes : goal.returns-then-not-remove_fits-clause-changes
+returns-then-not-remove_fits-clause-changes g c = search rules
 
-pub returns-then-remove_cost-free-clause-versions :
-    goal.returns-then-remove_cost-free-clause-versions
-returns-then-remove_cost-free-clause-versions g c = search rules
+pub returns-then-not-remove_fits-clause-versions :
+    goal.returns-then-not-remove_fits-clause-versions
+returns-then-not-remove_fits-clause-versions g c = search rules
 
-pub returns-then-remove_cost-free-clause-made : goal.returns-then-remove_cost-free-clause-made
-returns-then-remove_cost-free-clause-made g c = search rules
+pub returns-then-not-remove_fits-clause-made : goal.returns-then-not-remove_fits-clause-made
+returns-then-not-remove_fits-clause-made g c = search rules
 
-pub returns-then-remove_cost-free-clause-absent : goal.returns-then-remove_cost-free-clause-absent
-returns-then-remove_cost-free-clause-absent g c = search rules
+pub returns-then-not-remove_fits-clause-absent : goal.returns-then-not-remove_fits-clause-absent
+returns-then-not-remove_fits-clause-absent g c = search rules
 
-pub returns-then-remove_cost-free-clause-beside : goal.returns-then-remove_cost-free-clause-beside
-returns-then-remove_cost-free-clause-beside g c = search rules
+pub returns-then-not-remove_fits-clause-beside : goal.returns-then-not-remove_fits-clause-beside
+returns-then-not-remove_fits-clause-beside g c = search rules
 
-pub returns-then-remove_cost-free-clause-untouched :
-    goal.returns-then-remove_cost-free-clause-untouched
-returns-then-remove_cost-free-clause-untouched g c = search rules
+pub returns-then-not-remove_fits-clause-untouched :
+    goal.returns-then-not-remove_fits-clause-untouched
+returns-then-not-remove_fits-clause-untouched g c = search rules
 
 pub remove_at-new-requires-clause-ready : goal.remove_at-new-requires-clause-ready
-remove_at-new-requires-clause-ready g c = record { few = search rules; free = search rules }
+remove_at-new-requires-clause-ready g c = record {
+  few = c.remove_fits.ensures.few;
+  free = search rules;
+}
 
 pub returns-clause-beside : goal.returns-clause-beside
 returns-clause-beside g c = search rules

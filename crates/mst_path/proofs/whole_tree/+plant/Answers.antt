@@ -300,7 +300,10 @@ plant_node-returns-clause-planted g t c =
     c.loop-entry.invariant.writer.reserved (none_left g t behind)
     (c.finish.ensures.root c.args.format) (c.finish.ensures.stands c.args.format)
     c.finish.ensures.keeps in
-    subst planted
+    subst (λ s. Planted c.args.format c.args.desk.now s (g.R.Rows.content c.args.rows.now)
+    (g.R.Rows.content c.finish.new.rows) (tree_of c.args.format n) c.finish.result)
+    (sym c.finish.ensures.desk)
+    (subst planted
     (ap (λ xs. node c.args.format (out-Node A n).layer
     (with_entries xs (last (tail c.args.format A n)))) (whole g t behind)
-    ∙ sym (node_out c.args.format A n)) made
+    ∙ sym (node_out c.args.format A n)) made)

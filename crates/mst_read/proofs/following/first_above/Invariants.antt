@@ -7,11 +7,14 @@ use Rattle.mst_read.proofs.Ways.{BeginsAbove}
 use Rattle.mst_read.proofs.following.first_above.Given as goal
 
 -- the first such entry of the rest is the first of all
-abbrev pub invariant-loop : goal.invariant-loop
-invariant-loop g l = record {
-  same : l.rows ≡ l.initial.rows;
-  onward : (f : Format) (c : Chain) → LiesBehind f (g.R.Rows.content l.initial.rows) l.initial.head
-      c
-      → Onward f (g.R.Rows.content l.initial.rows) l.head.tail l.link l.counter l.end
+abbrev pub invariant-loop-count : goal.invariant-loop-count
+invariant-loop-count g l = record {
+  same : l.rows ≡ l.fn.rows;
+  onward : (f : Format) (c : Chain) → LiesBehind f (g.R.Rows.content l.fn.rows) l.fn.head c
+      → Onward f (g.R.Rows.content l.fn.rows) l.fn.head.tail l.first 0 l.count
       (BeginsAbove (Some l.bound) c);
 }
+
+-- fewer entries are left
+abbrev pub decreases-loop-count : goal.decreases-loop-count
+decreases-loop-count g l = l.count

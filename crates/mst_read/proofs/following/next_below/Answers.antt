@@ -1,10 +1,10 @@
 use Rattle.std.proofs.Common.{Some, ◌∙◌, sym, ap, subst, arith}
 use Rattle.std.specs.Option.{option_copied}
-use Rattle.mst_arena.specs.Row.{entry_links, entry_value}
+use Rattle.mst_arena.specs.Row.{entry_links, entry_pair}
 use Rattle.mst_read.specs.Search.{LinkStands}
 use Rattle.mst_read.proofs.Still.{there_still, read_before}
 use Rattle.mst_read.proofs.Descend.{Ahead, there_at, reached_at, node_there, ahead_there, reach, lower, inside, at_nothing, depth_is}
-use Rattle.mst_read.proofs.Successor.{Answers, HasPair, pair_at, pair_parts, pair_read, at_start, in_tail, before_entry, pair_met}
+use Rattle.mst_read.proofs.Successor.{Answers, HasPair, pair_at, pair_there, at_start, in_tail, before_entry, pair_met}
 use Rattle.mst_read.proofs.following.next_below.Given.{Over}
 use Rattle.mst_read.proofs.following.next_below.Goals.{After-head_at-top-in-Some-first_entry, After-head_at-top-in-None}
 use Rattle.mst_read.proofs.following.next_below.Goals as goal
@@ -130,34 +130,18 @@ returns-in_err-row-clause-found g c f m s =
     c.from_residual.ensures ∙ sym (ap (pair_at (g.R.Rows.content c.args.rows.now)) c.in_err-row.was)
     ∙ at_nothing (c.loop-top.invariant.reached (f, m, s)) c.in_default.is
 
-pub entry-entry-requires : goal.entry-entry-requires
-entry-entry-requires g c =
+pub pair-requires : goal.pair-requires
+pair-requires g c =
     let there = subst (HasPair (g.R.Rows.content c.args.rows.now)) c.in_ok-row.was
     c.loop-top.invariant.pair in
     record {
       there = there_still (ap g.R.Rows.content c.loop-top.invariant.same) entry_links
-          c.in_ok-row.row (pair_parts (g.R.Rows.content c.args.rows.now c.in_ok-row.row) there).0;
-    }
-
-pub value-requires : goal.value-requires
-value-requires g c =
-    let there = subst (HasPair (g.R.Rows.content c.args.rows.now)) c.in_ok-row.was
-    c.loop-top.invariant.pair in
-    record {
-      there =
-          there_still (ap g.R.Rows.content (c.entry-entry.ensures.same ∙ c.loop-top.invariant.same))
-          entry_value c.in_ok-row.row
-          (pair_parts (g.R.Rows.content c.args.rows.now c.in_ok-row.row) there).1;
+          c.in_ok-row.row (pair_there (g.R.Rows.content c.args.rows.now c.in_ok-row.row) there);
     }
 
 pub returns-clause-found : goal.returns-clause-found
 returns-clause-found g c f m s =
-    let links = read_before (ap g.R.Rows.content c.loop-top.invariant.same) entry_links
-    c.in_ok-row.row c.entry-entry.ensures.value in
-    let value =
-    read_before (ap g.R.Rows.content (c.entry-entry.ensures.same ∙ c.loop-top.invariant.same))
-    entry_value c.in_ok-row.row c.value.ensures.value in
-    sym (pair_read (g.R.Rows.content c.args.rows.now c.in_ok-row.row) c.entry-entry.result
-    c.value.result links value)
+    sym (read_before (ap g.R.Rows.content c.loop-top.invariant.same) entry_pair c.in_ok-row.row
+    c.pair.ensures.value)
     ∙ sym (ap (pair_at (g.R.Rows.content c.args.rows.now)) c.in_ok-row.was)
     ∙ at_nothing (c.loop-top.invariant.reached (f, m, s)) c.in_default.is

@@ -1,20 +1,23 @@
-use Rattle.std.proofs.Common.{◌∙◌, ap}
-use Rattle.mst_read.proofs.Ways.{into_gap, at_entry, past_entry}
+use Rattle.std.proofs.Common.{◌∙◌, refl, ap, Some, arith}
+use Rattle.mst_read.proofs.Stops.{stops_there, place_found, link_some}
 use Rattle.mst_read.proofs.lookup.seek.Goals as goal
 
-pub returns-in-Child-clause-place : goal.returns-in-Child-clause-place
-returns-in-Child-clause-place g c f chain lies =
-    into_gap c.args.key.now chain (c.loop.invariant.onward f chain lies) c.loop-test.true
-    (ap g.R.Rows.content c.loop.invariant.same) c.way.ensures.way c.in-Child.is
+pub search-requires : goal.search-requires
+search-requires g c = record { there = stops_there c.requires.lies.2 c.args.key.now }
 
-pub returns-in-Here-clause-place : goal.returns-in-Here-clause-place
-returns-in-Here-clause-place g c f chain lies =
-    at_entry c.args.key.now chain (c.loop.invariant.onward f chain lies) c.loop-test.true
-    (ap g.R.Rows.content c.loop.invariant.same) c.way.ensures.way c.in-Here.is
+pub returns-in-Gap-clause-place : goal.returns-in-Gap-clause-place
+returns-in-Gap-clause-place g c f chain lies =
+    place_found lies c.args.key.now (c.search.ensures.stop ∙ ap Some c.in-Gap.is) refl
 
-pub loop-preserved : goal.loop-preserved
-loop-preserved g c = record {
-  same = c.way.ensures.same ∙ c.loop.invariant.same;
-  onward = λ f chain lies. past_entry c.args.key.now chain (c.loop.invariant.onward f chain lies)
-      c.loop-test.true (ap g.R.Rows.content c.loop.invariant.same) c.way.ensures.way c.in-Next.is;
-}
+pub overflow_sub-result : goal.overflow_sub-result
+overflow_sub-result g c =
+    let some = link_some c.requires.lies.2 c.args.key.now c.search.ensures.stop c.in-Held.is in
+    omega (arith, some)
+
+pub returns-in-Held-clause-place : goal.returns-in-Held-clause-place
+returns-in-Held-clause-place g c f chain lies =
+    place_found lies c.args.key.now (c.search.ensures.stop ∙ ap Some c.in-Held.is) refl
+
+pub returns-in-End-clause-place : goal.returns-in-End-clause-place
+returns-in-End-clause-place g c f chain lies =
+    place_found lies c.args.key.now (c.search.ensures.stop ∙ ap Some c.in-End.is) refl

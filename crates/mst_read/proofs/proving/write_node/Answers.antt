@@ -1,11 +1,14 @@
-use Rattle.std.proofs.Common.{◌≡◌, ◌-◌, ◌++◌, length, ℕ, List, [], Some, ◌∙◌, sym, ap, subst, refl, arith, length-append}
+use Rattle.std.proofs.Common.{◌≡◌, ◌-◌, ◌++◌, length, ℕ, List, [], Option, Some, IsSome, ◌∙◌, sym, ap, subst, refl, arith, length-append}
 use Rattle.std.specs.Prelude.{IfSome}
 use Rattle.mst_node.specs.Text.{heading, child_text, child_digest, counted, held_text, held_of}
-use Rattle.mst_arena.specs.Row.{entry_value}
+use Rattle.mst_arena.specs.Row.{entry_links, entry_pair}
+use Rattle.mst_arena.specs.declared.row.EntryLinks.{EntryLinks}
+use Rattle.mst_arena.proofs.EntryParts.{links_at}
+use Rattle.mst_key.specs.Map.{Pair}
 use Rattle.mst_arena.specs.Standing.{tree_of}
-use Rattle.mst_read.proofs.Still.{read_before}
+use Rattle.mst_read.proofs.Still.{read_before, there_still}
 use Rattle.mst_read.proofs.Walk.{at_cell, at_end, child_lies, tail_lies}
-use Rattle.mst_read.proofs.Gathering.{cell_value}
+use Rattle.mst_read.proofs.Gathering.{cell_pair}
 use Rattle.mst_read.proofs.NodeTexts.{entry_length, text_starts, text_goes_on, text_ends, short_text}
 use Rattle.mst_read.proofs.proving.write_node.Goals as goal
 
@@ -36,23 +39,35 @@ loop-init g c =
 pub digest_at-child-requires : goal.digest_at-child-requires
 digest_at-child-requires g c =
     let a = at_cell (c.loop.invariant.written.3 c.requires.lies.0 c.requires.lies.1)
-    c.loop-test.true (ap g.R.Rows.content c.loop.invariant.same) c.entry-entry.ensures.value in
+    c.loop-test.true (ap g.R.Rows.content c.loop.invariant.same)
+    (links_at (g.R.Rows.content c.loop.rows) (c.loop.link - 1) c.links-links.result
+    c.links-links.ensures.value).1 in
     record {
       lies = (
         c.args.format,
         a.child,
         child_lies a
-            (ap g.R.Rows.content (c.value-value.ensures.same ∙ c.entry-entry.ensures.same
-            ∙ c.loop.invariant.same)),
+            (ap g.R.Rows.content (c.links-links.ensures.same ∙ c.loop.invariant.same)),
       );
     }
+
+pub pair-key-requires : goal.pair-key-requires
+pair-key-requires g c = record {
+  there = there_still
+      (ap g.R.Rows.content (c.digest_at-child.ensures.same ∙ c.links-links.ensures.same))
+      entry_links (c.loop.link - 1)
+      (let Is : Option EntryLinks → Type 0 =
+      IsSome in subst Is
+      (sym (links_at (g.R.Rows.content c.loop.rows) (c.loop.link - 1) c.links-links.result
+      c.links-links.ensures.value).1) refl);
+}
 
 pub loop-preserved : goal.loop-preserved
 loop-preserved g c =
     let m = c.loop.invariant.written.0 in
     record {
-      same = c.digest_at-child.ensures.same ∙ c.value-value.ensures.same
-          ∙ c.entry-entry.ensures.same ∙ c.loop.invariant.same;
+      same = c.pair-key.ensures.same ∙ c.digest_at-child.ensures.same ∙ c.links-links.ensures.same
+          ∙ c.loop.invariant.same;
       written = (
         _,
         c.take_entry.ensures.entry m c.loop.invariant.written.1,
@@ -68,23 +83,38 @@ loop-preserved g c =
         ),
         λ chain behind.
             let here = at_cell (c.loop.invariant.written.3 chain behind) c.loop-test.true
-            (ap g.R.Rows.content c.loop.invariant.same) c.entry-entry.ensures.value in
+            (ap g.R.Rows.content c.loop.invariant.same)
+            (links_at (g.R.Rows.content c.loop.rows) (c.loop.link - 1) c.links-links.result
+            c.links-links.ensures.value).1 in
             let gap : c.digest_at-child.result ≡ child_digest (tree_of c.args.format here.child) =
             c.digest_at-child.ensures.digest c.args.format here.child
             (child_lies here
-            (ap g.R.Rows.content (c.value-value.ensures.same ∙ c.entry-entry.ensures.same
-            ∙ c.loop.invariant.same))) in
-            let read : Some c.value-value.result ≡ Some here.value =
+            (ap g.R.Rows.content (c.links-links.ensures.same ∙ c.loop.invariant.same))) in
+            let read : Some c.pair-key.result ≡ Some (
+              (links_at (g.R.Rows.content c.loop.rows) (c.loop.link - 1) c.links-links.result
+                  c.links-links.ensures.value).0,
+              here.value,
+            ) =
             sym (read_before
-            (ap g.R.Rows.content (c.entry-entry.ensures.same ∙ c.loop.invariant.same))
-            entry_value (c.loop.link - 1) c.value-value.ensures.value) ∙ cell_value here in
-            let value : c.value-value.result ≡ here.value = cc in
+            (ap g.R.Rows.content (c.digest_at-child.ensures.same ∙ c.links-links.ensures.same
+            ∙ c.loop.invariant.same))
+            entry_pair (c.loop.link - 1) c.pair-key.ensures.value) ∙ cell_pair here in
+            let pair : c.pair-key.result ≡ (
+              (links_at (g.R.Rows.content c.loop.rows) (c.loop.link - 1) c.links-links.result
+                  c.links-links.ensures.value).0,
+              here.value,
+            ) = cc in
+            let key : c.pair-key.result.0
+            ≡ (links_at (g.R.Rows.content c.loop.rows) (c.loop.link - 1) c.links-links.result
+            c.links-links.ensures.value).0 = ap (λ (p : Pair). p.0) pair in
+            let value : c.pair-key.result.1 ≡ here.value = ap (λ (p : Pair). p.1) pair in
             let written : ((m ++ child_text c.digest_at-child.result) ++ counted c.bytes.result.now)
             ++ held_text c.args.format (held_of c.args.format c.bytes-in-loop.result.now)
             ≡ ((m ++ child_text (child_digest (tree_of c.args.format here.child))) ++ counted
-            c.entry-entry.result.key) ++ held_text c.args.format
+            (links_at (g.R.Rows.content c.loop.rows) (c.loop.link - 1) c.links-links.result
+            c.links-links.ensures.value).0) ++ held_text c.args.format
             (held_of c.args.format here.value) =
-            cc (gap, value, c.bytes.ensures.bytes, c.bytes-in-loop.ensures.bytes) in
+            cc (gap, key, value, c.bytes.ensures.bytes, c.bytes-in-loop.ensures.bytes) in
             text_goes_on c.args.format m here written,
       );
     }

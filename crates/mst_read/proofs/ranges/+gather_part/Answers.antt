@@ -3,7 +3,9 @@ use Rattle.mst_key.specs.declared.key.Key.{Key}
 use Rattle.mst_key.specs.declared.value.Value.{Value}
 use Rattle.mst_node.specs.Tree.{pairs, entries_pairs}
 use Rattle.mst_arena.specs.Content.{part_at}
-use Rattle.mst_arena.specs.Row.{entry_links, entry_value}
+use Rattle.mst_arena.specs.Row.{entry_links, entry_pair}
+use Rattle.mst_arena.specs.declared.row.EntryLinks.{EntryLinks}
+use Rattle.mst_arena.proofs.EntryParts.{links_at}
 use Rattle.mst_arena.specs.Standing.{tree_of, entries_of}
 use Rattle.mst_read.specs.Span.{HeadStands, filled}
 use Rattle.mst_read.proofs.Still.{read_still}
@@ -11,7 +13,7 @@ use Rattle.mst_read.proofs.Descend.{depth_is}
 use Rattle.mst_read.proofs.Fillings.{own-ends, own-pushed, pushed}
 use Rattle.mst_read.proofs.Parts.{opened}
 use Rattle.mst_read.proofs.Walk.{AtCell, at_cell, at_end, child_lies, tail_lies}
-use Rattle.mst_read.proofs.Gathering.{Rest, SomePart, start, at_none, child_stands, child_falls, goes_on, stops, cell_value, ok_same, tail_stands, tail_falls}
+use Rattle.mst_read.proofs.Gathering.{Rest, SomePart, start, at_none, child_stands, child_falls, goes_on, stops, cell_pair, ok_same, tail_stands, tail_falls}
 use Rattle.mst_read.proofs.ranges.+gather_part.Given.{Over}
 use Rattle.mst_read.proofs.ranges.+gather_part.Goals.{After-is_wanted, in-Some+in_ok-gather_part, in_default}
 use Rattle.mst_read.proofs.ranges.+gather_part.Goals as goal
@@ -27,21 +29,25 @@ loop-init g t c = record {
 pub head_at-requires : goal.head_at-requires
 head_at-requires g t c =
     let a = at_cell (c.loop.invariant.onward c.requires.stands) c.loop-test.true
-    (ap g.R.Rows.content c.loop.invariant.same) c.entry-entry.ensures.value in
+    (ap g.R.Rows.content c.loop.invariant.same)
+    (links_at (g.R.Rows.content c.loop.rows) (c.loop.link - 1) c.links-links.result
+    c.links-links.ensures.value).1 in
     record {
       lies = (
         c.requires.stands.0,
         a.child,
         child_lies a
-            (ap g.R.Rows.content (c.entry-entry.ensures.same ∙ c.loop.invariant.same)),
+            (ap g.R.Rows.content (c.links-links.ensures.same ∙ c.loop.invariant.same)),
       );
     }
 
 pub gather_part-requires : goal.gather_part-requires
 gather_part-requires g t c κs within =
     let here = at_cell (c.loop.invariant.onward c.requires.stands) c.loop-test.true
-    (ap g.R.Rows.content c.loop.invariant.same) c.entry-entry.ensures.value in
-    let same = ap g.R.Rows.content (c.entry-entry.ensures.same ∙ c.loop.invariant.same) in
+    (ap g.R.Rows.content c.loop.invariant.same)
+    (links_at (g.R.Rows.content c.loop.rows) (c.loop.link - 1) c.links-links.result
+    c.links-links.ensures.value).1 in
+    let same = ap g.R.Rows.content (c.links-links.ensures.same ∙ c.loop.invariant.same) in
     let falls = child_falls here same c.head_at.ensures.head in
     let o =
     opened c.in-Some.is
@@ -54,32 +60,48 @@ gather_part-requires g t c κs within =
 -- ---- and then the entry's own pair is added
 
 module _ (g : Over) (n : ℕ) (c : goal.After-is_wanted g n) where
+  read : (k : List ℕ) × (part_at entry_links (g.R.Rows.content c.loop.rows) (c.loop.link - 1)
+      ≡ Some (record {
+        child = c.links-links.result.child;
+        next = c.links-links.result.next;
+        key = k;
+      }))
+  read = links_at (g.R.Rows.content c.loop.rows) (c.loop.link - 1) c.links-links.result
+      c.links-links.ensures.value
+
+  abbrev e : EntryLinks
+  e = record {
+    child = c.links-links.result.child;
+    next = c.links-links.result.next;
+    key = read.0;
+  }
+
   rows_still : c.match-head_at.rows ≡ c.args.rows.now
   rows_still = elim c.match-head_at.branch [
     | in-Some+in_ok-gather_part w ↦ w.rows-is ∙ w.gather_part.ensures.same ∙ c.head_at.ensures.same
-        ∙ c.entry-entry.ensures.same ∙ c.loop.invariant.same
-    | in_default w ↦ w.rows-is ∙ c.head_at.ensures.same ∙ c.entry-entry.ensures.same
+        ∙ c.links-links.ensures.same ∙ c.loop.invariant.same
+    | in_default w ↦ w.rows-is ∙ c.head_at.ensures.same ∙ c.links-links.ensures.same
         ∙ c.loop.invariant.same
   ]
 
   links : part_at entry_links (g.R.Rows.content c.match-head_at.rows) (c.loop.link - 1) ≡ Some
-      c.entry-entry.result
+      e
   links = read_still (ap g.R.Rows.content (rows_still ∙ sym c.loop.invariant.same)) entry_links
-      (c.loop.link - 1) c.entry-entry.ensures.value
+      (c.loop.link - 1) read.1
 
   module _ (s : SomePart (g.R.Rows.content c.args.rows.now) c.args.part.now) where
     entry : AtCell s.0 (g.R.Rows.content c.args.rows.now) c.args.part.now.tail (c.loop.link - 1)
-        c.loop.counter c.args.part.now.count c.entry-entry.result
+        c.loop.counter c.args.part.now.count e
         (Rest c.args.to.now c.args.limit s.0 c.args.part.now.layer c.loop.found.items
         (filled None c.args.to.now c.args.limit c.args.found.now.items
         (entries_pairs (entries_of s.0 s.1))))
     entry = at_cell (c.loop.invariant.onward s) c.loop-test.true
-        (ap g.R.Rows.content c.loop.invariant.same) c.entry-entry.ensures.value
+        (ap g.R.Rows.content c.loop.invariant.same) read.1
 
     gap : HeadStands s.0 (g.R.Rows.content c.head_at.new.rows) c.head_at.result entry.child
     gap =
         child_stands entry
-        (ap g.R.Rows.content (c.entry-entry.ensures.same ∙ c.loop.invariant.same))
+        (ap g.R.Rows.content (c.links-links.ensures.same ∙ c.loop.invariant.same))
         c.head_at.ensures.head (ap g.R.Rows.content c.head_at.ensures.same)
 
     in_gap : c.match-head_at.found.items ≡ filled None c.args.to.now c.args.limit
@@ -96,10 +118,10 @@ module _ (g : Over) (n : ℕ) (c : goal.After-is_wanted g n) where
           w.in_default.is gap)
     ]
 
-    there : part_at entry_value (g.R.Rows.content c.is_wanted.new.rows) (c.loop.link - 1)
-        ≡ Some entry.value
+    there : part_at entry_pair (g.R.Rows.content c.is_wanted.new.rows) (c.loop.link - 1)
+        ≡ Some (e.key, entry.value)
     there = read_still (ap g.R.Rows.content (c.is_wanted.ensures.same ∙ rows_still))
-        entry_value (c.loop.link - 1) (cell_value entry)
+        entry_pair (c.loop.link - 1) (cell_pair entry)
 
 pub make_room-requires : goal.make_room-requires
 make_room-requires g t c =
@@ -107,11 +129,13 @@ make_room-requires g t c =
     let wanted = c.if-not-is_wanted.ensures.wanted _ (links g t at) refl in
     record { some = omega (arith, wanted.0) }
 
-pub value-requires : goal.value-requires
-value-requires g t c =
-    let at = (goal.at.value-requires g t c).After-is_wanted in
-    let Is : Option (List ℕ) → Type 0 = IsSome in
-    record { there = subst Is (sym (there g t at c.requires.stands)) refl }
+pub pair-requires : goal.pair-requires
+pair-requires g t c =
+    let at = (goal.at.pair-requires g t c).After-is_wanted in
+    let Is : Option EntryLinks → Type 0 = IsSome in
+    let still = read_still (ap g.R.Rows.content c.if-not-is_wanted.ensures.same) entry_links
+    (c.loop.link - 1) (links g t at) in
+    record { there = subst Is (sym still) refl }
 
 pub returns-then-not-is_wanted-clause-found : goal.returns-then-not-is_wanted-clause-found
 returns-then-not-is_wanted-clause-found g t c f p s =
@@ -119,15 +143,15 @@ returns-then-not-is_wanted-clause-found g t c f p s =
     let ends = c.if-not-is_wanted.ensures.ends _ (links g t at) refl in
     stops (entry g t at (f, p, s)) (in_gap g t at (f, p, s))
     (own-ends c.args.to.now c.args.limit c.match-head_at.found.items
-    c.entry-entry.result.key (entry g t at (f, p, s)).value ends) ends
+    (read g t at).0 (entry g t at (f, p, s)).value ends) ends
 
 pub returns-then-len-limit-clause-found : goal.returns-then-len-limit-clause-found
 returns-then-len-limit-clause-found g t c f p s =
     let at = (goal.at.returns-then-len-limit-clause-found g t c).After-is_wanted in
     let own = own-pushed c.args.to.now c.args.limit c.match-head_at.found.items
-    c.push_reserved.new.self.items c.entry-entry.result.key (entry g t at (f, p, s)).value
-    c.value.result
-    _ (pushed _ c.in_ok-make_room.ensures.same c.push_reserved.ensures.items) c.value.ensures.value
+    c.push_reserved.new.self.items (read g t at).0 (entry g t at (f, p, s)).value
+    c.pair.result
+    _ (pushed _ c.in_ok-make_room.ensures.same c.push_reserved.ensures.items) c.pair.ensures.value
     (there g t at (f, p, s))
     (c.if-not-is_wanted.ensures.wanted _ (links g t at) refl) in
     stops (entry g t at (f, p, s)) (in_gap g t at (f, p, s)) own
@@ -137,13 +161,13 @@ pub loop-preserved : goal.loop-preserved
 loop-preserved g t c =
     let at = (goal.at.loop-preserved g t c).After-is_wanted in
     record {
-      same = c.value.ensures.same ∙ c.if-not-is_wanted.ensures.same ∙ rows_still g t at;
+      same = c.pair.ensures.same ∙ c.if-not-is_wanted.ensures.same ∙ rows_still g t at;
       onward = λ s.
           let own = own-pushed c.args.to.now c.args.limit c.match-head_at.found.items
-          c.push_reserved.new.self.items c.entry-entry.result.key (entry g t at s).value
-          c.value.result _
+          c.push_reserved.new.self.items (read g t at).0 (entry g t at s).value
+          c.pair.result _
           (pushed _ c.in_ok-make_room.ensures.same c.push_reserved.ensures.items)
-          c.value.ensures.value (there g t at s)
+          c.pair.ensures.value (there g t at s)
           (c.if-not-is_wanted.ensures.wanted _ (links g t at) refl) in
           goes_on (entry g t at s) (in_gap g t at s) own;
     }

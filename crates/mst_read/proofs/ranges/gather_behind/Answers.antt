@@ -1,9 +1,11 @@
 use Rattle.std.proofs.Common.{◌<◌, ◌-◌, ℕ, List, [], Option, None, inl, IsSome, refl, ◌∙◌, sym, ap, subst, arith}
-use Rattle.mst_arena.specs.Row.{entry_links, entry_value}
+use Rattle.mst_arena.specs.Row.{entry_links, entry_pair}
+use Rattle.mst_arena.specs.declared.row.EntryLinks.{EntryLinks}
+use Rattle.mst_arena.proofs.EntryParts.{links_at}
 use Rattle.mst_read.specs.Span.{filled, past_gap}
 use Rattle.mst_read.proofs.Still.{read_still}
 use Rattle.mst_read.proofs.Fillings.{filled-full, filled-nothing, own-ends, own-pushed, pushed}
-use Rattle.mst_read.proofs.Gathering.{cell_value, ok_same, no_entries, own, others_stand, both, ends_there}
+use Rattle.mst_read.proofs.Gathering.{cell_pair, ok_same, no_entries, own, others_stand, both, ends_there}
 use Rattle.mst_read.proofs.ranges.gather_behind.Goals as goal
 
 pub returns-then-part-eq0-clause-found : goal.returns-then-part-eq0-clause-found
@@ -20,20 +22,24 @@ returns-then-len-limit-clause-found g c f p s =
 pub make_room-requires : goal.make_room-requires
 make_room-requires g c =
     let wanted = c.if-not-is_wanted.ensures.wanted _
-    (read_still (ap g.R.Rows.content c.entry-entry.ensures.same) entry_links
-    (c.args.part.now.first - 1) c.entry-entry.ensures.value) refl in
+    (read_still (ap g.R.Rows.content c.links-links.ensures.same) entry_links
+    (c.args.part.now.first - 1)
+    (links_at (g.R.Rows.content c.args.rows.now) (c.args.part.now.first - 1)
+    c.links-links.result
+    c.links-links.ensures.value).1) refl in
     record { some = omega (arith, wanted.0) }
 
-pub value-requires : goal.value-requires
-value-requires g c =
-    let s = c.requires.stands in
-    let some : 0 < c.args.part.now.count = omega (arith, c.if-part-eq0.false) in
-    let Is : Option (List ℕ) → Type 0 = IsSome in
+pub pair-requires : goal.pair-requires
+pair-requires g c =
+    let Is : Option EntryLinks → Type 0 = IsSome in
     record {
       there =
           subst Is (sym (read_still (ap g.R.Rows.content
-          (c.if-not-is_wanted.ensures.same ∙ c.entry-entry.ensures.same)) entry_value
-          (c.args.part.now.first - 1) (cell_value (own s.2 some c.entry-entry.ensures.value))))
+          (c.if-not-is_wanted.ensures.same ∙ c.links-links.ensures.same)) entry_links
+          (c.args.part.now.first - 1)
+          (links_at (g.R.Rows.content c.args.rows.now) (c.args.part.now.first - 1)
+          c.links-links.result
+          c.links-links.ensures.value).1))
           refl;
     }
 
@@ -42,28 +48,48 @@ returns-then-not-is_wanted-clause-found g c f p s =
     let some : 0 < c.args.part.now.count = omega (arith, c.if-part-eq0.false) in
     let ends =
     c.if-not-is_wanted.ensures.ends _
-    (read_still (ap g.R.Rows.content c.entry-entry.ensures.same)
-    entry_links (c.args.part.now.first - 1) c.entry-entry.ensures.value) refl in
-    ends_there s some c.entry-entry.ensures.value c.args.to.now c.args.limit
+    (read_still (ap g.R.Rows.content c.links-links.ensures.same)
+    entry_links (c.args.part.now.first - 1)
+    (links_at (g.R.Rows.content c.args.rows.now) (c.args.part.now.first - 1)
+    c.links-links.result
+    c.links-links.ensures.value).1) refl in
+    ends_there s some (links_at (g.R.Rows.content c.args.rows.now) (c.args.part.now.first - 1)
+    c.links-links.result
+    c.links-links.ensures.value).1 c.args.to.now c.args.limit
     c.args.found.now.items
     (own-ends c.args.to.now c.args.limit c.args.found.now.items
-    c.entry-entry.result.key (own s some c.entry-entry.ensures.value).value ends) ends
+    (links_at (g.R.Rows.content c.args.rows.now) (c.args.part.now.first - 1) c.links-links.result
+    c.links-links.ensures.value).0
+    (own s some (links_at (g.R.Rows.content c.args.rows.now) (c.args.part.now.first - 1)
+    c.links-links.result
+    c.links-links.ensures.value).1).value ends) ends
 
 pub returns-then-len-limit-2-clause-found : goal.returns-then-len-limit-2-clause-found
 returns-then-len-limit-2-clause-found g c f p s =
     let some : 0 < c.args.part.now.count = omega (arith, c.if-part-eq0.false) in
-    let here = own s some c.entry-entry.ensures.value in
+    let here =
+    own s some (links_at (g.R.Rows.content c.args.rows.now) (c.args.part.now.first - 1)
+    c.links-links.result
+    c.links-links.ensures.value).1 in
     let value = read_still (ap g.R.Rows.content
-    (c.if-not-is_wanted.ensures.same ∙ c.entry-entry.ensures.same)) entry_value
-    (c.args.part.now.first - 1) (cell_value here) in
+    (c.if-not-is_wanted.ensures.same ∙ c.links-links.ensures.same)) entry_pair
+    (c.args.part.now.first - 1) (cell_pair here) in
     let added = own-pushed c.args.to.now c.args.limit c.args.found.now.items
-    c.push_reserved.new.self.items c.entry-entry.result.key here.value c.value.result _
-    (pushed _ c.in_ok-make_room.ensures.same c.push_reserved.ensures.items) c.value.ensures.value
+    c.push_reserved.new.self.items
+    (links_at (g.R.Rows.content c.args.rows.now) (c.args.part.now.first - 1)
+    c.links-links.result
+    c.links-links.ensures.value).0 here.value c.pair.result _
+    (pushed _ c.in_ok-make_room.ensures.same c.push_reserved.ensures.items) c.pair.ensures.value
     value
     (c.if-not-is_wanted.ensures.wanted _
-    (read_still (ap g.R.Rows.content c.entry-entry.ensures.same)
-    entry_links (c.args.part.now.first - 1) c.entry-entry.ensures.value) refl) in
-    ends_there s some c.entry-entry.ensures.value c.args.to.now c.args.limit
+    (read_still (ap g.R.Rows.content c.links-links.ensures.same)
+    entry_links (c.args.part.now.first - 1)
+    (links_at (g.R.Rows.content c.args.rows.now) (c.args.part.now.first - 1)
+    c.links-links.result
+    c.links-links.ensures.value).1) refl) in
+    ends_there s some (links_at (g.R.Rows.content c.args.rows.now) (c.args.part.now.first - 1)
+    c.links-links.result
+    c.links-links.ensures.value).1 c.args.to.now c.args.limit
     c.args.found.now.items added (inl (omega (arith, c.if-len-limit-2.true, c.len-2.ensures)))
 
 pub gather_part-requires : goal.gather_part-requires
@@ -73,11 +99,15 @@ gather_part-requires g c =
     record {
       stands = (
         s.0,
-        (own s.2 some c.entry-entry.ensures.value).rest,
+        (own s.2 some (links_at (g.R.Rows.content c.args.rows.now) (c.args.part.now.first - 1)
+            c.links-links.result
+            c.links-links.ensures.value).1).rest,
         others_stand s.2 some
-            c.entry-entry.ensures.value
-            (ap g.R.Rows.content (c.value.ensures.same ∙ c.if-not-is_wanted.ensures.same
-            ∙ c.entry-entry.ensures.same))
+            (links_at (g.R.Rows.content c.args.rows.now) (c.args.part.now.first - 1)
+            c.links-links.result
+            c.links-links.ensures.value).1
+            (ap g.R.Rows.content (c.pair.ensures.same ∙ c.if-not-is_wanted.ensures.same
+            ∙ c.links-links.ensures.same))
             c.part_of-rest.ensures,
       );
     }
@@ -85,21 +115,35 @@ gather_part-requires g c =
 pub returns-clause-found : goal.returns-clause-found
 returns-clause-found g c f p s =
     let some : 0 < c.args.part.now.count = omega (arith, c.if-part-eq0.false) in
-    let here = own s some c.entry-entry.ensures.value in
-    let rest = others_stand s some c.entry-entry.ensures.value
-    (ap g.R.Rows.content (c.value.ensures.same ∙ c.if-not-is_wanted.ensures.same
-    ∙ c.entry-entry.ensures.same))
+    let here =
+    own s some (links_at (g.R.Rows.content c.args.rows.now) (c.args.part.now.first - 1)
+    c.links-links.result
+    c.links-links.ensures.value).1 in
+    let rest =
+    others_stand s some (links_at (g.R.Rows.content c.args.rows.now) (c.args.part.now.first - 1)
+    c.links-links.result
+    c.links-links.ensures.value).1
+    (ap g.R.Rows.content (c.pair.ensures.same ∙ c.if-not-is_wanted.ensures.same
+    ∙ c.links-links.ensures.same))
     c.part_of-rest.ensures in
     let value = read_still (ap g.R.Rows.content
-    (c.if-not-is_wanted.ensures.same ∙ c.entry-entry.ensures.same)) entry_value
-    (c.args.part.now.first - 1) (cell_value here) in
+    (c.if-not-is_wanted.ensures.same ∙ c.links-links.ensures.same)) entry_pair
+    (c.args.part.now.first - 1) (cell_pair here) in
     let added = own-pushed c.args.to.now c.args.limit c.args.found.now.items
-    c.push_reserved.new.self.items c.entry-entry.result.key here.value c.value.result _
-    (pushed _ c.in_ok-make_room.ensures.same c.push_reserved.ensures.items) c.value.ensures.value
+    c.push_reserved.new.self.items
+    (links_at (g.R.Rows.content c.args.rows.now) (c.args.part.now.first - 1)
+    c.links-links.result
+    c.links-links.ensures.value).0 here.value c.pair.result _
+    (pushed _ c.in_ok-make_room.ensures.same c.push_reserved.ensures.items) c.pair.ensures.value
     value
     (c.if-not-is_wanted.ensures.wanted _
-    (read_still (ap g.R.Rows.content c.entry-entry.ensures.same)
-    entry_links (c.args.part.now.first - 1) c.entry-entry.ensures.value) refl) in
+    (read_still (ap g.R.Rows.content c.links-links.ensures.same)
+    entry_links (c.args.part.now.first - 1)
+    (links_at (g.R.Rows.content c.args.rows.now) (c.args.part.now.first - 1)
+    c.links-links.result
+    c.links-links.ensures.value).1) refl) in
     ok_same c.gather_part.result _ _ _ (c.gather_part.ensures.found f here.rest rest)
-    (both s some c.entry-entry.ensures.value c.args.to.now c.args.limit
+    (both s some (links_at (g.R.Rows.content c.args.rows.now) (c.args.part.now.first - 1)
+    c.links-links.result
+    c.links-links.ensures.value).1 c.args.to.now c.args.limit
     c.args.found.now.items added)

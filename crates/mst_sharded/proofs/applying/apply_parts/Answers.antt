@@ -1,6 +1,6 @@
 use Rattle.std.proofs.Common.{◌∙◌, ◌<◌, List, length, vec_items, subst, arith}
 use Rattle.mst_key.specs.declared.history.Edit.{Edit}
-use Rattle.mst_store.specs.Applying.{RefusesBatch}
+use Rattle.mst_versions.specs.Applying.{RefusesBatch}
 use Rattle.mst_sharded.specs.Applying.{picked, AppliesPart}
 use Rattle.mst_sharded.proofs.Spreading.{Done, none_done, one_done, one_stops, all_done, steps_length}
 use Rattle.mst_sharded.proofs.Applied.{parts_see_more, stopped_see_more}

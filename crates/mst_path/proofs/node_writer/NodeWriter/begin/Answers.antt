@@ -1,5 +1,5 @@
-use Rattle.std.proofs.Common.{rules}
-use Rattle.std.proofs.Common.{arith}
+use Rattle.std.proofs.Common.{[], ◌∷◌, sym, subst, arith, rules}
+use Rattle.mst_path.specs.Takes.{Takes}
 use Rattle.mst_path.proofs.lemmas.rows.Taking.{takes_append, takes_count, takes_small}
 use Rattle.mst_path.proofs.node_writer.NodeWriter.begin.Goals as goal
 
@@ -20,11 +20,14 @@ returns-clause-writer g c =
       few = c.requires.few;
       small = (small.0, (small.1.0, (small.1.0, tt)));
       reserved = c.requires.some;
+      hashes = (_, c.heading.ensures.heading [] c.hasher_for-hasher.ensures.empty);
     }
 
 pub returns-clause-takes : goal.returns-clause-takes
-returns-clause-takes g c = takes_append _ _ _ _ _ c.take_row-head.ensures.takes
-    c.take_row-first.ensures.takes
+returns-clause-takes g c =
+    subst (λ s. Takes c.args.desk.now s (c.take_row-head.result ∷ c.take_row-first.result ∷ []))
+    (sym c.hasher_for-hasher.ensures.same)
+    (takes_append _ _ _ _ _ c.take_row-head.ensures.takes c.take_row-first.ensures.takes)
 
 pub take_row-head-requires : goal.take_row-head-requires
 take_row-head-requires g c = search rules

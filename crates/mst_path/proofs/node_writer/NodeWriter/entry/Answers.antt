@@ -2,7 +2,7 @@ use Rattle.std.proofs.Common.{rules}
 use Rattle.std.proofs.lemmas.Grind.{elements}
 use Rattle.std.proofs.Common.{◌≡◌, ◌≢◌, ◌+◌, ◌∷◌, [], ℕ, List, Option, Some, sym, ◌∙◌, ap, subst, arith, length-append}
 use Rattle.std.specs.List.{AllByRecursion}
-use Rattle.sha2.specs.Hashers.{Holds256}
+use Rattle.mst_prefix.specs.Kept.{HasTaken}
 use Rattle.mst_arena.specs.declared.row.Row.TheVariants.{Entry}
 use Rattle.mst_arena.specs.Standing.{rows_of, used, link_of, HasRows}
 use Rattle.mst_arena.proofs.Stands.{all-append, placed_frame, same_of_write}
@@ -41,16 +41,16 @@ returns-clause-written g c format es p r next w root has out =
     let here : new r ≡ Some (Entry (link_of p) (link_to c.take_next-self.result) k v) =
     ap new (sym row) ∙ c.write.ensures.writes.here ∙ same_entry _ _ _ _ _ _ _ _ root.link link
     c.copy.ensures.same c.copy-2.ensures.same in
-    let fed = c.entry.ensures.entry _ w.fed in
+    let fed = c.copied_entry.ensures.entry _ w.fed in
     record {
       format_is = w.format_is;
       counted = omega (arith, w.counted, length-append es (e ∷ []), c.requires.some);
       begins = link_from-push (link_to c.take_next-self.result) es e ∙ begins;
-      fed = subst (Holds256 c.entry.new.self) (sym (text_up_to-push format layer count es e))
+      fed = subst (HasTaken c.copied_entry.new.self) (sym (text_up_to-push format layer count es e))
           (rw (
             c.digest_at.ensures.digest format p root,
-            c.bytes.ensures.bytes,
-            c.bytes-2.ensures.bytes,
+            c.bytes-key.ensures.bytes,
+            c.bytes-value.ensures.bytes,
             w.format_is,
           ) at fed);
       rows =
@@ -80,11 +80,20 @@ write-requires-clause-blank g c = search rules
 pub write-requires-clause-limits : goal.write-requires-clause-limits
 write-requires-clause-limits g c = grind (arith, elements)
 
-pub entry-requires : goal.entry-requires
-entry-requires g c = search rules
+pub copied_entry-requires : goal.copied_entry-requires
+copied_entry-requires g c = search rules
 
 pub returns-clause-writer : goal.returns-clause-writer
-returns-clause-writer g c = grind (arith, elements)
+returns-clause-writer g c =
+    let writer = c.requires.writer in
+    record {
+      low = writer.low;
+      some = writer.some;
+      few = writer.few;
+      small = grind (arith, elements);
+      reserved = c.take_next-self.ensures.ahead;
+      hashes = (_, c.copied_entry.ensures.entry writer.hashes.0 writer.hashes.1);
+    }
 
 pub returns-clause-node : goal.returns-clause-node
 returns-clause-node g c = search rules

@@ -26,7 +26,7 @@ returns-clause-root g c format es p w root =
     let fed = rw (c.digest_at.ensures.digest format p root) at c.child.ensures.child _ w.fed in
     record {
       link = refl;
-      sum = c.finalize-digest.ensures _ fed
+      sum = c.digest-digest.ensures.digest _ fed
           ∙ ap (λ (n : ℕ). sha256
           (text_up_to format layer n es ++ child_text (child_digest (tree_of format p)))) count
           ∙ sym (ap sha256 (text_chain format layer es p));

@@ -1,5 +1,6 @@
-use Rattle.std.proofs.Common.{arith, rules}
-use Rattle.std.proofs.lemmas.Grind.{common_steps}
+use Rattle.std.proofs.Common.{◌≡◌, None, rules}
+use Rattle.mst_key.specs.History.{events_of}
+use Rattle.mst_store.proofs.FromSeats.{own_refused}
 use Rattle.mst_store.proofs.pass.Pass.write.Goals as goal
 
 pub write-requires-clause-free : goal.write-requires-clause-free
@@ -18,10 +19,20 @@ pub write-requires-clause-few_rows : goal.write-requires-clause-few_rows
 write-requires-clause-few_rows g c = search rules
 
 pub invariant_of-self : goal.invariant_of-self
-invariant_of-self g c = grind (arith, common_steps)
+invariant_of-self g c =
+    let fault = c.in_err-old in
+    let own : events_of c.self.inside.number c.self.inside.seat.me.0.seen
+    ≡ c.self.inside.seat.me.0.mine = search rules in
+    let kept = own_refused c.self.inside.number c.self.inside.seat c.write.new.seat own
+    fault.field-0.0
+    c.args.change fault.ensures.refused in
+    search (rules, kept)
+
+pub invariant_of-self-2 : goal.invariant_of-self-2
+invariant_of-self-2 g c = let kept = (c.in_ok-old.ensures.wrote None).own in search (rules, kept)
 
 pub returns-clause-ok : goal.returns-clause-ok
-returns-clause-ok g c = grind (arith, common_steps)
+returns-clause-ok g c = search rules
 
 pub returns-clause-err : goal.returns-clause-err
 returns-clause-err g c = search rules

@@ -16,7 +16,7 @@ loop-k-preserved g c = let k = c.loop-k.invariant in let s = c.store_word.ensure
 }
 
 pub returns-clause-stored : goal.returns-clause-stored
-returns-clause-stored g c = let e : c.loop-k.k ≡ 16 = (omega arith) in
+returns-clause-stored g c = let e : c.loop-k.k ≡ g.row.N = (omega arith) in
     subst (λ (n : ℕ). RowStored c.args.row n c.args.words.now c.args.seat.now.me.0.known_words
     c.loop-k.seat.me.0.known_words) e c.loop-k.invariant.stored
 

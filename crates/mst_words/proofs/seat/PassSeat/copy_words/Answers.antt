@@ -1,9 +1,11 @@
-use Rattle.std.proofs.Common.{◌≡◌, ◌∙◌, Option, ap, arith, rules, subst}
+use Rattle.std.proofs.Common.{◌≡◌, ◌∙◌, true, Option, ap, sym, arith, rules, subst}
 use Rattle.atomic_table.specs.Table.{Me}
 use Rattle.mst_arena.specs.Lives as lives
 use Rattle.mst_words.specs.declared.view.View.{View}
-use Rattle.mst_words.specs.Access.{Seated, with_words, RowStored}
+use Rattle.mst_words.specs.Records as records
+use Rattle.mst_words.specs.Access.{Seated, with_words, may_read, RowStored, HasEnds, relinked_list}
 use Rattle.mst_words.proofs.Accesses.{row_written, blank_stays, blank_parts, beside_stays, same_seated}
+use Rattle.mst_words.proofs.ShortRows.{source_of}
 use Rattle.mst_words.proofs.seat.PassSeat.copy_words.Given.{Over}
 use Rattle.mst_words.proofs.seat.PassSeat.copy_words.Goals as goal
 
@@ -20,15 +22,18 @@ module _ (g : Over) (c : goal.After-copy_words g) where
       ≡ (record m.0 { known_words = c.copy_words.new.seat.me.0.known_words }, m.1)) same_me
       c.copy_words.ensures.same.2
 
-  stored : RowStored c.args.to 16 c.copy_words.result c.args.self.now.me.0.known_words
-      c.copy_words.new.seat.me.0.known_words
-  stored = subst (λ (m : Me (Option lives.State) View). RowStored c.args.to 16 c.copy_words.result
+  stored : RowStored c.args.to 16
+      (relinked_list (records.row c.args.self.now.me.0.known_words c.args.from) c.args.child
+      c.args.next) c.args.self.now.me.0.known_words c.copy_words.new.seat.me.0.known_words
+  stored = subst (λ (m : Me (Option lives.State) View). RowStored c.args.to 16
+      (relinked_list (records.row m.0.known_words c.args.from) c.args.child c.args.next)
       m.0.known_words c.copy_words.new.seat.me.0.known_words) same_me c.copy_words.ensures.stored
 
 pub returns-clause-writes : goal.returns-clause-writes
 returns-clause-writes g c value spelt =
-    row_written c.args.self.now.me c.copy_words.new.seat.me c.args.to value c.copy_words.result
-    (kept g c) c.requires.blank (search rules) spelt (stored g c)
+    row_written c.args.self.now.me c.copy_words.new.seat.me c.args.to value
+    (relinked_list (records.row c.args.self.now.me.0.known_words c.args.from) c.args.child
+    c.args.next) (kept g c) c.requires.blank (search rules) spelt (stored g c)
 
 pub returns-clause-blank : goal.returns-clause-blank
 returns-clause-blank g c =
@@ -41,7 +46,9 @@ returns-clause-kept g c =
     let seat = c.copy_words.new.seat in
     let new : Seated = record { table = seat.table_id; id = seat.id; me = seat.me } in
     let known = (blank_parts c.args.self.now.me.0 c.args.to c.requires.blank).known in
-    beside_stays c.args.self.now new c.args.to c.copy_words.result
+    beside_stays c.args.self.now new c.args.to
+    (relinked_list (records.row c.args.self.now.me.0.known_words c.args.from) c.args.child
+    c.args.next)
     (same_seated (with_words seat.me.0.known_words c.args.self.now) seat.table_id seat.id seat.me
     (s.0 ∙ ap (λ (z : Seated). z.table) c.self.view_is)
     (s.1 ∙ ap (λ (z : Seated). z.id) c.self.view_is) (kept g c)) (omega (arith, known))
@@ -54,13 +61,26 @@ pub copy_words-requires-clause-wide : goal.copy_words-requires-clause-wide
 copy_words-requires-clause-wide g c = search rules
 
 pub copy_words-requires-clause-readable : goal.copy_words-requires-clause-readable
-copy_words-requires-clause-readable g c = search rules
+copy_words-requires-clause-readable g c =
+    subst (λ (m : Me (Option lives.State) View). may_read m.0 c.args.from ≡ true)
+    (sym (ap (λ (z : Seated). z.me) c.self.view_is))
+    (source_of c.args.self.now.me.0 c.args.from c.requires.there).readable
+
+pub copy_words-requires-clause-kind : goal.copy_words-requires-clause-kind
+copy_words-requires-clause-kind g c =
+    subst (λ (m : Me (Option lives.State) View). records.row m.0.known_words c.args.from 0 ≡ 1)
+    (sym (ap (λ (z : Seated). z.me) c.self.view_is))
+    (source_of c.args.self.now.me.0 c.args.from c.requires.there).kind
+
+pub copy_words-requires-clause-ends : goal.copy_words-requires-clause-ends
+copy_words-requires-clause-ends g c =
+    subst (λ (m : Me (Option lives.State) View).
+    HasEnds (records.row m.0.known_words c.args.from 3) (records.row m.0.known_words c.args.from))
+    (sym (ap (λ (z : Seated). z.me) c.self.view_is))
+    (source_of c.args.self.now.me.0 c.args.from c.requires.there).ends
 
 pub copy_words-requires-clause-blank : goal.copy_words-requires-clause-blank
 copy_words-requires-clause-blank g c = search rules
 
 pub invariant_of-self : goal.invariant_of-self
 invariant_of-self g c = search rules
-
-pub returns-clause-words : goal.returns-clause-words
-returns-clause-words g c = search rules

@@ -47,14 +47,8 @@ returns-clause-kept g c =
     (s.1 ∙ ap (λ (z : Seated). z.id) c.self.view_is) (kept g c)) (omega (arith, known))
     (stored g c)
 
-pub store_words-requires-clause-own : goal.store_words-requires-clause-own
-store_words-requires-clause-own g c = search rules
-
-pub store_words-requires-clause-wide : goal.store_words-requires-clause-wide
-store_words-requires-clause-wide g c = search rules
-
-pub store_words-requires-clause-blank : goal.store_words-requires-clause-blank
-store_words-requires-clause-blank g c = search rules
+pub store_words-requires : goal.store_words-requires
+store_words-requires g c = search rules
 
 pub invariant_of-self : goal.invariant_of-self
 invariant_of-self g c = search rules

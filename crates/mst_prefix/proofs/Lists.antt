@@ -1,0 +1,29 @@
+-- Lists of which each element has a property, with an item put into them.
+use Rattle.std.proofs.Common.{◌≡◌, ◌⊎◌, ℕ, zero, suc, List, [], ◌∷◌, ◌++◌, Some, subst, sym, inl, inr, arith}
+use Rattle.std.specs.Prelude.{slice_get, slice_set}
+use Rattle.std.specs.List.{AllByRecursion}
+use Rattle.std.proofs.lemmas.Option.{slice_get_within, get_or_from_slice_get}
+use Rattle.mst_key.proofs.Alls.{alls-append}
+use Rattle.mst_prefix.specs.Places.{IsPutAt}
+
+module _ {X : Type 0} where
+  -- an element of the list has it
+  pub all-at : (P : X → Type 0) (xs : List X) (i : ℕ) (x : X) → AllByRecursion P xs
+      → slice_get xs i ≡ Some x → P x
+  all-at P [] i x all there = absurd (omega (arith, slice_get_within [] i x there))
+  all-at P (y ∷ ys) zero x all there = subst P (get_or_from_slice_get (y ∷ ys) 0 x y there) all.0
+  all-at P (y ∷ ys) (suc i) x all there = all-at P ys i x all.1 there
+
+  pub all-set : (P : X → Type 0) (xs : List X) (i : ℕ) (x : X) → AllByRecursion P xs → P x
+      → AllByRecursion P (slice_set xs i x)
+  all-set P [] i x all has = tt
+  all-set P (y ∷ ys) zero x all has = (has, all.1)
+  all-set P (y ∷ ys) (suc i) x all has = (all.0, all-set P ys i x all.1 has)
+
+  pub all-put : (P : X → Type 0) (place : ℕ) (x : X) (old new : List X) → IsPutAt place x old new
+      → AllByRecursion P old → P x → AllByRecursion P new
+  all-put P place x old new put all has =
+      elim put.others [
+        | inl e ↦ subst (AllByRecursion P) (sym e) (all-set P old place x all has)
+        | inr e ↦ subst (AllByRecursion P) (sym e) (alls-append P old (x ∷ []) all (has, tt))
+      ]

@@ -1,0 +1,16 @@
+use Rattle.std.proofs.Common.{rules, ◌≡◌, ◌<◌, ◌++◌, ℕ, List, [], ◌∷◌, IfOk, IfSome, slice_get, Some, refl, sym, ap, subst, arith, ◌∙◌}
+use Rattle.sha2.specs.Hashers.{Holds256}
+use Rattle.mst_prefix.proofs.beginnings.Beginnings.begin.Goals as goal
+
+pub returns : goal.returns
+returns g c =
+    let kept = c.requires.sound.1 in
+    record {
+      empty = λ hasher holds. (
+        c.requires.sound.0,
+        record { some = kept.some; empty = kept.empty; beginnings = kept.beginnings },
+        [],
+        (holds, kept.some, kept.empty),
+        sym c.clear.ensures,
+      );
+    }

@@ -1,0 +1,238 @@
+//! The texts of nodes up to an entry, kept with the hashes that have taken them in.
+ghost use Rattle.std.specs.Prelude.{◌≡◌, ◌<◌, true, ◌++◌, ℕ, List, [], IfOk, IfSome, slice_get, Some};
+ghost use Rattle.sha2.specs.Hashers.{Holds256};
+ghost use Rattle.sha2.specs.Sha256.{sha256};
+ghost use Rattle.mst_prefix.specs.Kept.{AreKept, StandsAt, TakenWith, HasNoText};
+ghost use Rattle.mst_prefix.specs.declared.beginnings.Beginning.{Beginning};
+
+use crate::digests::{ValueDigest, digest_of_value};
+use crate::places::Places;
+use arrayvec::ArrayVec;
+use mst_key::Memory;
+use sha2::{Digest, Sha256};
+use std::alloc::Allocator;
+use std::mem;
+
+/// The most bytes that a piece has which is kept: the four in front of the entries, and the longest
+/// entry with no tree before it. An entry after a tree is longer by 32 bytes: if its key and value
+/// have over 67 bytes together, it is hashed each time.
+const LONGEST: usize = 104;
+
+/// A text that ends with an entry.
+#[derive(Drop)]
+pub(crate) struct Beginning {
+    /// The number of the text before the last piece.
+    before: u64,
+    /// The last piece: an entry, after what stands in front of the entries if it is the first.
+    piece: ArrayVec<u8, LONGEST>,
+    /// The number of the whole text. No other text has it.
+    number: u64,
+    /// Has taken the whole text in.
+    hash: Sha256,
+}
+
+impl Beginning {
+    /// Whether it is the text with this number, and then this piece.
+    fn follows(&self, before: u64, piece: &[u8]) -> bool
+        ensures follows { result ≡ true
+            → (self.now.before ≡ before) × (self.now.piece.items ≡ piece.now) }
+    {
+        self.before == before && self.piece.as_slice() == piece
+    }
+}
+
+/// The text in front of the piece.
+#[derive(Clone, Copy)]
+pub(crate) enum Front {
+    /// That of the beginning at this place.
+    Kept(usize),
+    /// What the hasher has taken in, with its number if it has one.
+    Taken(Option<u64>),
+}
+
+/// The beginnings that are kept, and one text that is being spelled.
+#[derive(Drop)]
+pub(crate) struct Beginnings<A: Allocator> {
+    kept: Places<Beginning, A>,
+    digests: Places<ValueDigest, A>,
+    /// The lowest number that no text has.
+    next: u64,
+    front: Front,
+    /// What was spelled after the front.
+    piece: ArrayVec<u8, LONGEST>,
+    /// The row from which the entry is copied.
+    from: u32,
+    /// The row into which it is written.
+    to: u32,
+}
+
+/// A copy of a hash.
+fn copy_of(hash: &Sha256) -> Sha256
+    ensures same { result ≡ hash.now }
+{
+    match hash.clone() {
+        Ok(copy) => copy,
+        Err(_) => unreachable!(),
+    }
+}
+
+impl<A: Allocator + Copy> Beginnings<A> {
+    /// Room for `most` beginnings and `most` digests of values in this many rows. Returns `Memory`
+    /// if a growth was refused; no later call takes memory.
+    pub(crate) fn new(alloc: A, rows: u32, most: u16) -> Result<Beginnings<A>, Memory>
+        ensures sound { IfOk result (λ b. (texts : ℕ → List ℕ) × AreKept texts b) }
+    {
+        Ok(Beginnings {
+            kept: Places::new(alloc, rows, most)?,
+            digests: Places::new(alloc, rows, most)?,
+            next: 1,
+            front: Front::Taken(None),
+            piece: ArrayVec::new(),
+            from: 0,
+            to: 0,
+        })
+    }
+}
+
+impl<A: Allocator> Beginnings<A> {
+    /// Begins a text, of no bytes, which a new hasher is to take in.
+    pub(crate) fn begin(&mut self)
+        requires sound { (texts : ℕ → List ℕ) × AreKept texts self.old }
+        ensures empty { (hasher : Sha256) → Holds256 hasher [] → TakenWith hasher self.new [] }
+    {
+        self.front = Front::Taken(Some(0));
+        self.piece.clear();
+    }
+
+    /// The entry to come is copied from a row to another.
+    pub(crate) fn aim(&mut self, from: u32, to: u32)
+        ensures same { (hasher : Sha256) (m : List ℕ) → TakenWith hasher self.old m
+            → TakenWith hasher self.new m }
+    {
+        self.from = from;
+        self.to = to;
+    }
+
+    /// Takes bytes after those that were spelled.
+    pub(crate) fn take(&mut self, hasher: &mut Sha256, bytes: &[u8])
+        ensures took { (m : List ℕ) → TakenWith hasher.old self.old m
+            → TakenWith hasher.new self.new (m ++ bytes.now) }
+    {
+        match self.piece.try_extend_from_slice(bytes) {
+            Ok(()) => {}
+            Err(_) => {
+                self.let_go(hasher);
+                hasher.update(bytes);
+            }
+        }
+    }
+
+    /// The SHA-256 of the value of the entry that is copied.
+    pub(crate) fn value_digest(&mut self, value: &[u8]) -> [u8; 32]
+        ensures digest { result ≡ sha256 value.now }
+        ensures same { (hasher : Sha256) (m : List ℕ) → TakenWith hasher self.old m
+            → TakenWith hasher self.new m }
+    {
+        digest_of_value(&mut self.digests, self.from, self.to, value)
+    }
+
+    /// The number of the front, if it has one.
+    fn number(&self) -> Option<u64>
+        ensures number { (texts : ℕ → List ℕ) (hasher : Sha256) (front : List ℕ)
+            → AreKept texts self.now → StandsAt texts hasher self.now front
+            → IfSome result (λ n. (n < self.now.next) × (texts n ≡ front)) }
+    {
+        match self.front {
+            Front::Kept(place) => Some(self.kept.at(place)?.number),
+            Front::Taken(number) => number,
+        }
+    }
+
+    /// A hash that has taken the front in.
+    fn hash(&self, hasher: &Sha256) -> Sha256
+        ensures hash { (texts : ℕ → List ℕ) (front : List ℕ)
+            → AreKept texts self.now → StandsAt texts hasher.now self.now front
+            → Holds256 result front }
+    {
+        let Front::Kept(place) = self.front else {
+            return copy_of(hasher);
+        };
+        match self.kept.at(place) {
+            Some(kept) => copy_of(&kept.hash),
+            None => copy_of(hasher),
+        }
+    }
+
+    /// Hands all that was spelled to the hasher.
+    pub(crate) fn let_go(&mut self, hasher: &mut Sha256)
+        ensures taken { (m : List ℕ) → TakenWith hasher.old self.old m → Holds256 hasher.new m }
+        ensures empty { (m : List ℕ) → TakenWith hasher.old self.old m → HasNoText self.new }
+    {
+        let mut hash = self.hash(hasher);
+        hash.update(self.piece.as_slice());
+        *hasher = hash;
+        self.piece.clear();
+        self.front = Front::Taken(None);
+    }
+
+    /// The place of what is kept for the entry's row, if that is the text that was spelled.
+    fn found(&self) -> Option<usize>
+        ensures found { (texts : ℕ → List ℕ) (hasher : Sha256) (front : List ℕ)
+            → AreKept texts self.now → StandsAt texts hasher self.now front
+            → IfSome result (λ place. (b : Beginning)
+            × (slice_get self.now.kept.items.items place ≡ Some b)
+            × (texts b.number ≡ front ++ self.now.piece.items)) }
+    {
+        let place = self.kept.place_of(self.to)?;
+        let kept = self.kept.at(place)?;
+        if kept.follows(self.number()?, self.piece.as_slice()) {
+            Some(place)
+        } else {
+            None
+        }
+    }
+
+    /// Ends a piece: what was spelled is the front from here on. If it is what is kept for the
+    /// entry's row, it is not hashed; otherwise it is, and is kept for that row.
+    pub(crate) fn end_piece(&mut self, hasher: &mut Sha256)
+        ensures same { (m : List ℕ) → TakenWith hasher.old self.old m
+            → TakenWith hasher.new self.new m }
+    {
+        self.kept.swap(self.from, self.to);
+        match self.found() {
+            Some(place) => {
+                self.front = Front::Kept(place);
+                self.piece.clear();
+            }
+            None => self.keep_piece(hasher),
+        }
+    }
+
+    /// Hashes what was spelled, and keeps it.
+    fn keep_piece(&mut self, hasher: &mut Sha256)
+        ensures same { (m : List ℕ) → TakenWith hasher.old self.old m
+            → TakenWith hasher.new self.new m }
+    {
+        let (Some(before), Some(after)) = (self.number(), self.next.checked_add(1)) else {
+            return self.let_go(hasher);
+        };
+        let mut hash = self.hash(hasher);
+        hash.update(self.piece.as_slice());
+        let number = self.next;
+        let piece = mem::replace(&mut self.piece, ArrayVec::new());
+        let beginning = Beginning {
+            before,
+            piece,
+            number,
+            hash,
+        };
+        self.next = after;
+        match self.kept.put(self.to, beginning) {
+            Ok(place) => self.front = Front::Kept(place),
+            Err(beginning) => {
+                *hasher = beginning.hash;
+                self.front = Front::Taken(Some(number));
+            }
+        }
+    }
+}

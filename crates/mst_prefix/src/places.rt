@@ -1,0 +1,96 @@
+//! Items that are kept for rows.
+ghost use Rattle.std.specs.Prelude.{◌≡◌, [], IfOk, IfErr, MatchOption, slice_get, None, Some};
+ghost use Rattle.mst_prefix.specs.Places.{IsPutAt};
+
+use mst_key::Memory;
+use std::alloc::Allocator;
+
+/// The most items that can be told apart by a number of 16 bits, of which 0 stands for none.
+const MOST: usize = 65_535;
+
+/// Items in a room of their own, at most one for each row. An item stays where it is until another
+/// takes its place; which row it is kept for changes at no cost.
+///
+/// No call promises that what was put for a row is found there: who asks looks at the item.
+#[derive(Drop)]
+pub(crate) struct Places<T, A: Allocator> {
+    /// For each row the place of its item and one, or 0 for no item.
+    numbers: Vec<u16, A>,
+    items: Vec<T, A>,
+}
+
+impl<T: Drop, A: Allocator + Copy> Places<T, A> {
+    /// Room for `most` items of this many rows, none of them kept yet. Returns `Memory` if a growth
+    /// was refused; no later call takes memory.
+    pub(crate) fn new(alloc: A, rows: u32, most: u16) -> Result<Places<T, A>, Memory>
+        ensures empty { IfOk result (λ p. p.items.items ≡ []) }
+    {
+        let mut numbers = Vec::with_capacity(alloc, rows as usize)?;
+        for _ in 0..rows {
+            numbers.push_reserved(0);
+        }
+        let items = Vec::with_capacity(alloc, most as usize)?;
+        Ok(Places { numbers, items })
+    }
+}
+
+impl<T: Drop, A: Allocator> Places<T, A> {
+    /// The place of the item that is kept for a row.
+    pub(crate) fn place_of(&self, row: u32) -> Option<usize> {
+        let number = *self.numbers.get(row as usize)?;
+        (number as usize).checked_sub(1)
+    }
+
+    /// The item at a place.
+    pub(crate) fn at(&self, place: usize) -> Option<&T>
+        ensures there { MatchOption result (slice_get self.now.items.items place ≡ None)
+            (λ item. slice_get self.now.items.items place ≡ Some item.now) }
+    {
+        self.items.get(place)
+    }
+
+    /// The item of each of two rows becomes that of the other.
+    pub(crate) fn swap(&mut self, one: u32, other: u32)
+        ensures same { self.new.items ≡ self.old.items }
+    {
+        let (one, other) = (one as usize, other as usize);
+        let rows = self.numbers.len();
+        if one < rows && other < rows {
+            self.numbers.swap(one, other);
+        }
+    }
+
+    /// Keeps an item for a row in place of the row's last one, or where there is room. Returns its
+    /// place, or the item if it has none.
+    pub(crate) fn put(&mut self, row: u32, item: T) -> Result<usize, T>
+        ensures put { IfOk result
+            (λ place. IsPutAt place item self.old.items.items self.new.items.items) }
+        ensures back { IfErr result
+            (λ back. (back ≡ item) × (self.new.items.items ≡ self.old.items.items)) }
+    {
+        match self.place_of(row) {
+            Some(place) if place < self.items.len() => {
+                self.items[place] = item;
+                Ok(place)
+            }
+            _ => self.put_new(row as usize, item),
+        }
+    }
+
+    /// Keeps an item for a row where there is room. Returns its place, or the item if there is none
+    /// left.
+    fn put_new(&mut self, row: usize, item: T) -> Result<usize, T>
+        ensures put { IfOk result
+            (λ place. IsPutAt place item self.old.items.items self.new.items.items) }
+        ensures back { IfErr result
+            (λ back. (back ≡ item) × (self.new.items.items ≡ self.old.items.items)) }
+    {
+        let place = self.items.len();
+        if row >= self.numbers.len() || place >= self.items.capacity() || place >= MOST {
+            return Err(item);
+        }
+        self.numbers[row] = place as u16 + 1;
+        self.items.push_reserved(item);
+        Ok(place)
+    }
+}

@@ -1,0 +1,178 @@
+-- An entry that is copied into a blank row, part by part.
+use Rattle.std.proofs.Common.{◌≡◌, ℕ, zero, suc, ◌+◌, ◌-◌, ◌*◌, ◌<◌, ◌≤◌, Bool, true, false, Option, List, [], ◌∷◌, length, map, set, get_or, subst, refl, sym, ap, ◌∙◌, arith, length-set, get_or-set_same, get_or-set_other}
+use Rattle.std.specs.Prelude.{IsTrue, nat_lt}
+use Rattle.std.specs.List.{range_with_len}
+use mathlib.Core.Logic.{dite}
+use native.Mathlib.Decide.{ℕ_discrete}
+use Rattle.std.proofs.lemmas.Bool.Decides.{nat_tests}
+use Rattle.std.proofs.lemmas.List.FromFn.{length-map-range_with_len, get_or-map-range_with_len}
+use Rattle.atomic_table.specs.Table.{Me}
+use Rattle.mst_arena.specs.Lives as lives
+use Rattle.mst_words.specs.declared.view.View.{View}
+use Rattle.mst_words.specs.Layout.{row_word, row_words}
+use Rattle.mst_words.specs.Records as records
+use Rattle.mst_words.specs.Access.{is_blank, RowStored, PartStored, HasEnds, relinked_list}
+use Rattle.mst_words.proofs.Accesses.{blank_stays, fill_from}
+
+-- ---- the seat between two steps
+
+pub still_blank : (old now : Me (Option lives.State) View) (x : ℕ)
+    → now ≡ (record old.0 { known_words = now.0.known_words }, old.1)
+    → length now.0.known_words ≡ length old.0.known_words → IsTrue (is_blank old.0 x)
+    → IsTrue (is_blank now.0 x)
+still_blank old now x kept long blank = subst (λ (f : ℕ → Bool). IsTrue (f x))
+    (sym (blank_stays old.0 now.0 (ap (λ (z : Me (Option lives.State) View). z.0) kept) long)) blank
+
+-- ---- one part
+
+part_more : (x at n : ℕ) (word : ℕ → ℕ) (old new : List ℕ) → PartStored x at n word old new
+    → at + n < row_words → x * 16 + 294 ≤ length old → (value : ℕ) → value ≡ word (at + n)
+    → PartStored x at (n + 1) word old (set new (row_word x (at + n)) value)
+part_more x at n word old new s lt wide value is = let long = s.long in record {
+  long = length-set new (row_word x (at + n)) value ∙ s.long;
+  so_far = λ k l. dite (ℕ_discrete k n)
+      (λ same. ap (λ (j : ℕ). get_or (set new (row_word x (at + n)) value) (row_word x (at + j)) 0)
+      same
+      ∙ get_or-set_same new (row_word x (at + n)) value 0 (omega arith) ∙ is
+      ∙ ap (λ (j : ℕ). word (at + j)) (sym same))
+      (λ other. get_or-set_other new (row_word x (at + n)) (row_word x (at + k)) value 0
+      (λ e. other (omega arith)) ∙ s.so_far k (omega arith));
+  others = λ i away. get_or-set_other new (row_word x (at + n)) i value 0 (away n (omega arith))
+      ∙ s.others i (λ k l. away k (omega (arith, l)));
+}
+
+-- one word more of a part was stored
+pub part_next : (old now new : Me (Option lives.State) View) (x at n value : ℕ) (word : ℕ → ℕ)
+    → new ≡ (
+      record now.0 { known_words = set now.0.known_words (row_word x (at + n)) value },
+      now.1,
+    )
+    → PartStored x at n word old.0.known_words now.0.known_words → at + n < row_words
+    → row_word x 15 < length now.0.known_words → value ≡ word (at + n)
+    → PartStored x at (n + 1) word old.0.known_words new.0.known_words
+part_next old now new x at n value word s so_far lt room is =
+    subst (λ (h : List ℕ). PartStored x at (n + 1) word old.0.known_words h)
+    (sym (ap (λ (z : Me (Option lives.State) View). z.0.known_words) s))
+    (part_more x at n word old.0.known_words now.0.known_words so_far lt
+    (omega (arith, room, so_far.long)) value is)
+
+-- a word of any row behind the part is as before, also where it is of the same row
+pub beyond : (x at n from k : ℕ) (word : ℕ → ℕ) (old new : List ℕ)
+    → PartStored x at n word old new → at + n ≤ k → k < row_words
+    → records.row new from k ≡ records.row old from k
+beyond x at n from k word old new s le lt = s.others (row_word from k) (λ j l e. absurd
+    (omega (arith, l, e, le)))
+
+-- a list that is filled up to one word more
+pub filled_more : (words : List ℕ) (word : ℕ → ℕ) (n value : ℕ) → n < length words
+    → ((k : ℕ) → k < n → get_or words k 0 ≡ word k) → value ≡ word n
+    → (k : ℕ) → k < n + 1 → get_or (set words n value) k 0 ≡ word k
+filled_more words word n value lt so_far is k l = dite (ℕ_discrete k n)
+    (λ same. ap (λ (j : ℕ). get_or (set words n value) j 0) same
+    ∙ get_or-set_same words n value 0 lt ∙ is ∙ ap word (sym same))
+    (λ other. get_or-set_other words n k value 0 other ∙ so_far k (omega (arith, l, other)))
+
+-- ---- parts one behind the other
+
+by_less : (P : Type 0) (k n : ℕ) → (k < n → P) → (n ≤ k → P) → P
+by_less P k n less more = go (nat_lt k n) refl
+  where
+    go : (t : Bool) → nat_lt k n ≡ t → P
+    go true e = less (grind (arith, nat_tests))
+    go false e = more (grind (arith, nat_tests))
+
+pub parts_joined : (x from at n m : ℕ) (old mid new : List ℕ)
+    → PartStored x at n (records.row old from) old mid
+    → PartStored x (at + n) m (records.row mid from) mid new → at + n + m ≤ row_words
+    → PartStored x at (n + m) (records.row old from) old new
+parts_joined x from at n m old mid new a b le = record {
+  long = b.long ∙ a.long;
+  so_far = λ k l. by_less (records.row new x (at + k) ≡ records.row old from (at + k)) k n
+      (λ less. b.others (row_word x (at + k)) (λ j i e. absurd (omega (arith, i, e, less)))
+      ∙ a.so_far k less) (λ more. behind k l more);
+  others = λ i away. b.others i
+      (λ k l e. away (n + k) (omega (arith, l)) (omega (arith, e)))
+      ∙ a.others i (λ k l. away k (omega (arith, l)));
+}
+  where
+    behind : (k : ℕ) → k < n + m → n ≤ k → records.row new x (at + k) ≡ records.row old from
+        (at + k)
+    behind k l more =
+        let e : at + n + (k - n) ≡ at + k = omega (arith, more) in
+        let j : k - n < m = omega (arith, l, more) in
+        ap (records.row new x) (sym e)
+        ∙ b.so_far (k - n) j
+        ∙ beyond x at n from (at + n + (k - n)) (records.row old from) old mid a (omega arith)
+        (omega (arith, j, le))
+        ∙ ap (records.row old from) e
+
+-- words of two rows that are the same make the same list
+pub same_words : (f h : ℕ → ℕ) (a n : ℕ) → ((k : ℕ) → a ≤ k → k < a + n → h k ≡ f k)
+    → map h (range_with_len a n) ≡ map f (range_with_len a n)
+same_words f h a n same =
+    fill_from f (map h (range_with_len a n)) a n (length-map-range_with_len h a n)
+    (λ k lt. get_or-map-range_with_len h a n k (a + k) 0 lt refl
+    ∙ same (a + k) (omega arith) (omega (arith, lt)))
+
+-- ---- the front of the copy, and the words behind it
+
+front_words : (f : ℕ → ℕ) (kind child next lengths : ℕ) → kind ≡ f 0 → lengths ≡ f 3 → (k : ℕ)
+    → k < 4 → get_or (kind ∷ child ∷ next ∷ lengths ∷ []) k 0 ≡ get_or (relinked_list f child next)
+    k 0
+front_words f kind child next lengths is size zero lt = is
+front_words f kind child next lengths is size (suc zero) lt = refl
+front_words f kind child next lengths is size (suc (suc zero)) lt = refl
+front_words f kind child next lengths is size (suc (suc (suc zero))) lt = size
+front_words f kind child next lengths is size (suc (suc (suc (suc k)))) lt = absurd (omega arith)
+
+back_words : (f : ℕ → ℕ) (child next k : ℕ) → 4 ≤ k → k < 16
+    → get_or (relinked_list f child next) k 0 ≡ f k
+back_words f child next k ge lt =
+    get_or-set_other (set (map f (range_with_len 0 16)) 1 child) 2 k next 0
+    (λ e. absurd (omega (arith, e, ge)))
+    ∙ get_or-set_other (map f (range_with_len 0 16)) 1 k child 0
+    (λ e. absurd (omega (arith, e, ge)))
+    ∙ get_or-map-range_with_len f 0 16 k k 0 lt (omega arith)
+
+-- a word of any row behind the front is as before
+pub behind_front : (x n from k : ℕ) (words old new : List ℕ) → RowStored x n words old new → n ≤ k
+    → k < row_words → records.row new from k ≡ records.row old from k
+behind_front x n from k words old new s le lt = s.others (row_word from k) (λ j l e. absurd
+    (omega (arith, l, e, le)))
+
+pub entry_stored : (x from child next lengths : ℕ) (old mid new : List ℕ)
+    → records.row old from 0 ≡ 1 → lengths ≡ records.row old from 3
+    → RowStored x 4 (1 ∷ child ∷ next ∷ lengths ∷ []) old mid
+    → PartStored x 4 12 (records.row mid from) mid new
+    → RowStored x 16 (relinked_list (records.row old from) child next) old new
+entry_stored x from child next lengths old mid new kind size a b = record {
+  long = b.long ∙ a.long;
+  so_far = λ k l. by_less
+      (records.row new x k ≡ get_or (relinked_list (records.row old from) child next) k 0) k 4
+      (λ less. b.others (row_word x k) (λ j i e. absurd (omega (arith, i, e, less)))
+      ∙ a.so_far k less
+      ∙ front_words (records.row old from) 1 child next lengths (sym kind) size k less)
+      (λ more. behind k l more);
+  others = λ i away. b.others i (λ k l e. away (4 + k) (omega (arith, l)) e)
+      ∙ a.others i (λ k l. away k (omega (arith, l)));
+}
+  where
+    behind : (k : ℕ) → k < 16 → 4 ≤ k → records.row new x k
+        ≡ get_or (relinked_list (records.row old from) child next) k 0
+    behind k l more =
+        let e : 4 + (k - 4) ≡ k = omega (arith, more) in
+        ap (records.row new x) (sym e)
+        ∙ b.so_far (k - 4) (omega (arith, l, more))
+        ∙ ap (records.row mid from) e
+        ∙ behind_front x 4 from k (1 ∷ child ∷ next ∷ lengths ∷ []) old mid a more l
+        ∙ sym (back_words (records.row old from) child next k more l)
+
+-- the words behind the front end as before
+pub still_ends : (lengths size : ℕ) (f h : ℕ → ℕ) → lengths ≡ size
+    → ((k : ℕ) → 4 ≤ k → k < 16 → h k ≡ f k) → HasEnds size f → HasEnds lengths h
+still_ends lengths size f h is same e = record {
+  key = λ common k lt. same (6 + k) (omega arith) (omega (arith, lt))
+      ∙ e.key (sym is ∙ common) k lt;
+  value = λ common k lt. same (12 + k) (omega arith) (omega (arith, lt))
+      ∙ e.value (sym is ∙ common) k lt;
+}

@@ -1,0 +1,14 @@
+use Rattle.std.proofs.Common.{◌≡◌, ℕ, ◌∷◌, [], List, arith}
+use Rattle.mst_words.specs.declared.view.View.{View}
+use Rattle.mst_words.specs.Records as records
+use Rattle.mst_words.proofs.ShortRows.{key_of, key_four}
+use Rattle.mst_words.proofs.board.Board.key_words.Goals as goal
+
+pub returns-then-lengths-eq16-clause-words : goal.returns-then-lengths-eq16-clause-words
+returns-then-lengths-eq16-clause-words g c =
+    let v : View = c.args.seat.now.me.0 in
+    let f : ℕ → ℕ = records.row v.known_words c.args.row in
+    let two : c.words.result ≡ f 4 ∷ f 5 ∷ [] = c.words.ensures.words in
+    key_four f c.words.result two
+    ((key_of v c.args.row c.requires.there).ends
+    (omega (arith, c.requires.lengths, c.if-lengths-eq16.true)))
