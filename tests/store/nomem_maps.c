@@ -131,7 +131,7 @@ int main(void) {
     EXPECT(mst_open(1, ROWS, &pass, 1) == MST_OK);
     fills(PAIRS);
     long ranged = refused_ranges(), proved = refused_proofs();
-    EXPECT(ranged > 4 && proved > 2);
+    EXPECT(ranged > 4 && proved > 1);
     EXPECT(mst_close(&pass) == MST_OK && mst_open(1, LOAD_ROWS, &pass, 1) == MST_OK);
     long loads = refused_loads(seven_edits());
     EXPECT(loads > 3);

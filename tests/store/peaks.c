@@ -8,7 +8,7 @@
 #include "tests.h"
 
 #define ROWS 65535
-#define ROW 304   /* bytes for each row, to open a store: its words twice, and the desk */
+#define ROW 600   /* bytes for each row, to open a store: its words twice, and the desk */
 #define PROOF 32768
 #define PAIR 256  /* bytes for each pair of a range, while its list grows */
 #define MOVE 512  /* and of a migration, for that list and the tree */
