@@ -1,17 +1,19 @@
 /*
- * The microseconds of one call, alone and while another thread calls.
+ * The nanoseconds of one call, alone and while another thread calls.
  *
  *     speed ENGINE KEYS CALL [COUNT [ROUNDS]]
  *
  * ENGINE is store, lmdb, sqlite or map; CALL one of the names below. Fills the map, then makes
- * COUNT calls at random keys in each of ROUNDS rounds, and writes the microseconds a call of the
+ * COUNT calls at random keys in each of ROUNDS rounds, and writes the nanoseconds a call of the
  * fastest round: those of the processor that the calling thread had, so that what else runs there
  * counts little. Of a batch they are those of one of its puts. A load is a batch that fills a new
- * map, one in each round. With another MAP, the keys are other ones.
+ * map, one in each round. Writes `none` if the engine has no such call, or no room for such a load.
+ * With another MAP, the keys are other ones.
  */
 #include "../common.h"
 #include "engine.h"
 #include <pthread.h>
+#include <sched.h>
 #include <stdatomic.h>
 #include <stdio.h>
 #include <stdlib.h>
@@ -60,7 +62,7 @@ static const struct call calls[] = {
 
 static const struct engine *engine;
 static size_t keys;
-static atomic_int going;
+static atomic_int going, begun; /* what another thread is told, and tells */
 
 struct chance {
     uint64_t state;
@@ -159,8 +161,10 @@ static double weight(const struct call *call) {
 static void *other(void *given) {
     struct chance chance = {1u << 20};
     enum thing thing = *(const int *)given == BESIDE_PUTS ? PUT : GET;
-    while (atomic_load(&going))
+    while (atomic_load(&going)) {
         make(thing, 1, &chance);
+        atomic_store(&begun, 1);
+    }
     return NULL;
 }
 
@@ -176,7 +180,23 @@ static double fastest_round(const struct call *call, long count, long rounds) {
     }
     if (call->thing == GET_WITHIN)
         engine->end(0);
-    return least * 1e6 / ((double)count * weight(call));
+    return least * 1e9 / ((double)count * weight(call));
+}
+
+/* The same, beside another thread if the call has one, from that thread's first call on. */
+static double fastest_beside(const struct call *call, long count, long rounds) {
+    pthread_t thread;
+    if (call->beside == ALONE)
+        return fastest_round(call, count, rounds);
+    atomic_store(&going, 1);
+    if (pthread_create(&thread, NULL, other, (void *)&call->beside) != 0)
+        give_up("pthread_create", 0);
+    while (!atomic_load(&begun))
+        sched_yield();
+    double took = fastest_round(call, count, rounds);
+    atomic_store(&going, 0);
+    pthread_join(thread, NULL);
+    return took;
 }
 
 static void fill(void) {
@@ -215,6 +235,13 @@ static const struct engine *engine_named(const char *name) {
     return NULL;
 }
 
+/* Whether the engine has the call, and one batch has room for the keys of a load. */
+static int is_there(const struct call *call) {
+    if (call->thing == PROVE)
+        return engine->prove != NULL;
+    return call->thing != LOAD || keys <= BATCH_MOST;
+}
+
 int main(int argc, char **argv) {
     if (argc < 4)
         give_up("speed ENGINE KEYS CALL [COUNT [ROUNDS]]", 0);
@@ -225,24 +252,15 @@ int main(int argc, char **argv) {
     long rounds = argc > 5 ? atol(argv[5]) : 1;
     if (keys < 1 || count < 1 || rounds < 1)
         give_up("KEYS, COUNT, ROUNDS", 0);
-    if (call->thing == PROVE && !engine->prove) {
+    if (!is_there(call)) {
         printf("none\n");
         return 0;
     }
-    if (call->thing == LOAD && keys > BATCH_MOST)
-        give_up("KEYS of a load", 0);
     engine->open();
     if (call->thing != LOAD)
         fill();
-    pthread_t thread;
-    atomic_store(&going, 1);
-    if (call->beside != ALONE && pthread_create(&thread, NULL, other, (void *)&call->beside) != 0)
-        give_up("pthread_create", 0);
-    double took = fastest_round(call, count, rounds);
-    atomic_store(&going, 0);
-    if (call->beside != ALONE)
-        pthread_join(thread, NULL);
+    double took = fastest_beside(call, count, rounds);
     engine->close();
-    printf("%.3f\n", took);
+    printf("%.1f\n", took);
     return 0;
 }

@@ -1,9 +1,9 @@
-"""The microseconds of one call from Python, as speed.c has them from C.
+"""The nanoseconds of one call from Python, as speed.c has them from C.
 
     speed.py ENGINE KEYS CALL [COUNT [ROUNDS]]
 
 ENGINE is store or lmdb; CALL is get, get-within, next, range, put, prove, batch-N or load. Writes
-the microseconds a call of the fastest round, of the processor that this thread had, or `none` where
+the nanoseconds a call of the fastest round, of the processor that this thread had, or `none` where
 the engine is not there or does not have the call. Of a batch of N puts they are those of one put. A
 load is a batch that fills a new map, one in each round.
 """
@@ -142,10 +142,10 @@ def main() -> None:
     if timed is None or getattr(timed, call, timed) is None:
         print("none")
     elif call == "load":
-        print(least_of_loads(engine, all_keys, rounds) * 1e6 / keys)
+        print(least_of_loads(engine, all_keys, rounds) * 1e9 / keys)
     else:
         took = least_of_calls(timed, call, all_keys, count, rounds)
-        print(took * 1e6 / (count * puts_of(call)))
+        print(took * 1e9 / (count * puts_of(call)))
 
 
 if __name__ == "__main__":

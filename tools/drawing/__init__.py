@@ -1,5 +1,5 @@
 """The pictures of docs/pictures, each by the function that draws it."""
-from . import crates, put, row, sharded, speed, tree, trust, versions
+from . import crates, engines, put, row, sharded, speed, tree, trust, versions
 
 PICTURES = {
     "tree": tree.picture,
@@ -9,5 +9,6 @@ PICTURES = {
     "crates": crates.picture,
     "sharded": sharded.picture,
     "speed": speed.picture,
+    "engines": engines.picture,
     "trust": trust.picture,
 }

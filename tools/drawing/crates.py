@@ -28,6 +28,7 @@ LAYERS = [
     (("proofs; rows;", "changes; requests"), {
         "mst_proof": 366, "mst_arena": 640, "mst_change": 800, "mst_requests": 1090,
     }),
+    (("hashes that are kept",), {"mst_prefix": 640}),
     (("trees, digests; lines",), {"mst_node": 610, "mst_lines": 1090}),
     (("keys, maps; devices",), {"mst_key": 610, "mst_devices": 1090}),
 ]

@@ -1,0 +1,79 @@
+"""Curves between two scales of powers of ten: keys of a map from left to right, times upward."""
+import math
+
+
+
+class Plot:
+    """A place for curves on a canvas. Each scale begins and ends at its two numbers; `inset` is the
+    space between the edges and the first and the last number of keys."""
+
+    def __init__(self, canvas, place, keys, times, inset):
+        self.canvas = canvas
+        self.left, self.right, self.upper, self.lower = place
+        self.keys, self.times, self.inset = keys, times, inset
+
+    def across(self, keys):
+        """Where a number of keys stands."""
+        low, high = map(math.log10, self.keys)
+        part = (math.log10(keys) - low) / (high - low)
+        return self.left + self.inset + part * (self.right - self.left - 2 * self.inset)
+
+    def up(self, time):
+        """Where a time stands."""
+        low, high = map(math.log10, self.times)
+        return self.lower - (math.log10(time) - low) / (high - low) * (self.lower - self.upper)
+
+    def powers(self):
+        """The powers of ten of the upward scale."""
+        low, high = (round(math.log10(it)) for it in self.times)
+        return [10 ** power for power in range(low, high + 1)]
+
+    def draw_times(self, has_labels=True):
+        """The upward scale, with a line for each power of ten."""
+        for time in self.powers():
+            y = self.up(time)
+            style = "thin" if time == self.times[0] else "faint"
+            self.canvas.line([(self.left, y), (self.right, y)], style)
+            if has_labels:
+                self.canvas.text(self.left - 12, y + 6, f"{time:,}", 17, "end")
+        self.canvas.line([(self.left, self.upper), (self.left, self.lower)])
+
+    def draw_keys(self, numbers, width=0):
+        """The scale of keys, with a label below each number that has this width free to both
+        sides."""
+        places = [self.across(it) for it in numbers]
+        last = None
+        for keys, x in zip(numbers, places):
+            self.canvas.line([(x, self.lower), (x, self.lower + 8)])
+            is_crowded = x != places[-1] and places[-1] - x < width
+            if not is_crowded and (last is None or x - last >= width):
+                self.canvas.text(x, self.lower + 30, f"{keys:,}", 17, "middle")
+                last = x
+
+    def draw_curve(self, points, look, size=7):
+        """A curve through points, each a number of keys and a time. Returns where they stand."""
+        style, mark = look
+        places = [(self.across(keys), self.up(time)) for keys, time in points]
+        self.canvas.line(places, style)
+        for x, y in places:
+            self.canvas.mark(x, y, mark, size, style)
+        return places
+
+
+def scale(numbers):
+    """The powers of ten between which numbers lie."""
+    return 10 ** math.floor(math.log10(min(numbers))), 10 ** math.ceil(math.log10(max(numbers)))
+
+
+def apart(heights, space):
+    """The nearest heights, in the same order, of which no two have less than this space between
+    them: where labels of curves stand that end close to each other."""
+    order = sorted(range(len(heights)), key=lambda it: heights[it])
+    moved = list(heights)
+    for _ in range(100):
+        for above, below in zip(order, order[1:]):
+            lack = space - (moved[below] - moved[above])
+            if lack > 0.01:
+                moved[above] -= lack / 2
+                moved[below] += lack / 2
+    return moved

@@ -1,0 +1,51 @@
+"""The times of docs/pictures/engines.tsv, and the table of docs/SPEED.md that tells them."""
+import os
+import sys
+
+from .maps import TOP
+
+ENGINES = ["store", "LMDB", "SQLite", "std::map"]
+# The calls, and what the page calls them.
+CALLS = {
+    "get": "get",
+    "next": "next",
+    "range": "range of 100 pairs",
+    "put": "put of a new value",
+    "prove": "prove",
+}
+
+
+def figures():
+    """For each call and each engine that has it the nanoseconds, by numbers of keys."""
+    found = {call: {} for call in CALLS}
+    with open(os.path.join(TOP, "docs", "pictures", "engines.tsv"), encoding="ascii") as lines:
+        for line in list(lines)[1:]:
+            engine, call, keys, nanoseconds = line.rstrip("\n").split("\t")
+            found[call].setdefault(engine, {})[int(keys)] = int(nanoseconds)
+    return found
+
+
+def row(*cells):
+    return f"| {' | '.join(cells)} |"
+
+
+def table():
+    """The table of docs/SPEED.md: a row for each call and number of keys, a column for each engine
+    that has figures."""
+    found = figures()
+    engines = [it for it in ENGINES if any(it in times for times in found.values())]
+    lines = [row("Nanoseconds of", "keys", *engines), row(*["---"] * (2 + len(engines)))]
+    for call, times in found.items():
+        for keys in sorted({keys for each in times.values() for keys in each}):
+            known = [times.get(it, {}).get(keys) for it in engines]
+            cells = ["none" if it is None else f"{it:,}" for it in known]
+            lines.append(row(CALLS[call], f"{keys:,}", *cells))
+    return "\n".join(lines)
+
+
+def see_that_the_page_tells_them():
+    """Refuses figures of which docs/SPEED.md has another table."""
+    with open(os.path.join(TOP, "docs", "SPEED.md"), encoding="utf-8") as file:
+        if table() + "\n" not in file.read():
+            sys.exit("'Time' in docs/SPEED.md and docs/pictures/engines.tsv tell other figures: "
+                     "tools/draw --table prints the table of the latter")
