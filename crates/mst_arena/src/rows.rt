@@ -1,5 +1,6 @@
 //! Rows that a holder may read and write.
-ghost use Rattle.std.specs.Prelude.{◌≡◌, ◌≤◌, IsTrue, IsSome, IfSome, Some};
+ghost use Rattle.std.specs.Prelude.{◌≡◌, ◌≤◌, ◌<◌, ◌++◌, ◌∷◌, [], IsTrue, IsSome, IfSome, Some, length, vec_capacity};
+ghost use Rattle.mst_key.specs.Map.{Pair};
 ghost use Rattle.mst_arena.specs.Row.{IsRow, IsHead, head_links, head_digest, entry_links, entry_ends, entry_pair, entry_value};
 ghost use Rattle.mst_arena.specs.Content.{part_at, Writes, relinked};
 ghost use Rattle.mst_arena.specs.Ways.{entry_way, stop_from};
@@ -7,6 +8,7 @@ ghost use Rattle.mst_arena.specs.Ways.{entry_way, stop_from};
 use crate::row::{EntryLinks, HeadLinks, Links, Row};
 use crate::sought::{Sought, Stop, Way};
 use mst_key::{Key, Value};
+use std::alloc::Allocator;
 
 /// Rows that the holder may read, and blank rows that it may write.
 ///
@@ -147,6 +149,17 @@ pub trait Rows {
     {
         let entry = self.entry(row);
         (entry.key, self.value(row))
+    }
+
+    /// Adds the key and the value of the entry at this number to a list that has room for a pair.
+    fn push_pair<A: Allocator>(&mut self, row: u32, list: &mut Vec<(Key, Value), A>)
+        requires there { IsSome (part_at entry_links (content self.old) row) }
+        requires room { length list.old.items < vec_capacity list.old }
+        ensures pushed { (pair : Pair) → part_at entry_pair (content self.old) row ≡ Some pair
+            → list.new.items ≡ list.old.items ++ pair ∷ [] }
+        ensures same { self.new ≡ self.old }
+    {
+        list.push_reserved(self.pair(row));
     }
 
     /// Where a search for the key goes on from the entry at this number.

@@ -20,6 +20,7 @@
 
 mod buffer;
 mod descent;
+mod entry_text;
 mod following;
 mod laws;
 mod lookup;

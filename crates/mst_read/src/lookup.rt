@@ -19,6 +19,7 @@ pub enum Place {
 }
 
 /// Searches the entries of a node, from the least key on.
+#[inline(always)]
 pub fn seek<R: Rows>(rows: &mut R, head: &HeadLinks, key: &Sought) -> Place
     requires lies { ChainLies (R.content rows.old) head.now }
     ensures place { (f : Format) (c : Chain) → LiesBehind f (R.content rows.old) head.now c

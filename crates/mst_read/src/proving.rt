@@ -13,10 +13,11 @@ ghost use Rattle.mst_read.specs.Search.{ChainLies, Lies, LiesBehind, StandsBelow
 
 use crate::buffer::NodeBuffer;
 use crate::descent::head_at;
+use crate::entry_text::take_whole;
 use crate::lookup::{Place, get_below, seek};
 use mst_arena::{HeadLinks, Root, Rows, Sought};
 use mst_key::{Format, Key, Memory, Value};
-use mst_node::{TextSink, format_byte, take_entry};
+use mst_node::{TextSink, format_byte};
 use std::alloc::Allocator;
 
 /// How many bytes a proof asks room for at first. Those of a map of some thousand pairs have fewer.
@@ -61,7 +62,7 @@ fn write_node<R: Rows, A: Allocator>(
         let links = rows.links(row);
         let child = digest_at(rows, links.child);
         let (key, value) = rows.pair(row);
-        take_entry(out, format, child, key.bytes(), value.bytes());
+        take_whole(out, format, child, key.bytes(), value.bytes());
         link = links.next;
     }
     out.child(digest_at(rows, head.tail));

@@ -144,7 +144,7 @@ fn gather_part<R: Rows, A: Allocator>(
             return Ok(());
         }
         make_room(found, limit)?;
-        found.push_reserved(rows.pair(row));
+        rows.push_pair(row, found);
         if found.len() >= limit {
             return Ok(());
         }
@@ -183,7 +183,7 @@ fn gather_behind<R: Rows, A: Allocator>(
         return Ok(());
     }
     make_room(found, limit)?;
-    found.push_reserved(rows.pair(row));
+    rows.push_pair(row, found);
     if found.len() >= limit {
         return Ok(());
     }

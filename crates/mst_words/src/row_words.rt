@@ -2,7 +2,8 @@
 //!
 //! The loops are the board's and not the seat's: so the compiled code has the board's place in a
 //! register, and does not load it from the seat again for each word.
-ghost use Rattle.std.specs.Prelude.{◌≡◌, ◌+◌, ◌-◌, ◌^◌, ◌<◌, ◌≤◌, ℕ, length, map, slice_set, true, IsTrue, IsSome, Some};
+ghost use Rattle.std.specs.Prelude.{◌≡◌, ◌+◌, ◌-◌, ◌^◌, ◌<◌, ◌≤◌, ◌++◌, ◌∷◌, [], ℕ, length, map, slice_set, true, IsTrue, IsSome, Some, vec_capacity};
+ghost use Rattle.mst_key.specs.Map.{Pair};
 ghost use Rattle.std.specs.List.{range_with_len};
 ghost use Rattle.mst_words.specs.Layout.{row_words, row_word, table_words};
 ghost use Rattle.mst_words.specs.Records as records;
@@ -166,6 +167,33 @@ impl<A: Allocator + Copy> Board<A> {
             self.pair_by(seat, row, COMMON_LENGTHS)
         } else {
             self.pair_by(seat, row, lengths)
+        }
+    }
+
+    /// Adds the pair of an entry, as [`Board::pair`] returns it, to a list that has room for one.
+    /// Each arm makes it where the list has its room.
+    #[inline(always)]
+    pub(crate) fn push_pair<B: Allocator>(
+        &self,
+        seat: &mut Token<A>,
+        row: u32,
+        list: &mut Vec<(Key, Value), B>,
+    )
+        requires own { seat.old.table_id ≡ self.now }
+        requires wide { self.now.words ≡ table_words seat.old.me.0.rows }
+        requires there { IsSome (part_at entry_links (content_of seat.old.me.0) row) }
+        requires room { length list.old.items < vec_capacity list.old }
+        ensures pushed { (pair : Pair)
+            → part_at entry_pair (content_of seat.old.me.0) row ≡ Some pair
+            → list.new.items ≡ list.old.items ++ pair ∷ [] }
+        ensures same { (seat.new.table_id ≡ seat.old.table_id) × (seat.new.id ≡ seat.old.id)
+            × (seat.new.me ≡ seat.old.me) }
+    {
+        let lengths = self.word(seat, row, 3);
+        if lengths == COMMON_LENGTHS {
+            list.push_reserved(self.pair_by(seat, row, COMMON_LENGTHS));
+        } else {
+            list.push_reserved(self.pair_by(seat, row, lengths));
         }
     }
 

@@ -146,6 +146,11 @@ impl<'a, A: Allocator + Copy> Rows for PassSeat<'a, A> {
         self.board.pair(&mut self.token, row)
     }
 
+    #[inline(always)]
+    fn push_pair<B: Allocator>(&mut self, row: u32, list: &mut Vec<(Key, Value), B>) {
+        self.board.push_pair(&mut self.token, row, list);
+    }
+
     fn way(&mut self, row: u32, key: &Sought) -> Way {
         self.board.way(&mut self.token, row, key)
     }

@@ -129,13 +129,16 @@ make_room-requires g t c =
     let wanted = c.if-not-is_wanted.ensures.wanted _ (links g t at) refl in
     record { some = omega (arith, wanted.0) }
 
-pub pair-requires : goal.pair-requires
-pair-requires g t c =
-    let at = (goal.at.pair-requires g t c).After-is_wanted in
+pub push_pair-requires : goal.push_pair-requires
+push_pair-requires g t c =
+    let at = (goal.at.push_pair-requires g t c).After-is_wanted in
     let Is : Option EntryLinks → Type 0 = IsSome in
     let still = read_still (ap g.R.Rows.content c.if-not-is_wanted.ensures.same) entry_links
     (c.loop.link - 1) (links g t at) in
-    record { there = subst Is (sym still) refl }
+    record {
+      there = subst Is (sym still) refl;
+      room = c.in_ok-make_room.ensures.ok;
+    }
 
 pub returns-then-not-is_wanted-clause-found : goal.returns-then-not-is_wanted-clause-found
 returns-then-not-is_wanted-clause-found g t c f p s =
@@ -149,10 +152,10 @@ pub returns-then-len-limit-clause-found : goal.returns-then-len-limit-clause-fou
 returns-then-len-limit-clause-found g t c f p s =
     let at = (goal.at.returns-then-len-limit-clause-found g t c).After-is_wanted in
     let own = own-pushed c.args.to.now c.args.limit c.match-head_at.found.items
-    c.push_reserved.new.self.items (read g t at).0 (entry g t at (f, p, s)).value
-    c.pair.result
-    _ (pushed _ c.in_ok-make_room.ensures.same c.push_reserved.ensures.items) c.pair.ensures.value
-    (there g t at (f, p, s))
+    c.push_pair.new.list.items (read g t at).0 (entry g t at (f, p, s)).value
+    _ _ (pushed _ c.in_ok-make_room.ensures.same
+    (c.push_pair.ensures.pushed _ (there g t at (f, p, s))))
+    (there g t at (f, p, s)) (there g t at (f, p, s))
     (c.if-not-is_wanted.ensures.wanted _ (links g t at) refl) in
     stops (entry g t at (f, p, s)) (in_gap g t at (f, p, s)) own
     (inl (omega (arith, c.if-len-limit.true, c.len.ensures)))
@@ -161,13 +164,13 @@ pub loop-preserved : goal.loop-preserved
 loop-preserved g t c =
     let at = (goal.at.loop-preserved g t c).After-is_wanted in
     record {
-      same = c.pair.ensures.same ∙ c.if-not-is_wanted.ensures.same ∙ rows_still g t at;
+      same = c.push_pair.ensures.same ∙ c.if-not-is_wanted.ensures.same ∙ rows_still g t at;
       onward = λ s.
           let own = own-pushed c.args.to.now c.args.limit c.match-head_at.found.items
-          c.push_reserved.new.self.items (read g t at).0 (entry g t at s).value
-          c.pair.result _
-          (pushed _ c.in_ok-make_room.ensures.same c.push_reserved.ensures.items)
-          c.pair.ensures.value (there g t at s)
+          c.push_pair.new.list.items (read g t at).0 (entry g t at s).value
+          _ _ (pushed _ c.in_ok-make_room.ensures.same
+          (c.push_pair.ensures.pushed _ (there g t at s)))
+          (there g t at s) (there g t at s)
           (c.if-not-is_wanted.ensures.wanted _ (links g t at) refl) in
           goes_on (entry g t at s) (in_gap g t at s) own;
     }

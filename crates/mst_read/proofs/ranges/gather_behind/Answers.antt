@@ -29,10 +29,11 @@ make_room-requires g c =
     c.links-links.ensures.value).1) refl in
     record { some = omega (arith, wanted.0) }
 
-pub pair-requires : goal.pair-requires
-pair-requires g c =
+pub push_pair-requires : goal.push_pair-requires
+push_pair-requires g c =
     let Is : Option EntryLinks → Type 0 = IsSome in
     record {
+      room = c.in_ok-make_room.ensures.ok;
       there =
           subst Is (sym (read_still (ap g.R.Rows.content
           (c.if-not-is_wanted.ensures.same ∙ c.links-links.ensures.same)) entry_links
@@ -75,11 +76,11 @@ returns-then-len-limit-2-clause-found g c f p s =
     (c.if-not-is_wanted.ensures.same ∙ c.links-links.ensures.same)) entry_pair
     (c.args.part.now.first - 1) (cell_pair here) in
     let added = own-pushed c.args.to.now c.args.limit c.args.found.now.items
-    c.push_reserved.new.self.items
+    c.push_pair.new.list.items
     (links_at (g.R.Rows.content c.args.rows.now) (c.args.part.now.first - 1)
     c.links-links.result
-    c.links-links.ensures.value).0 here.value c.pair.result _
-    (pushed _ c.in_ok-make_room.ensures.same c.push_reserved.ensures.items) c.pair.ensures.value
+    c.links-links.ensures.value).0 here.value _ _
+    (pushed _ c.in_ok-make_room.ensures.same (c.push_pair.ensures.pushed _ value)) value
     value
     (c.if-not-is_wanted.ensures.wanted _
     (read_still (ap g.R.Rows.content c.links-links.ensures.same)
@@ -106,7 +107,7 @@ gather_part-requires g c =
             (links_at (g.R.Rows.content c.args.rows.now) (c.args.part.now.first - 1)
             c.links-links.result
             c.links-links.ensures.value).1
-            (ap g.R.Rows.content (c.pair.ensures.same ∙ c.if-not-is_wanted.ensures.same
+            (ap g.R.Rows.content (c.push_pair.ensures.same ∙ c.if-not-is_wanted.ensures.same
             ∙ c.links-links.ensures.same))
             c.part_of-rest.ensures,
       );
@@ -123,18 +124,18 @@ returns-clause-found g c f p s =
     others_stand s some (links_at (g.R.Rows.content c.args.rows.now) (c.args.part.now.first - 1)
     c.links-links.result
     c.links-links.ensures.value).1
-    (ap g.R.Rows.content (c.pair.ensures.same ∙ c.if-not-is_wanted.ensures.same
+    (ap g.R.Rows.content (c.push_pair.ensures.same ∙ c.if-not-is_wanted.ensures.same
     ∙ c.links-links.ensures.same))
     c.part_of-rest.ensures in
     let value = read_still (ap g.R.Rows.content
     (c.if-not-is_wanted.ensures.same ∙ c.links-links.ensures.same)) entry_pair
     (c.args.part.now.first - 1) (cell_pair here) in
     let added = own-pushed c.args.to.now c.args.limit c.args.found.now.items
-    c.push_reserved.new.self.items
+    c.push_pair.new.list.items
     (links_at (g.R.Rows.content c.args.rows.now) (c.args.part.now.first - 1)
     c.links-links.result
-    c.links-links.ensures.value).0 here.value c.pair.result _
-    (pushed _ c.in_ok-make_room.ensures.same c.push_reserved.ensures.items) c.pair.ensures.value
+    c.links-links.ensures.value).0 here.value _ _
+    (pushed _ c.in_ok-make_room.ensures.same (c.push_pair.ensures.pushed _ value)) value
     value
     (c.if-not-is_wanted.ensures.wanted _
     (read_still (ap g.R.Rows.content c.links-links.ensures.same)
