@@ -2,42 +2,37 @@
 //!
 //! A text in memory takes each piece at the cost of a test for room and of a copy of any number of
 //! bytes. Here the compiled code knows how many bytes a piece has.
-ghost use Rattle.std.specs.Prelude.{◌≡◌, ◌≤◌, ◌++◌, List, ℕ, length, None, Some};
+ghost use Rattle.std.specs.Prelude.{◌≡◌, ◌≤◌, ◌++◌, List, ℕ, length, IfSome};
 ghost use Rattle.mst_node.specs.Text.{child_text, counted, held_of, held_text};
 
+use arrayvec::ArrayVec;
 use mst_key::Format;
 use mst_node::{TextSink, take_entry};
 
-/// The text of an entry with no tree before it.
-#[inline(always)]
-fn leaf_text(key: &[u8], value: &[u8]) -> [u8; 51]
-    requires key { length key.now ≡ 16 }
-    requires value { length value.now ≡ 32 }
-    ensures text { result ≡ child_text None ++ counted key.now ++ counted value.now }
-{
-    let mut text = [0; 51];
-    text[1] = 16;
-    text[2..18].copy_from_slice(key);
-    text[18] = 32;
-    text[19..].copy_from_slice(value);
-    text
-}
+/// How many bytes the text of such an entry has after a tree.
+const LONGEST: usize = 83;
 
-/// The text of an entry after a tree with this digest.
+/// The text of such an entry of format 1, or `None` if it is longer than it can be.
 #[inline(always)]
-fn inner_text(child: &[u8; 32], key: &[u8], value: &[u8]) -> [u8; 83]
+fn spelled(child: Option<[u8; 32]>, key: &[u8], value: &[u8]) -> Option<ArrayVec<u8, LONGEST>>
     requires key { length key.now ≡ 16 }
     requires value { length value.now ≡ 32 }
-    ensures text { result ≡ child_text (Some child.now) ++ counted key.now ++ counted value.now }
+    ensures text { IfSome result
+        (λ t. t.items ≡ child_text child ++ counted key.now ++ counted value.now) }
 {
-    let mut text = [0; 83];
-    text[0] = 1;
-    text[1..33].copy_from_slice(child);
-    text[33] = 16;
-    text[34..50].copy_from_slice(key);
-    text[50] = 32;
-    text[51..].copy_from_slice(value);
-    text
+    let mut text = ArrayVec::new();
+    match child {
+        None => text.try_extend_from_slice(&[0, 16]).ok()?,
+        Some(digest) => {
+            text.try_extend_from_slice(&[1]).ok()?;
+            text.try_extend_from_slice(&digest).ok()?;
+            text.try_extend_from_slice(&[16]).ok()?;
+        }
+    }
+    text.try_extend_from_slice(key).ok()?;
+    text.try_extend_from_slice(&[32]).ok()?;
+    text.try_extend_from_slice(value).ok()?;
+    Some(text)
 }
 
 /// Hands over an entry, as [`take_entry`] does, in one piece if it has the lengths that most have.
@@ -57,9 +52,23 @@ pub(crate) fn take_whole<S: TextSink>(
 {
     match (format, key.len(), value.len()) {
         (Format::One, 16, 32) => match child {
-            None => sink.take(&leaf_text(key, value)),
-            Some(digest) => sink.take(&inner_text(&digest, key, value)),
+            None => take_spelled(sink, None, key, value),
+            Some(digest) => take_spelled(sink, Some(digest), key, value),
         },
         _ => take_entry(sink, format, child, key, value),
+    }
+}
+
+/// Hands over such an entry of format 1.
+#[inline(always)]
+fn take_spelled<S: TextSink>(sink: &mut S, child: Option<[u8; 32]>, key: &[u8], value: &[u8])
+    requires key { length key.now ≡ 16 }
+    requires value { length value.now ≡ 32 }
+    ensures entry { (m : List ℕ) → S.took sink.old m
+        → S.took sink.new (m ++ child_text child ++ counted key.now ++ counted value.now) }
+{
+    match spelled(child, key, value) {
+        Some(text) => sink.take(text.as_slice()),
+        None => take_entry(sink, Format::One, child, key, value),
     }
 }

@@ -70,7 +70,7 @@ loop-preserved g c =
           ∙ c.loop.invariant.same;
       written = (
         _,
-        c.take_entry.ensures.entry m c.loop.invariant.written.1,
+        c.take_whole.ensures.entry m c.loop.invariant.written.1,
         omega (
           arith,
           entry_length c.args.format m (child_text c.digest_at-child.result)
