@@ -1,5 +1,5 @@
 //! The plan of the tree that items are built into.
-ghost use Rattle.std.specs.Prelude.{◌≡◌, List, Contains, map, IfOk};
+ghost use Rattle.std.specs.Prelude.{◌≡◌, List, Contains, map, None, Some, IfOk, MatchOption};
 ghost use Rattle.std.specs.List.{AllByRecursion};
 ghost use Rattle.mst_key.specs.declared.format.Format.{Format};
 ghost use Rattle.mst_key.specs.Map.{Pair};
@@ -12,7 +12,7 @@ ghost use Rattle.mst_batch.specs.Tops.{lone, pair_at};
 ghost use Rattle.mst_batch.specs.declared.items.Item.{Item};
 
 use crate::items::Item;
-use crate::plan::{Plan, PlanEntry, PlanNode};
+use crate::plan::{Origin, Plan, PlanEntry, PlanNode};
 use crate::sharing::shared;
 use crate::top::{has_subtree_at, opened_at, top_layer};
 use mst_arena::{Root, Rows};
@@ -88,12 +88,12 @@ fn build_node<R: Rows, B: Allocator + Copy>(
         (tree format (items_pairs format stands.tree.placed items.now))) }
     ensures same { rows.new ≡ rows.old }
 {
-    let mut entries = Vec::new(alloc);
+    let mut entries = Vec::with_capacity(alloc, count_of(items, layer))?;
     let mut start = 0;
     for (i, item) in items.iter().enumerate() {
-        if let Some((key, value)) = pair_of(item, layer) {
+        if let Some((key, value, origin)) = pair_of(item, layer) {
             let child = build(rows, alloc, root, &items[start..i])?;
-            entries.push(entry_of(child, key, value))?;
+            entries.push(entry_of(child, key, value, origin))?;
             start = i + 1;
         }
     }
@@ -101,27 +101,50 @@ fn build_node<R: Rows, B: Allocator + Copy>(
     shared(rows, alloc, root, node_of(layer, entries, tail))
 }
 
-/// The pair of an item that is one of the layer.
+/// Whether an item is a pair of the layer.
+fn is_pair_of(item: &Item, layer: u8) -> bool {
+    match item {
+        Item::Pair { place, .. } => place.layer() == layer,
+        Item::Subtree { .. } => false,
+    }
+}
+
+/// How many of the items are pairs of the layer: so many entries their node has.
 #[inline(never)]
-fn pair_of(item: &Item, layer: u8) -> Option<(Key, Value)>
-    ensures pair { result ≡ pair_at layer item.now }
+fn count_of(items: &[Item], layer: u8) -> usize {
+    items.iter().filter(|item| is_pair_of(item, layer)).count()
+}
+
+/// The pair of an item that is one of the layer, with what is known of its entry.
+#[inline(never)]
+fn pair_of(item: &Item, layer: u8) -> Option<(&Key, &Value, Origin)>
+    ensures pair { MatchOption result (pair_at layer item.now ≡ None)
+        (λ found. pair_at layer item.now ≡ Some (found.0.now, found.1.now)) }
 {
     match item {
-        Item::Pair {
-            key,
-            value,
-            layer: own,
-        } if *own == layer => Some((key.copy(), value.copy())),
+        Item::Pair { key, value, place } if place.layer() == layer => {
+            Some((key, value, place.origin()))
+        }
         _ => None,
     }
 }
 
 /// The entry of a pair, after the plan of the gap before it.
-fn entry_of<B: Allocator>(child: Plan<Box<PlanNode<B>, B>>, key: Key, value: Value) -> PlanEntry<B>
+fn entry_of<B: Allocator>(
+    child: Plan<Box<PlanNode<B>, B>>,
+    key: &Key,
+    value: &Value,
+    origin: Origin,
+) -> PlanEntry<B>
     ensures entry { planned_entry result
-        ≡ record { child = plan_of child; key = key; value = value } }
+        ≡ record { child = plan_of child; key = key.now; value = value.now } }
 {
-    PlanEntry { child, key, value }
+    PlanEntry {
+        child,
+        key: key.copy(),
+        value: value.copy(),
+        origin,
+    }
 }
 
 /// The node of these parts.

@@ -62,6 +62,6 @@ pub use faults::NotApplied;
 pub use felling::fell_beside;
 pub use laws::{plans_beside, plans_can_be_met};
 pub use merging::{edited_pairs, normal_edits};
-pub use plan::{Plan, PlanEntry, PlanNode};
+pub use plan::{Origin, Plan, PlanEntry, PlanNode};
 pub use replacing::replace;
 pub use sowing::{rows_of, sow};

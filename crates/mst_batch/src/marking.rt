@@ -16,9 +16,28 @@ pub(crate) fn marks_of<A: Allocator, B: Allocator>(
 ) -> Result<Vec<bool, A>, Memory>
     ensures marks { IfOk result (λ marks. AreMarks marks.items (plan_of plan.now)) }
 {
-    let mut marks = Vec::new(alloc);
+    let mut marks = Vec::with_capacity(alloc, last_link(plan) as usize)?;
     mark(&mut marks, plan)?;
     Ok(marks)
+}
+
+/// The greatest link that a plan keeps, 0 if it keeps none: with so much room the marks never move.
+#[cycle(last)]
+fn last_link<B: Allocator>(plan: &Plan<Box<PlanNode<B>, B>>) -> u32 {
+    match plan {
+        Plan::Kept(link) => *link,
+        Plan::Made(node) => last_link_below(node),
+    }
+}
+
+/// The greatest link that is kept in the gaps of a node to be made.
+#[cycle(last)]
+fn last_link_below<B: Allocator>(node: &PlanNode<B>) -> u32 {
+    let mut last = last_link(&node.tail);
+    for entry in &node.entries {
+        last = last.max(last_link(&entry.child));
+    }
+    last
 }
 
 /// Adds a mark at the row of a link, unless it is 0.

@@ -13,23 +13,28 @@ ghost use Rattle.mst_batch.specs.Items.{items_pairs, IsItem};
 ghost use Rattle.mst_batch.specs.Listed.{listed, put_of};
 ghost use Rattle.mst_batch.specs.Opening.{PartOf, Adds, AreBelow, AreOf};
 
-use crate::items::Item;
+use crate::items::{Item, PairPlace};
+use crate::plan::Origin;
 use crate::standing::push_tree;
 use mst_arena::Rows;
 use mst_key::{Edit, Format, Key, Memory};
 use std::alloc::Allocator;
 
-/// Adds the pair that an edit puts, if it is a put. The layer is that of its key.
-fn push_put<A: Allocator>(edit: &Edit, layer: u8, items: &mut Vec<Item, A>) -> Result<(), Memory>
+/// Adds the pair that an edit puts, if it is a put. The place is that of its key.
+fn push_put<A: Allocator>(
+    edit: &Edit,
+    place: PairPlace,
+    items: &mut Vec<Item, A>,
+) -> Result<(), Memory>
     ensures adds { OnOk result ((format : Format) (whole : Placed)
-        → layer_in format (key_of edit.now) ≡ layer
+        → layer_in format (key_of edit.now) ≡ place
         → Adds format whole items.old.items items.new.items (put_of edit.now)) }
 {
     if let Edit::Put(key, value) = edit {
         items.push(Item::Pair {
             key: key.copy(),
             value: value.copy(),
-            layer,
+            place,
         })?;
     }
     Ok(())
@@ -46,7 +51,8 @@ fn push_puts<A: Allocator>(
         → Adds format whole items.old.items items.new.items (batched [] (listed edits.now))) }
 {
     for edit in edits {
-        push_put(edit, edit.key().layer_in(format), items)?;
+        let place = PairPlace::new(edit.key().layer_in(format), Origin::Unknown);
+        push_put(edit, place, items)?;
     }
     Ok(())
 }
@@ -86,13 +92,14 @@ fn push_entry<R: Rows, A: Allocator>(
     ensures same { rows.new ≡ rows.old }
 {
     if let [edit, ..] = own {
-        return push_put(edit, layer, items);
+        return push_put(edit, PairPlace::new(layer, Origin::Changed(row)), items);
     }
     let value = rows.value(row);
+    let place = PairPlace::new(layer, Origin::Kept(row));
     items.push(Item::Pair {
         key: key.copy(),
         value,
-        layer,
+        place,
     })?;
     Ok(())
 }

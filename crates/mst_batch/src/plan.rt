@@ -25,6 +25,18 @@ pub struct PlanNode<A: Allocator = Global> {
     pub tail: Plan<Box<PlanNode<A>, A>>,
 }
 
+/// What is known of the entry that had a pair's key before. It is a hint: nothing is promised of
+/// it, and a wrong one costs no more than time.
+#[derive(Clone, Copy, Debug)]
+pub enum Origin {
+    /// Nothing.
+    Unknown,
+    /// It had this value too, and stands in this row.
+    Kept(u32),
+    /// It had another value, and stands in this row.
+    Changed(u32),
+}
+
 /// A pair of a node to be made, after the plan of the gap before it.
 #[cycle(plan_node)]
 #[derive(Debug, Drop)]
@@ -33,4 +45,5 @@ pub struct PlanEntry<A: Allocator = Global> {
     pub child: Plan<Box<PlanNode<A>, A>>,
     pub key: Key,
     pub value: Value,
+    pub origin: Origin,
 }

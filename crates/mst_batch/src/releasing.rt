@@ -19,6 +19,7 @@ pub(crate) fn release<B: Allocator>(plan: Plan<Box<PlanNode<B>, B>>) {
             child,
             key: _,
             value: _,
+            origin: _,
         } = entry;
         release(child);
     }

@@ -6,7 +6,7 @@ ghost use Rattle.mst_path.specs.Takes.{IsWritable, StaysBeside};
 ghost use Rattle.mst_batch.specs.Plans.{plan_of, plan_of_node, rows_planned, rows_kept, tree_planned, IsPlan};
 ghost use Rattle.mst_batch.specs.Sowing.{Sown};
 
-use crate::plan::{Plan, PlanNode};
+use crate::plan::{Origin, Plan, PlanEntry, PlanNode};
 use mst_arena::{Desk, Root, Rows};
 use mst_key::Format;
 use mst_path::{NodeWriter, root_at};
@@ -66,6 +66,29 @@ pub fn sow<R: Rows, A: Allocator, B: Allocator>(
     }
 }
 
+/// The row of the entry that had a pair's key before, if it is known.
+fn row_before(origin: Origin) -> Option<u32> {
+    match origin {
+        Origin::Unknown => None,
+        Origin::Kept(row) => Some(row),
+        Origin::Changed(row) => Some(row),
+    }
+}
+
+/// Whether an entry, as far as is known, is as it was before, with the tree before it.
+fn is_as_before<B: Allocator>(entry: &PlanEntry<B>) -> bool {
+    matches!(entry.origin, Origin::Kept(_)) && matches!(entry.child, Plan::Kept(_))
+}
+
+/// Whether a node, as far as is known, begins with entries as they were before, so that what is
+/// kept of its text may be of use.
+fn begins_as_before<B: Allocator>(entries: &[PlanEntry<B>]) -> bool {
+    match entries.first() {
+        Some(entry) => is_as_before(entry),
+        None => false,
+    }
+}
+
 /// Writes a node with all that is to be made below it. Returns where it stands.
 #[cycle(sow)]
 fn sow_node<R: Rows, A: Allocator, B: Allocator>(
@@ -85,10 +108,18 @@ fn sow_node<R: Rows, A: Allocator, B: Allocator>(
         (rows_kept at (plan_of_node node.now)) (rows_planned (plan_of_node node.now)) }
     ensures beside { StaysBeside R.blank R.kept rows.old rows.new }
 {
-    let mut writer = NodeWriter::begin(desk, node.layer, node.entries.len() as u32, format, false);
+    let is_copy = begins_as_before(node.entries.as_slice());
+    let mut writer = NodeWriter::begin(
+        desk,
+        node.layer,
+        node.entries.len() as u32,
+        format,
+        is_copy,
+    );
     for entry in &node.entries {
         let child = sow(rows, desk, &entry.child, format);
-        writer.entry(rows, desk, None, &child, &entry.key, &entry.value);
+        let before = row_before(entry.origin);
+        writer.entry(rows, desk, before, &child, &entry.key, &entry.value);
     }
     let tail = sow(rows, desk, &node.tail, format);
     writer.finish(rows, desk, &tail)

@@ -7,7 +7,8 @@ ghost use Rattle.mst_read.specs.Search.{Lies, TreeLies};
 ghost use Rattle.mst_batch.specs.Items.{IsItem, layer_of as layer_of_item, height_of};
 ghost use Rattle.mst_batch.specs.Tops.{IsStanding, is_tree, node_items, opened as opened_item};
 
-use crate::items::Item;
+use crate::items::{Item, PairPlace};
+use crate::plan::Origin;
 use crate::standing::push_tree;
 use mst_arena::Rows;
 use mst_key::Memory;
@@ -18,7 +19,7 @@ fn layer_of(item: &Item) -> u8
     ensures layer { result ≡ layer_of_item item.now }
 {
     match item {
-        Item::Pair { layer, .. } => *layer,
+        Item::Pair { place, .. } => place.layer(),
         Item::Subtree { layer, .. } => *layer,
     }
 }
@@ -71,10 +72,11 @@ fn push_node<R: Rows, A: Allocator>(
     for _ in 0..head.count {
         let entry = rows.entry(next - 1);
         push_tree(rows, entry.child, items)?;
+        let place = PairPlace::new(head.layer, Origin::Kept(next - 1));
         items.push(Item::Pair {
             key: entry.key,
             value: rows.value(next - 1),
-            layer: head.layer,
+            place,
         })?;
         next = entry.next;
     }
@@ -86,10 +88,10 @@ fn copy_of(item: &Item) -> Item
     ensures same { result ≡ item.now }
 {
     match item {
-        Item::Pair { key, value, layer } => Item::Pair {
+        Item::Pair { key, value, place } => Item::Pair {
             key: key.copy(),
             value: value.copy(),
-            layer: *layer,
+            place: place.copy(),
         },
         Item::Subtree { link, layer } => Item::Subtree {
             link: *link,

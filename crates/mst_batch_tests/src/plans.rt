@@ -7,7 +7,7 @@ ghost use Rattle.mst_batch.specs.Plans.{kept, made, last, entry, with_planned, p
 use crate::batches::{key_of, value_of};
 use crate::confirming::confirm_at;
 use mst_arena::{Desk, PlainRows, Root};
-use mst_batch::{Plan, PlanEntry, PlanNode, carry_out, rows_of};
+use mst_batch::{Origin, Plan, PlanEntry, PlanNode, carry_out, rows_of};
 use mst_key::{Format, Key, Memory, Value};
 use mst_node::root_of_in;
 use mst_path::{NoRoom, root_at};
@@ -23,6 +23,7 @@ fn entry_of(key: &Key, value: &Value) -> PlanEntry
         child: Plan::Kept(0),
         key: key.copy(),
         value: value.copy(),
+        origin: Origin::Unknown,
     }
 }
 

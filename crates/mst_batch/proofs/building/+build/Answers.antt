@@ -2,6 +2,7 @@ use Rattle.std.proofs.Common.{◌≡◌, ◌≤◌, ◌<◌, ◌+◌, ℕ, Some,
 use Rattle.std.specs.Prelude.{slice_range}
 use Rattle.std.specs.List.{AllByRecursion, list_any}
 use Rattle.std.proofs.lemmas.List.{map-append}
+use Rattle.std.proofs.lemmas.Option.{MatchOption-at_some, MatchOption-at_none}
 use Rattle.std.proofs.lemmas.Result.{IfOk-weaker}
 use Rattle.mst_key.specs.declared.format.Format.{Format}
 use Rattle.mst_arena.specs.Content.{Content}
@@ -130,8 +131,8 @@ build_node-loop-i-preserved g t c =
       | build_node-in-Some+in_ok-child+in_ok-push w ↦
           let gap = slice_range xs c.loop-i.start c.loop-i.i in
           let is : pair_at c.args.layer c.index-items-i.result
-          ≡ Some (w.in-Some.key, w.in-Some.value) =
-          sym c.pair_of.ensures.pair ∙ w.in-Some.is in
+          ≡ Some (w.in-Some.key.now, w.in-Some.value.now) =
+          MatchOption-at_some _ _ _ w.in-Some.is c.pair_of.ensures.pair in
           let child = plan_of w.in_ok-child.child in
           let plans = subst (λ (z : Content). Plans z c.args.root.now
           (slice_range c.args.items.now c.loop-i.start c.loop-i.i) (plan_of w.in_ok-child.child))
@@ -145,12 +146,12 @@ build_node-loop-i-preserved g t c =
                 (ends content c.args.root.now c.args.layer xs c.requires.layers c.loop-i.start
                 c.loop-i.i (map planned_entry c.loop-i.entries.items)
                 c.loop-i.invariant.entries x within c.index-items-i.is
-                (w.in-Some.key, w.in-Some.value) is child plans
+                (w.in-Some.key.now, w.in-Some.value.now) is child plans
                 (planned_entry w.entry_of.result) w.entry_of.ensures.entry);
           }
       | build_node-in_default w ↦
           let is : pair_at c.args.layer c.index-items-i.result ≡ None =
-          sym c.pair_of.ensures.pair ∙ w.in_default.is in
+          MatchOption-at_none _ _ w.in_default.is c.pair_of.ensures.pair in
           record {
             same = w.rows-is ∙ c.loop-i.invariant.same;
             gap = omega (arith, w.start-is, c.loop-i.invariant.gap);
