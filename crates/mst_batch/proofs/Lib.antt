@@ -28,5 +28,6 @@ pub mod NodeItems
 pub mod NodePlans
 pub mod Builds
 pub mod Marks
+pub mod LastLinks
 pub mod Finding
 pub mod Loads

@@ -15,14 +15,14 @@ abbrev pub list_links : List PlannedEntry → List ℕ
 list_links [] = []
 list_links (x ∷ xs) = links_kept x.child ++ list_links xs
 
-list_links-append : (xs ys : List PlannedEntry)
+pub list_links-append : (xs ys : List PlannedEntry)
     → list_links (xs ++ ys) ≡ list_links xs ++ list_links ys
 list_links-append [] ys = refl
 list_links-append (x ∷ xs) ys =
     ap (λ (links : List ℕ). links_kept x.child ++ links) (list_links-append xs ys)
     ∙ sym (append_assoc (links_kept x.child) (list_links xs) (list_links ys))
 
-links_with : (xs : List PlannedEntry) (t : PlanTree) → entries_links (with_planned xs (last t))
+pub links_with : (xs : List PlannedEntry) (t : PlanTree) → entries_links (with_planned xs (last t))
     ≡ list_links xs ++ links_kept t
 links_with [] t = refl
 links_with (x ∷ xs) t = ap (λ (links : List ℕ). links_kept x.child ++ links) (links_with xs t)

@@ -1,5 +1,5 @@
 //! The plan of the tree that items are built into.
-ghost use Rattle.std.specs.Prelude.{◌≡◌, List, Contains, map, None, Some, IfOk, MatchOption};
+ghost use Rattle.std.specs.Prelude.{◌≡◌, ◌≤◌, List, Contains, length, map, None, Some, IfOk, MatchOption};
 ghost use Rattle.std.specs.List.{AllByRecursion};
 ghost use Rattle.mst_key.specs.declared.format.Format.{Format};
 ghost use Rattle.mst_key.specs.Map.{Pair};
@@ -111,7 +111,9 @@ fn is_pair_of(item: &Item, layer: u8) -> bool {
 
 /// How many of the items are pairs of the layer: so many entries their node has.
 #[inline(never)]
-fn count_of(items: &[Item], layer: u8) -> usize {
+fn count_of(items: &[Item], layer: u8) -> usize
+    ensures few { result ≤ length items.now }
+{
     items.iter().filter(|item| is_pair_of(item, layer)).count()
 }
 

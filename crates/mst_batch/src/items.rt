@@ -8,7 +8,7 @@ use std::marker::Model;
 /// A pair of the map after a batch, or a tree of pairs that stays as it stands.
 #[derive(Debug, Drop)]
 pub enum Item {
-    /// A pair, with the place that is its own.
+    /// A pair, with the layer of its key.
     Pair {
         key: Key,
         value: Value,

@@ -1,5 +1,6 @@
 //! Marks at the rows of the nodes that a plan keeps.
-ghost use Rattle.std.specs.Prelude.{◌∷◌, [], IfOk, OnOk};
+ghost use Rattle.std.specs.Prelude.{◌<◌, ◌∷◌, [], IfOk, OnOk};
+ghost use Rattle.mst_arena.specs.Lists.{In};
 ghost use Rattle.mst_batch.specs.Beside.{links_kept, AreMarks};
 ghost use Rattle.mst_batch.specs.Kept.{AddsMarks};
 ghost use Rattle.mst_batch.specs.Plans.{plan_of, plan_of_node};
@@ -23,7 +24,9 @@ pub(crate) fn marks_of<A: Allocator, B: Allocator>(
 
 /// The greatest link that a plan keeps, 0 if it keeps none: with so much room the marks never move.
 #[cycle(last)]
-fn last_link<B: Allocator>(plan: &Plan<Box<PlanNode<B>, B>>) -> u32 {
+fn last_link<B: Allocator>(plan: &Plan<Box<PlanNode<B>, B>>) -> u32
+    ensures kept { 0 < result → In result (links_kept (plan_of plan.now)) }
+{
     match plan {
         Plan::Kept(link) => *link,
         Plan::Made(node) => last_link_below(node),
@@ -32,7 +35,9 @@ fn last_link<B: Allocator>(plan: &Plan<Box<PlanNode<B>, B>>) -> u32 {
 
 /// The greatest link that is kept in the gaps of a node to be made.
 #[cycle(last)]
-fn last_link_below<B: Allocator>(node: &PlanNode<B>) -> u32 {
+fn last_link_below<B: Allocator>(node: &PlanNode<B>) -> u32
+    ensures kept { 0 < result → In result (links_kept (plan_of_node node.now)) }
+{
     let mut last = last_link(&node.tail);
     for entry in &node.entries {
         last = last.max(last_link(&entry.child));

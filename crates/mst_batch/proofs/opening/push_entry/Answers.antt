@@ -11,7 +11,8 @@ returns-in-len1-up-clause-adds g c =
     (λ put format whole value layer there.
     adds_own format whole c.args.items.now.items c.push_put.new.items.items c.args.key.now value
     c.args.layer c.args.own.now c.requires.rising c.requires.own layer c.edit-item.result
-    c.in-len1-up.len_at_least c.edit-item.is (λ is. put format whole (is ∙ sym c.new.ensures.layer)))
+    c.in-len1-up.len_at_least c.edit-item.is
+    (λ is. put format whole (is ∙ sym c.new.ensures.layer)))
     c.push_put.ensures.adds
 
 pub returns-clause-adds : goal.returns-clause-adds
