@@ -1,5 +1,5 @@
 -- Lists of which each element has a property, with an item put into them.
-use Rattle.std.proofs.Common.{◌≡◌, ◌⊎◌, ℕ, zero, suc, List, [], ◌∷◌, ◌++◌, Some, subst, sym, inl, inr, arith}
+use Rattle.std.proofs.Common.{◌≡◌, ℕ, zero, suc, List, [], ◌∷◌, Option, None, Some, IfSome, IfNone, subst, sym, inl, inr, arith}
 use Rattle.std.specs.Prelude.{slice_get, slice_set}
 use Rattle.std.specs.List.{AllByRecursion}
 use Rattle.std.proofs.lemmas.Option.{slice_get_within, get_or_from_slice_get}
@@ -27,3 +27,10 @@ module _ {X : Type 0} where
         | inl e ↦ subst (AllByRecursion P) (sym e) (all-set P old place x all has)
         | inr e ↦ subst (AllByRecursion P) (sym e) (alls-append P old (x ∷ []) all (has, tt))
       ]
+
+  -- also if it may not have been put
+  pub all-put-if : (P : X → Type 0) (x : X) (old new : List X) (place : Option ℕ)
+      → IfSome place (λ i. IsPutAt i x old new) → IfNone place (new ≡ old)
+      → AllByRecursion P old → P x → AllByRecursion P new
+  all-put-if P x old new None put none all has = subst (AllByRecursion P) (sym none) all
+  all-put-if P x old new (Some i) put none all has = all-put P i x old new put all has

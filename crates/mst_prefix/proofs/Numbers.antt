@@ -1,14 +1,12 @@
 -- Texts by their numbers, and one more.
-use Rattle.std.proofs.Common.{◌≡◌, ◌≢◌, ◌<◌, ◌+◌, ℕ, zero, List, [], ◌++◌, eqb, cond, sym, ap, subst, ◌∙◌, inl, inr, arith}
+use Rattle.std.proofs.Common.{◌≡◌, ◌<◌, ◌+◌, ℕ, List, ◌++◌, eqb, cond, sym, ap, subst, ◌∙◌, inl, inr, arith}
 use Rattle.std.proofs.lemmas.Bool.Decides.{eqb_tells}
 use Rattle.std.specs.List.{AllByRecursion}
 use Rattle.sha2.specs.Hashers.{Holds256}
 use Rattle.mst_key.proofs.Alls.{alls-weaker}
 use Rattle.mst_prefix.specs.Kept.{HasNumber, AreKept}
-use Rattle.mst_prefix.specs.Places.{IsPutAt}
 use Rattle.mst_prefix.specs.declared.beginnings.Beginning.{Beginning}
 use Rattle.mst_prefix.specs.declared.beginnings.Beginnings.{Beginnings}
-use Rattle.mst_prefix.proofs.Lists.{all-put}
 
 -- the texts, with this one for a number
 pub with_text : (ℕ → List ℕ) → ℕ → List ℕ → ℕ → List ℕ

@@ -1,14 +1,16 @@
 //! The texts of nodes up to an entry, kept with the hashes that have taken them in.
-ghost use Rattle.std.specs.Prelude.{◌≡◌, ◌<◌, true, ◌++◌, ℕ, List, [], IfOk, IfSome, slice_get, Some};
+ghost use Rattle.std.specs.Prelude.{◌≡◌, ◌<◌, ◌≤◌, true, false, ◌++◌, ℕ, List, [], length, IfOk, IfSome, slice_get, Some};
 ghost use Rattle.sha2.specs.Hashers.{Holds256};
 ghost use Rattle.sha2.specs.Sha256.{sha256};
+ghost use Rattle.mst_node.specs.Text.{child_text, counted, held_of, held_text};
 ghost use Rattle.mst_prefix.specs.Kept.{AreKept, StandsAt, TakenWith, HasNoText};
 ghost use Rattle.mst_prefix.specs.declared.beginnings.Beginning.{Beginning};
 
-use crate::digests::{ValueDigest, digest_of_value};
+use crate::comparison::{after, after_child, after_counted, is_counted, is_digest};
+use crate::digests::{ValueDigest, digest_kept, digest_of_value};
 use crate::places::Places;
 use arrayvec::ArrayVec;
-use mst_key::Memory;
+use mst_key::{Format, Memory};
 use sha2::{Digest, Sha256};
 use std::alloc::Allocator;
 use std::mem;
@@ -29,16 +31,6 @@ pub(crate) struct Beginning {
     number: u64,
     /// Has taken the whole text in.
     hash: Sha256,
-}
-
-impl Beginning {
-    /// Whether it is the text with this number, and then this piece.
-    fn follows(&self, before: u64, piece: &[u8]) -> bool
-        ensures follows { result ≡ true
-            → (self.now.before ≡ before) × (self.now.piece.items ≡ piece.now) }
-    {
-        self.before == before && self.piece.as_slice() == piece
-    }
 }
 
 /// The text in front of the piece.
@@ -113,6 +105,19 @@ impl<A: Allocator> Beginnings<A> {
         self.to = to;
     }
 
+    /// What is kept for the row from which the entry is copied, is kept for its new row from here
+    /// on. Digests are kept in format 2 alone.
+    #[inline(always)]
+    fn bring(&mut self, format: Format)
+        ensures same { (hasher : Sha256) (m : List ℕ) → TakenWith hasher self.old m
+            → TakenWith hasher self.new m }
+    {
+        self.kept.swap(self.from, self.to);
+        if format == Format::Two {
+            self.digests.swap(self.from, self.to);
+        }
+    }
+
     /// Takes bytes after those that were spelled.
     pub(crate) fn take(&mut self, hasher: &mut Sha256, bytes: &[u8])
         ensures took { (m : List ℕ) → TakenWith hasher.old self.old m
@@ -127,13 +132,13 @@ impl<A: Allocator> Beginnings<A> {
         }
     }
 
-    /// The SHA-256 of the value of the entry that is copied.
+    /// The SHA-256 of the value of the entry.
     pub(crate) fn value_digest(&mut self, value: &[u8]) -> [u8; 32]
         ensures digest { result ≡ sha256 value.now }
         ensures same { (hasher : Sha256) (m : List ℕ) → TakenWith hasher self.old m
             → TakenWith hasher self.new m }
     {
-        digest_of_value(&mut self.digests, self.from, self.to, value)
+        digest_of_value(&mut self.digests, self.to, value)
     }
 
     /// The number of the front, if it has one.
@@ -148,90 +153,128 @@ impl<A: Allocator> Beginnings<A> {
         }
     }
 
-    /// A hash that has taken the front in.
-    fn hash(&self, hasher: &Sha256) -> Sha256
-        ensures hash { (texts : ℕ → List ℕ) (front : List ℕ)
-            → AreKept texts self.now → StandsAt texts hasher.now self.now front
-            → Holds256 result front }
-    {
-        let Front::Kept(place) = self.front else {
-            return copy_of(hasher);
-        };
-        match self.kept.at(place) {
-            Some(kept) => copy_of(&kept.hash),
-            None => copy_of(hasher),
-        }
-    }
-
     /// Hands all that was spelled to the hasher.
     pub(crate) fn let_go(&mut self, hasher: &mut Sha256)
         ensures taken { (m : List ℕ) → TakenWith hasher.old self.old m → Holds256 hasher.new m }
         ensures empty { (m : List ℕ) → TakenWith hasher.old self.old m → HasNoText self.new }
     {
-        let mut hash = self.hash(hasher);
-        hash.update(self.piece.as_slice());
-        *hasher = hash;
+        self.catch_up(hasher);
+        hasher.update(self.piece.as_slice());
         self.piece.clear();
         self.front = Front::Taken(None);
     }
 
-    /// The place of what is kept for the entry's row, if that is the text that was spelled.
-    fn found(&self) -> Option<usize>
+    /// Whether a text is what stands for the value. A digest that is not kept is not computed.
+    #[inline(always)]
+    fn is_held(&self, text: &[u8], format: Format, value: &[u8]) -> bool
+        requires value { length value.now ≤ 255 }
+        ensures held { result ≡ true → text.now ≡ held_text format (held_of format value.now) }
+    {
+        match format {
+            Format::One => is_counted(text, value),
+            Format::Two => match digest_kept(&self.digests, self.to, value) {
+                Some(digest) => is_digest(text, &digest),
+                None => false,
+            },
+        }
+    }
+
+    /// The place of what is kept for the entry's row, if that is the text up to here with the entry.
+    fn found(
+        &self,
+        format: Format,
+        child: &Option<[u8; 32]>,
+        key: &[u8],
+        value: &[u8],
+    ) -> Option<usize>
+        requires key { length key.now ≤ 255 }
+        requires value { length value.now ≤ 255 }
         ensures found { (texts : ℕ → List ℕ) (hasher : Sha256) (front : List ℕ)
             → AreKept texts self.now → StandsAt texts hasher self.now front
             → IfSome result (λ place. (b : Beginning)
             × (slice_get self.now.kept.items.items place ≡ Some b)
-            × (texts b.number ≡ front ++ self.now.piece.items)) }
+            × (texts b.number ≡ front ++ self.now.piece.items ++ child_text child.now
+            ++ counted key.now ++ held_text format (held_of format value.now))) }
     {
         let place = self.kept.place_of(self.to)?;
         let kept = self.kept.at(place)?;
-        if kept.follows(self.number()?, self.piece.as_slice()) {
+        if kept.before != self.number()? {
+            return None;
+        }
+        let rest = after(kept.piece.as_slice(), self.piece.as_slice())?;
+        let rest = after_child(rest, child)?;
+        let rest = after_counted(rest, key)?;
+        if self.is_held(rest, format, value) {
             Some(place)
         } else {
             None
         }
     }
 
-    /// Ends a piece: what was spelled is the front from here on. If it is what is kept for the
-    /// entry's row, it is not hashed; otherwise it is, and is kept for that row.
-    pub(crate) fn end_piece(&mut self, hasher: &mut Sha256)
-        ensures same { (m : List ℕ) → TakenWith hasher.old self.old m
-            → TakenWith hasher.new self.new m }
+    /// Takes an entry if what is kept for its row is the text that ends with it. Otherwise it takes
+    /// nothing.
+    pub(crate) fn goes_on(
+        &mut self,
+        format: Format,
+        child: Option<[u8; 32]>,
+        key: &[u8],
+        value: &[u8],
+    ) -> bool
+        requires key { length key.now ≤ 255 }
+        requires value { length value.now ≤ 255 }
+        ensures entry { result ≡ true → (hasher : Sha256) (m : List ℕ)
+            → TakenWith hasher self.old m → TakenWith hasher self.new (m ++ child_text child
+            ++ counted key.now ++ held_text format (held_of format value.now)) }
+        ensures same { result ≡ false → (hasher : Sha256) (m : List ℕ)
+            → TakenWith hasher self.old m → TakenWith hasher self.new m }
     {
-        self.kept.swap(self.from, self.to);
-        match self.found() {
+        self.bring(format);
+        match self.found(format, &child, key, value) {
             Some(place) => {
                 self.front = Front::Kept(place);
                 self.piece.clear();
+                true
             }
-            None => self.keep_piece(hasher),
+            None => false,
         }
     }
 
-    /// Hashes what was spelled, and keeps it.
-    fn keep_piece(&mut self, hasher: &mut Sha256)
+    /// Ends an entry: hashes what was spelled, and keeps it for the entry's row.
+    pub(crate) fn end_piece(&mut self, hasher: &mut Sha256)
         ensures same { (m : List ℕ) → TakenWith hasher.old self.old m
             → TakenWith hasher.new self.new m }
     {
         let (Some(before), Some(after)) = (self.number(), self.next.checked_add(1)) else {
             return self.let_go(hasher);
         };
-        let mut hash = self.hash(hasher);
-        hash.update(self.piece.as_slice());
         let number = self.next;
+        self.catch_up(hasher);
+        hasher.update(self.piece.as_slice());
+        self.next = after;
+        self.front = Front::Taken(Some(number));
         let piece = mem::replace(&mut self.piece, ArrayVec::new());
+        let Ok(hash) = hasher.clone() else {
+            unreachable!()
+        };
         let beginning = Beginning {
             before,
             piece,
             number,
             hash,
         };
-        self.next = after;
-        match self.kept.put(self.to, beginning) {
-            Ok(place) => self.front = Front::Kept(place),
-            Err(beginning) => {
-                *hasher = beginning.hash;
-                self.front = Front::Taken(Some(number));
+        let _place = self.kept.put(self.to, beginning);
+    }
+
+    /// Lets the hasher take the front, unless it has.
+    #[inline(always)]
+    fn catch_up(&self, hasher: &mut Sha256)
+        ensures hash { (texts : ℕ → List ℕ) (front : List ℕ)
+            → AreKept texts self.now → StandsAt texts hasher.old self.now front
+            → Holds256 hasher.new front }
+    {
+        if let Front::Kept(place) = self.front {
+            if let Some(kept) = self.kept.at(place) {
+                *hasher = copy_of(&kept.hash);
             }
         }
     }

@@ -43,7 +43,7 @@ impl ValueDigest {
 }
 
 /// The digest that is kept for a row, if it is that of this value.
-fn digest_kept<A: Allocator>(
+pub(crate) fn digest_kept<A: Allocator>(
     kept: &Places<ValueDigest, A>,
     row: u32,
     value: &[u8],
@@ -53,23 +53,21 @@ fn digest_kept<A: Allocator>(
     kept.at(kept.place_of(row)?)?.digest_of(value)
 }
 
-/// The SHA-256 of the value of an entry that is copied from a row to another: the digest that is
-/// kept for the first, if that is of this value. It is kept for the second.
+/// The SHA-256 of the value of an entry that is written into a row: the digest that is kept for the
+/// row, if that is of this value. Otherwise it is computed, and kept for the row.
 pub(crate) fn digest_of_value<A: Allocator>(
     kept: &mut Places<ValueDigest, A>,
-    from: u32,
-    to: u32,
+    row: u32,
     value: &[u8],
 ) -> [u8; 32]
     ensures digest { result ≡ sha256 value.now }
 {
-    kept.swap(from, to);
-    if let Some(digest) = digest_kept(kept, to, value) {
+    if let Some(digest) = digest_kept(kept, row, value) {
         return digest;
     }
     let digest = digest(value);
     if let Ok(value) = ArrayVec::try_from(value) {
-        let _place = kept.put(to, ValueDigest { value, digest });
+        let _place = kept.put(row, ValueDigest { value, digest });
     }
     digest
 }

@@ -1,5 +1,5 @@
 //! The hash of a node's text, which takes over what is kept of it.
-ghost use Rattle.std.specs.Prelude.{◌≡◌, ◌≤◌, ◌++◌, ℕ, List, [], length};
+ghost use Rattle.std.specs.Prelude.{◌≡◌, ◌≤◌, ◌++◌, ℕ, List, [], length, true, false};
 ghost use Rattle.sha2.specs.Sha256.{sha256};
 ghost use Rattle.mst_node.specs.Text.{child_text, counted, held_of, held_text};
 ghost use Rattle.mst_prefix.specs.Kept.{HasTaken, AreSound};
@@ -84,6 +84,9 @@ impl<A: Allocator> TextHasher<A> {
             ++ held_text format (held_of format value.now)) }
     {
         self.aim(from, to);
+        if self.goes_on(format, child, key, value) {
+            return;
+        }
         self.entry(format, child, key, value);
         self.end_piece();
     }
@@ -94,6 +97,22 @@ impl<A: Allocator> TextHasher<A> {
     {
         if let Some(lent) = &mut self.lent {
             lent.aim(from, to);
+        }
+    }
+
+    /// Takes an entry if what is kept for its row is the text that ends with it. Otherwise it takes
+    /// nothing.
+    fn goes_on(&mut self, format: Format, child: Option<[u8; 32]>, key: &[u8], value: &[u8]) -> bool
+        requires key { length key.now ≤ 255 }
+        requires value { length value.now ≤ 255 }
+        ensures entry { result ≡ true → (m : List ℕ) → HasTaken self.old m
+            → HasTaken self.new (m ++ child_text child ++ counted key.now
+            ++ held_text format (held_of format value.now)) }
+        ensures same { result ≡ false → (m : List ℕ) → HasTaken self.old m → HasTaken self.new m }
+    {
+        match &mut self.lent {
+            None => false,
+            Some(lent) => lent.goes_on(format, child, key, value),
         }
     }
 

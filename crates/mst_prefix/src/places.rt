@@ -1,5 +1,5 @@
 //! Items that are kept for rows.
-ghost use Rattle.std.specs.Prelude.{◌≡◌, [], IfOk, IfErr, MatchOption, slice_get, None, Some};
+ghost use Rattle.std.specs.Prelude.{◌≡◌, [], IfOk, IfSome, IfNone, MatchOption, slice_get, None, Some};
 ghost use Rattle.mst_prefix.specs.Places.{IsPutAt};
 
 use mst_key::Memory;
@@ -60,37 +60,35 @@ impl<T: Drop, A: Allocator> Places<T, A> {
         }
     }
 
-    /// Keeps an item for a row in place of the row's last one, or where there is room. Returns its
-    /// place, or the item if it has none.
-    pub(crate) fn put(&mut self, row: u32, item: T) -> Result<usize, T>
-        ensures put { IfOk result
+    /// Keeps an item for a row in place of the row's last one, or where there is room; otherwise it
+    /// lets it go. Returns its place.
+    #[inline(always)]
+    pub(crate) fn put(&mut self, row: u32, item: T) -> Option<usize>
+        ensures put { IfSome result
             (λ place. IsPutAt place item self.old.items.items self.new.items.items) }
-        ensures back { IfErr result
-            (λ back. (back ≡ item) × (self.new.items.items ≡ self.old.items.items)) }
+        ensures none { IfNone result (self.new.items.items ≡ self.old.items.items) }
     {
         match self.place_of(row) {
             Some(place) if place < self.items.len() => {
                 self.items[place] = item;
-                Ok(place)
+                Some(place)
             }
             _ => self.put_new(row as usize, item),
         }
     }
 
-    /// Keeps an item for a row where there is room. Returns its place, or the item if there is none
-    /// left.
-    fn put_new(&mut self, row: usize, item: T) -> Result<usize, T>
-        ensures put { IfOk result
+    /// Keeps an item for a row where there is room; otherwise it lets it go. Returns its place.
+    fn put_new(&mut self, row: usize, item: T) -> Option<usize>
+        ensures put { IfSome result
             (λ place. IsPutAt place item self.old.items.items self.new.items.items) }
-        ensures back { IfErr result
-            (λ back. (back ≡ item) × (self.new.items.items ≡ self.old.items.items)) }
+        ensures none { IfNone result (self.new.items.items ≡ self.old.items.items) }
     {
         let place = self.items.len();
         if row >= self.numbers.len() || place >= self.items.capacity() || place >= MOST {
-            return Err(item);
+            return None;
         }
         self.numbers[row] = place as u16 + 1;
         self.items.push_reserved(item);
-        Ok(place)
+        Some(place)
     }
 }

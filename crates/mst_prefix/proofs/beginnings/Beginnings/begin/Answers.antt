@@ -1,5 +1,4 @@
-use Rattle.std.proofs.Common.{rules, ◌≡◌, ◌<◌, ◌++◌, ℕ, List, [], ◌∷◌, IfOk, IfSome, slice_get, Some, refl, sym, ap, subst, arith, ◌∙◌}
-use Rattle.sha2.specs.Hashers.{Holds256}
+use Rattle.std.proofs.Common.{[], sym}
 use Rattle.mst_prefix.proofs.beginnings.Beginnings.begin.Goals as goal
 
 pub returns : goal.returns

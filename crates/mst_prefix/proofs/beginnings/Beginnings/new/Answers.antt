@@ -1,4 +1,4 @@
-use Rattle.std.proofs.Common.{rules, ◌≡◌, ℕ, List, [], refl, sym, subst, arith}
+use Rattle.std.proofs.Common.{[], refl, sym, subst, arith}
 use Rattle.std.specs.List.{AllByRecursion}
 use Rattle.mst_prefix.specs.Kept.{HasNumber}
 use Rattle.mst_prefix.proofs.beginnings.Beginnings.new.Goals as goal

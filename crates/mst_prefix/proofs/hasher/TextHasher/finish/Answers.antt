@@ -1,4 +1,4 @@
-use Rattle.std.proofs.Common.{◌≡◌, ℕ, List, sym, subst}
+use Rattle.std.proofs.Common.{sym, subst}
 use Rattle.mst_prefix.specs.Kept.{TakenBy, TakenWith}
 use Rattle.mst_prefix.proofs.hasher.TextHasher.finish.Goals as goal
 

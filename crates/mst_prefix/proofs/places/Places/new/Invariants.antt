@@ -1,4 +1,4 @@
-use Rattle.std.proofs.Common.{◌≡◌, ◌≤◌, vec_capacity, vec_len}
+use Rattle.std.proofs.Common.{◌≡◌, vec_capacity, vec_len}
 use Rattle.mst_prefix.proofs.places.Places.new.Given as goal
 
 abbrev pub invariant-loop : goal.invariant-loop
