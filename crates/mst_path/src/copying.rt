@@ -37,6 +37,7 @@ pub fn root_at<R: Rows>(rows: &mut R, link: u32) -> Root
 
 /// Moves the entry in a row, which has these links and this key, into the node, with a tree in the
 /// gap before it: it is copied, and the row dies.
+#[inline(always)]
 pub(crate) fn move_entry<R: Rows, A: Allocator>(
     rows: &mut R,
     desk: &mut Desk<A>,

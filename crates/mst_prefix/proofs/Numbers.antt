@@ -74,3 +74,15 @@ kept_with texts b c text kept step all = record {
       (λ next. AllByRecursion (HasNumber (with_text texts b.next text) next) c.kept.items.items)
       (sym step) all;
 }
+
+-- a beginning that becomes the text after another front, with its number
+pub renewed : (texts : ℕ → List ℕ) (next : ℕ) (front : List ℕ) (b new : Beginning) (before : ℕ)
+    → new.before ≡ before → new.number ≡ next → new.piece.items ≡ b.piece.items → before < next
+    → texts before ≡ front → Holds256 new.hash (front ++ b.piece.items)
+    → HasNumber (with_text texts next (front ++ b.piece.items)) (next + 1) new
+renewed texts next front b new before is number piece less named holds =
+    now_has texts next (front ++ b.piece.items) new (omega (arith, is, less)) number
+    (ap (λ (t : List ℕ). t ++ b.piece.items) (sym named)
+    ∙ ap (λ n. texts n ++ b.piece.items) (sym is)
+    ∙ ap (λ (xs : List ℕ). texts new.before ++ xs) (sym piece))
+    holds

@@ -46,17 +46,21 @@ past_all one other rest left end p is =
     ∙ ap (λ (xs : List ℕ). xs ++ end) (sym p.begins_too)
 
 -- a text that is four parts
-pub spelled : (texts : ℕ → List ℕ) (number before its : ℕ) (front piece kept a b c r s t : List ℕ)
-    → texts number ≡ texts its ++ kept → its ≡ before → texts before ≡ front → kept ≡ piece ++ r
-    → r ≡ a ++ s → s ≡ b ++ t → t ≡ c → texts number ≡ front ++ piece ++ a ++ b ++ c
-spelled texts number before its front piece kept a b c r s t text same is p q u v =
-    text ∙ ap (λ n. texts n ++ kept) same ∙ ap (λ (xs : List ℕ). xs ++ kept) is
-    ∙ ap (λ (xs : List ℕ). front ++ xs)
-    (p ∙ ap (λ (xs : List ℕ). piece ++ xs) (q ∙ ap (λ (xs : List ℕ). a ++ xs)
-    (u ∙ ap (λ (xs : List ℕ). b ++ xs) v)))
-    ∙ sym (append_assoc front piece (a ++ (b ++ c)))
-    ∙ sym (append_assoc (front ++ piece) a (b ++ c))
-    ∙ sym (append_assoc (front ++ piece ++ a) b c)
+pub four_parts : (kept piece a b c r s t : List ℕ) → kept ≡ piece ++ r → r ≡ a ++ s
+    → s ≡ b ++ t → t ≡ c → kept ≡ piece ++ a ++ b ++ c
+four_parts kept piece a b c r s t p q u v =
+    p ∙ ap (λ (xs : List ℕ). piece ++ xs) (q ∙ ap (λ (xs : List ℕ). a ++ xs)
+    (u ∙ ap (λ (xs : List ℕ). b ++ xs) v)) ∙ sym (append_assoc piece a (b ++ c))
+    ∙ sym (append_assoc (piece ++ a) b c)
+
+-- a text after a front
+pub after_front : (m front piece a b c kept : List ℕ) → m ≡ front ++ piece
+    → kept ≡ piece ++ a ++ b ++ c → m ++ a ++ b ++ c ≡ front ++ kept
+after_front m front piece a b c kept is same =
+    ap (λ (xs : List ℕ). xs ++ a ++ b ++ c) is
+    ∙ ap (λ (xs : List ℕ). xs ++ b ++ c) (append_assoc front piece a)
+    ∙ ap (λ (xs : List ℕ). xs ++ c) (append_assoc front (piece ++ a) b)
+    ∙ append_assoc front (piece ++ a ++ b) c ∙ ap (λ (xs : List ℕ). front ++ xs) (sym same)
 
 -- past what is left of the other text, if the rest begins with it
 pub past_if : {R : Type 0} (now : R → List ℕ) (one other rest left : List ℕ)
@@ -77,3 +81,7 @@ stripped now rest left (Some r) is =
     ∙ ap (λ (xs : List ℕ). xs ++ drop (length left) rest)
     (same_text (take (length left) rest) left (sym is.0))
     ∙ ap (λ (xs : List ℕ). left ++ xs) (sym is.1)
+
+-- three parts at once
+pub grouped : (xs a b c : List ℕ) → xs ++ a ++ b ++ c ≡ xs ++ (a ++ b ++ c)
+grouped xs a b c = ap (λ (ys : List ℕ). ys ++ c) (append_assoc xs a b) ∙ append_assoc xs (a ++ b) c

@@ -33,6 +33,28 @@ pub(crate) struct Beginning {
     hash: Sha256,
 }
 
+impl Beginning {
+    /// Becomes the text after another one, which a hasher has taken in, with the same last piece.
+    /// The hasher takes that in.
+    #[inline(always)]
+    fn renew(&mut self, before: u64, number: u64, hasher: &mut Sha256)
+        ensures before { self.new.before ≡ before }
+        ensures number { self.new.number ≡ number }
+        ensures piece { self.new.piece.items ≡ self.old.piece.items }
+        ensures took { (m : List ℕ) → Holds256 hasher.old m
+            → Holds256 hasher.new (m ++ self.old.piece.items) }
+        ensures hash { self.new.hash ≡ hasher.new }
+    {
+        hasher.update(self.piece.as_slice());
+        self.before = before;
+        self.number = number;
+        match hasher.clone() {
+            Ok(hash) => self.hash = hash,
+            Err(_) => unreachable!(),
+        }
+    }
+}
+
 /// The text in front of the piece.
 #[derive(Clone, Copy)]
 pub(crate) enum Front {
@@ -179,7 +201,8 @@ impl<A: Allocator> Beginnings<A> {
         }
     }
 
-    /// The place of what is kept for the entry's row, if that is the text up to here with the entry.
+    /// The place of what is kept for the entry's row, if its last piece is what was spelled and then
+    /// the entry.
     fn found(
         &self,
         format: Format,
@@ -189,18 +212,13 @@ impl<A: Allocator> Beginnings<A> {
     ) -> Option<usize>
         requires key { length key.now ≤ 255 }
         requires value { length value.now ≤ 255 }
-        ensures found { (texts : ℕ → List ℕ) (hasher : Sha256) (front : List ℕ)
-            → AreKept texts self.now → StandsAt texts hasher self.now front
-            → IfSome result (λ place. (b : Beginning)
+        ensures found { IfSome result (λ place. (b : Beginning)
             × (slice_get self.now.kept.items.items place ≡ Some b)
-            × (texts b.number ≡ front ++ self.now.piece.items ++ child_text child.now
+            × (b.piece.items ≡ self.now.piece.items ++ child_text child.now
             ++ counted key.now ++ held_text format (held_of format value.now))) }
     {
         let place = self.kept.place_of(self.to)?;
         let kept = self.kept.at(place)?;
-        if kept.before != self.number()? {
-            return None;
-        }
         let rest = after(kept.piece.as_slice(), self.piece.as_slice())?;
         let rest = after_child(rest, child)?;
         let rest = after_counted(rest, key)?;
@@ -211,10 +229,49 @@ impl<A: Allocator> Beginnings<A> {
         }
     }
 
-    /// Takes an entry if what is kept for its row is the text that ends with it. Otherwise it takes
-    /// nothing.
+    /// Whether the text before the last piece of what is kept at a place is the front.
+    #[inline(always)]
+    fn follows(&self, place: usize) -> bool
+        ensures follows { result ≡ true → (texts : ℕ → List ℕ) (hasher : Sha256) (front : List ℕ)
+            (b : Beginning) → AreKept texts self.now → StandsAt texts hasher self.now front
+            → slice_get self.now.kept.items.items place ≡ Some b
+            → texts b.number ≡ front ++ b.piece.items }
+    {
+        let (Some(kept), Some(number)) = (self.kept.at(place), self.number()) else {
+            return false;
+        };
+        kept.before == number
+    }
+
+    /// Takes what is kept at a place, which ends with the piece and then an entry, as the text up to
+    /// here with the entry: it is hashed after the front. Takes nothing if numbers are spent.
+    #[inline(always)]
+    fn renew_at(&mut self, hasher: &mut Sha256, place: usize) -> bool
+        requires there { place < length self.old.kept.items.items }
+        ensures entry { result ≡ true → (m entry : List ℕ) (b : Beginning)
+            → slice_get self.old.kept.items.items place ≡ Some b
+            → b.piece.items ≡ self.old.piece.items ++ entry
+            → TakenWith hasher.old self.old m → TakenWith hasher.new self.new (m ++ entry) }
+        ensures same { result ≡ false → (m : List ℕ) → TakenWith hasher.old self.old m
+            → TakenWith hasher.new self.new m }
+    {
+        let (Some(before), Some(after)) = (self.number(), self.next.checked_add(1)) else {
+            return false;
+        };
+        let number = self.next;
+        self.catch_up(hasher);
+        self.kept.items[place].renew(before, number, hasher);
+        self.next = after;
+        self.front = Front::Taken(Some(number));
+        self.piece.clear();
+        true
+    }
+
+    /// Takes an entry if what is kept for its row ends with it: if that has the same front too, it
+    /// is not hashed. Otherwise it takes nothing.
     pub(crate) fn goes_on(
         &mut self,
+        hasher: &mut Sha256,
         format: Format,
         child: Option<[u8; 32]>,
         key: &[u8],
@@ -222,21 +279,23 @@ impl<A: Allocator> Beginnings<A> {
     ) -> bool
         requires key { length key.now ≤ 255 }
         requires value { length value.now ≤ 255 }
-        ensures entry { result ≡ true → (hasher : Sha256) (m : List ℕ)
-            → TakenWith hasher self.old m → TakenWith hasher self.new (m ++ child_text child
-            ++ counted key.now ++ held_text format (held_of format value.now)) }
-        ensures same { result ≡ false → (hasher : Sha256) (m : List ℕ)
-            → TakenWith hasher self.old m → TakenWith hasher self.new m }
+        ensures entry { result ≡ true → (m : List ℕ)
+            → TakenWith hasher.old self.old m → TakenWith hasher.new self.new (m
+            ++ child_text child ++ counted key.now
+            ++ held_text format (held_of format value.now)) }
+        ensures same { result ≡ false → (m : List ℕ)
+            → TakenWith hasher.old self.old m → TakenWith hasher.new self.new m }
     {
         self.bring(format);
-        match self.found(format, &child, key, value) {
-            Some(place) => {
-                self.front = Front::Kept(place);
-                self.piece.clear();
-                true
-            }
-            None => false,
+        let Some(place) = self.found(format, &child, key, value) else {
+            return false;
+        };
+        if !self.follows(place) {
+            return self.renew_at(hasher, place);
         }
+        self.front = Front::Kept(place);
+        self.piece.clear();
+        true
     }
 
     /// Ends an entry: hashes what was spelled, and keeps it for the entry's row.

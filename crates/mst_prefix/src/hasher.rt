@@ -112,7 +112,7 @@ impl<A: Allocator> TextHasher<A> {
     {
         match &mut self.lent {
             None => false,
-            Some(lent) => lent.goes_on(format, child, key, value),
+            Some(lent) => lent.goes_on(&mut self.hasher, format, child, key, value),
         }
     }
 

@@ -16,7 +16,7 @@ const MOST: usize = 65_535;
 pub(crate) struct Places<T, A: Allocator> {
     /// For each row the place of its item and one, or 0 for no item.
     numbers: Vec<u16, A>,
-    items: Vec<T, A>,
+    pub(crate) items: Vec<T, A>,
 }
 
 impl<T: Drop, A: Allocator + Copy> Places<T, A> {

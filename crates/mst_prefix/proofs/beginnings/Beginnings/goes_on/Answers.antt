@@ -1,22 +1,38 @@
-use Rattle.std.proofs.Common.{◌++◌, ℕ, List, sym, ap, ◌∙◌}
+use Rattle.std.proofs.Common.{rules, ◌≡◌, true, ◌++◌, ℕ, List, sym, ap, subst, ◌∙◌}
 use Rattle.std.proofs.lemmas.List.{append-nil}
 use Rattle.mst_node.specs.Text.{child_text, counted, held_of, held_text}
+use Rattle.mst_prefix.specs.Kept.{TakenWith}
+use Rattle.mst_prefix.proofs.Words.{after_front, grouped}
 use Rattle.mst_prefix.proofs.beginnings.Beginnings.goes_on.Goals as goal
 
-pub returns-in-Some-clause-entry : goal.returns-in-Some-clause-entry
-returns-in-Some-clause-entry g c = λ yes hasher m before.
-    let taken = c.bring.ensures.same hasher m before in
+pub returns-then-not-follows-clause-entry : goal.returns-then-not-follows-clause-entry
+returns-then-not-follows-clause-entry g c = λ yes m before.
+    let taken = c.bring.ensures.same c.args.hasher.now m before in
+    let found = c.in-Some.ensures.found in
+    let child = child_text c.args.child in
+    let key = counted c.args.key.now in
+    let held = held_text c.args.format (held_of c.args.format c.args.value.now) in
+    subst (λ t. TakenWith c.renew_at.new.hasher c.renew_at.new.self t)
+    (sym (grouped m child key held))
+    (c.renew_at.ensures.entry yes m (child ++ key ++ held) found.0 found.1
+    (found.2 ∙ grouped c.bring.new.self.piece.items child key held) taken)
+
+pub returns-clause-entry : goal.returns-clause-entry
+returns-clause-entry g c = λ yes m before.
+    let taken = c.bring.ensures.same c.args.hasher.now m before in
     let kept = taken.1 in
-    let found = c.in-Some.ensures.found taken.0 hasher taken.2 kept taken.3 in
-    let entry = λ (xs : List ℕ). xs ++ child_text c.args.child ++ counted c.args.key.now
-    ++ held_text c.args.format (held_of c.args.format c.args.value.now) in
-    let whole : List ℕ = taken.2 ++ c.bring.new.self.piece.items ++ child_text c.args.child
-    ++ counted c.args.key.now
-    ++ held_text c.args.format (held_of c.args.format c.args.value.now) in (
+    let found = c.in-Some.ensures.found in
+    let follows : c.follows.result ≡ true = search rules in
+    let named = c.follows.ensures.follows follows taken.0 c.args.hasher.now taken.2 found.0 kept
+    taken.3 found.1 in
+    let whole : List ℕ = taken.2 ++ found.0.piece.items in (
       taken.0,
       record { some = kept.some; empty = kept.empty; beginnings = kept.beginnings },
       whole,
-      (found.0, found.1, found.2),
-      ap entry taken.4 ∙ sym (append-nil whole)
-          ∙ ap (λ (xs : List ℕ). whole ++ xs) (sym c.clear.ensures),
+      (found.0, found.1, named),
+      after_front m taken.2 c.bring.new.self.piece.items (child_text c.args.child)
+          (counted c.args.key.now)
+          (held_text c.args.format (held_of c.args.format c.args.value.now))
+          found.0.piece.items taken.4 found.2
+          ∙ sym (append-nil whole) ∙ ap (λ (xs : List ℕ). whole ++ xs) (sym c.clear.ensures),
     )
