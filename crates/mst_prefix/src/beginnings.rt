@@ -201,8 +201,8 @@ impl<A: Allocator> Beginnings<A> {
         }
     }
 
-    /// The place of what is kept for the entry's row, if its last piece is what was spelled and then
-    /// the entry.
+    /// The place of what is kept for the entry's row, if its last piece is what was spelled, and
+    /// then the entry.
     fn found(
         &self,
         format: Format,
@@ -243,8 +243,9 @@ impl<A: Allocator> Beginnings<A> {
         kept.before == number
     }
 
-    /// Takes what is kept at a place, which ends with the piece and then an entry, as the text up to
-    /// here with the entry: it is hashed after the front. Takes nothing if numbers are spent.
+    /// Makes what is kept at a place, which ends with what was spelled and then an entry, the text
+    /// up to here with the entry: its last piece is hashed after the front. Takes nothing if the
+    /// numbers are spent.
     #[inline(always)]
     fn renew_at(&mut self, hasher: &mut Sha256, place: usize) -> bool
         requires there { place < length self.old.kept.items.items }

@@ -9,7 +9,8 @@ slice_bounds-after_words-end-in-32 c =
 pub returns-in-32 : goal.returns-in-32
 returns-in-32 c = record {
   rest = subst
-      (λ (xs : List ℕ). IfSome c.after_words-in-32.result (λ rest. c.args.text.now ≡ xs ++ rest.now))
+      (λ (xs : List ℕ). IfSome c.after_words-in-32.result
+      (λ rest. c.args.text.now ≡ xs ++ rest.now))
       (take_all 32 c.args.bytes.now (omega (arith, c.in-32.is)))
       c.after_words-in-32.ensures.rest;
 }

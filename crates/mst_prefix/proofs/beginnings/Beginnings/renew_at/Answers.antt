@@ -15,7 +15,8 @@ returns-clause-entry g c = λ yes m entry b there ends taken.
     let front = taken.2 in
     let number = c.in-Some-Some.ensures.number texts c.args.hasher.now front kept taken.3 in
     let old : c.index_mut.result.now ≡ b =
-    c.index_mut.ensures.value ∙ get_or_from_slice_get c.args.self.now.kept.items.items c.args.place b
+    c.index_mut.ensures.value
+    ∙ get_or_from_slice_get c.args.self.now.kept.items.items c.args.place b
     c.index_mut.result.now there in
     let whole : List ℕ = front ++ b.piece.items in
     let holds : Holds256 c.renew.new.hasher whole =
