@@ -31,6 +31,10 @@ fn past_word<'a, 'b>(one: &'a [u8], other: &'b [u8]) -> Option<(&'a [u8], &'b [u
 fn after_words<'a>(text: &'a [u8], bytes: &[u8]) -> Option<&'a [u8]>
     ensures rest { IfSome result (λ rest. text.now ≡ bytes.now ++ rest.now) }
 {
+    // After this test the compiled code needs none before each word.
+    if text.len() < bytes.len() {
+        return None;
+    }
     let (mut rest, mut left) = (text, bytes);
     for _ in 0..bytes.len() / 8 {
         let rests = past_word(rest, left)?;
