@@ -35,9 +35,13 @@ abbrev pub lines_of : List ℕ → List (List ℕ)
 lines_of bytes =
     complete bytes ++ (if length (remainder bytes) == 0 then [] else remainder bytes ∷ [])
 
--- what is kept of a line: its bytes, unless they are more than 4,096
+-- the most bytes that are kept of a line
+abbrev pub longest_line : ℕ
+longest_line = 4096
+
+-- what is kept of a line: its bytes, unless they are too many
 abbrev pub kept : List ℕ → Option (List ℕ)
-kept line = if nat_lt 4096 (length line) then None else Some line
+kept line = if nat_lt longest_line (length line) then None else Some line
 
 -- the same when more bytes follow
 abbrev pub kept_with : Option (List ℕ) → List ℕ → Option (List ℕ)

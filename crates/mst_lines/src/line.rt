@@ -1,6 +1,6 @@
 //! The line that is being read.
 ghost use Rattle.std.specs.Prelude.{◌≡◌, ◌↔◌, ◌≤◌, [], length, IsTrue, None, Some, MatchOption, IfSome};
-ghost use Rattle.mst_lines.specs.Lines.{kept_with};
+ghost use Rattle.mst_lines.specs.Lines.{longest_line, kept_with};
 
 use arrayvec::ArrayVec;
 use std::marker::Model;
@@ -62,7 +62,7 @@ impl LineBuffer {
     /// The bytes of the line, unless they are too many.
     pub fn bytes(&self) -> Option<&[u8]>
         ensures bytes { MatchOption result (self.now ≡ None) (λ bytes. self.now ≡ Some bytes.now) }
-        ensures size { IfSome result (λ bytes. length bytes.now ≤ 4096) }
+        ensures size { IfSome result (λ bytes. length bytes.now ≤ longest_line) }
     {
         if self.is_long {
             return None;

@@ -36,12 +36,15 @@ abbrev pub pass_in : ℕ → List ℕ → Option ℕ
 pass_in n [] = None
 pass_in n (d ∷ ds) = if d == 48 then None else number_up_to n 0 (d ∷ ds)
 
--- the number of pairs that a field names, at most 65,535: decimal digits, the first of several not
--- 0
+-- the most pairs that a line may ask for
+abbrev pub most_pairs : ℕ
+most_pairs = 65535
+
+-- the number of pairs that a field names: decimal digits, the first of several not 0
 abbrev pub count_in : List ℕ → Option ℕ
 count_in [] = None
-count_in (d ∷ []) = number_up_to 65535 0 (d ∷ [])
-count_in (d ∷ e ∷ ds) = if d == 48 then None else number_up_to 65535 0 (d ∷ e ∷ ds)
+count_in (d ∷ []) = number_up_to most_pairs 0 (d ∷ [])
+count_in (d ∷ e ∷ ds) = if d == 48 then None else number_up_to most_pairs 0 (d ∷ e ∷ ds)
 
 -- the format that a field names: 1 or 2
 abbrev pub format_in : List ℕ → Option FormatOf

@@ -76,23 +76,36 @@ no_fields command _ = Err FieldCount
 
 -- ---- lines
 
-abbrev pub named_command : List ℕ → List (List ℕ) → Result Command Fault
-named_command name fields =
+-- the command without fields that has this name
+abbrev pub plain_command : List ℕ → Option Command
+plain_command name =
+    if bytes_eq name (codes "root") then Some Root
+    else if bytes_eq name (codes "node") then Some Node
+    else if bytes_eq name (codes "pin") then Some Pin
+    else if bytes_eq name (codes "unpin") then Some Unpin
+    else if bytes_eq name (codes "rows") then Some Rows
+    else if bytes_eq name (codes "format") then Some Format
+    else None
+
+-- a command with fields, by its name
+abbrev pub full_command : List ℕ → List (List ℕ) → Result Command Fault
+full_command name fields =
     if bytes_eq name (codes "put") then put_fields fields
     else if bytes_eq name (codes "del") then about_key Remove (key_fields fields)
     else if bytes_eq name (codes "get") then about_key Get (key_fields fields)
     else if bytes_eq name (codes "next") then next_fields fields
     else if bytes_eq name (codes "range") then range_fields fields
-    else if bytes_eq name (codes "root") then no_fields Root fields
-    else if bytes_eq name (codes "node") then no_fields Node fields
     else if bytes_eq name (codes "prove") then about_key Prove (key_fields fields)
-    else if bytes_eq name (codes "pin") then no_fields Pin fields
-    else if bytes_eq name (codes "unpin") then no_fields Unpin fields
-    else if bytes_eq name (codes "rows") then no_fields Rows fields
-    else if bytes_eq name (codes "format") then no_fields Format fields
     else if bytes_eq name (codes "migrate") then migrate_fields fields
     else if bytes_eq name (codes "batch") then about_edits (edits_read fields)
     else Err NoCommand
+
+abbrev pub plain_or_full : Option Command → List ℕ → List (List ℕ) → Result Command Fault
+plain_or_full (Some command) name fields = no_fields command fields
+plain_or_full None name fields = full_command name fields
+
+abbrev pub named_command : List ℕ → List (List ℕ) → Result Command Fault
+named_command name fields = plain_or_full (plain_command name) name fields
 
 abbrev pub command_of : List (List ℕ) → Result Command Fault
 command_of [] = Err NoCommand

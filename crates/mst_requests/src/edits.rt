@@ -1,5 +1,6 @@
 //! The edits of a batch, as the fields of a line spell them.
 ghost use Rattle.std.specs.Prelude.{◌≡◌, ◌≤◌, ◌<◌, length, MatchOption, MatchResult, IfSome, IfOk, IfErr, Some, None};
+ghost use Rattle.mst_lines.specs.Lines.{longest_line};
 ghost use Rattle.mst_requests.specs.Fields.{fields_of, fields_behind, bytes_of};
 ghost use Rattle.mst_requests.specs.Batches.{put_edit, remove_edit, before, edits_in, edits_read, told};
 ghost use Rattle.std.specs.Result.{result_err};
@@ -12,8 +13,8 @@ use std::marker::Model;
 
 // The put that two fields spell, or its fault.
 fn put_in(key: &[u8], value: &[u8]) -> Result<Edit, Fault>
-    requires key { length key.now ≤ 4096 }
-    requires value { length value.now ≤ 4096 }
+    requires key { length key.now ≤ longest_line }
+    requires value { length value.now ≤ longest_line }
     ensures { result ≡ put_edit (bytes_of key.now) (bytes_of value.now) }
 {
     match (key_of(key), value_of(value)) {
@@ -26,7 +27,7 @@ fn put_in(key: &[u8], value: &[u8]) -> Result<Edit, Fault>
 
 // The remove that a field spells, or its fault.
 fn remove_in(key: &[u8]) -> Result<Edit, Fault>
-    requires { length key.now ≤ 4096 }
+    requires { length key.now ≤ longest_line }
     ensures { result ≡ remove_edit (bytes_of key.now) }
 {
     match key_of(key) {
@@ -38,7 +39,7 @@ fn remove_in(key: &[u8]) -> Result<Edit, Fault>
 
 // The first edit, or its fault, and what stands after it, if an edit stands first.
 fn first_edit(fields: &[u8]) -> Option<(Result<Edit, Fault>, Option<&[u8]>)>
-    requires { length fields.now ≤ 4096 }
+    requires { length fields.now ≤ longest_line }
     ensures edits { MatchOption result (edits_in (fields_of fields.now) ≡ None)
         (λ r. edits_in (fields_of fields.now) ≡ before r.0 (edits_in (fields_behind r.1))) }
     ensures size { IfSome result (λ r. IfSome r.1 (λ rest. length rest.now < length fields.now)) }
@@ -67,7 +68,7 @@ fn first_told(first: Option<Fault>, later: Option<Fault>) -> Option<Fault>
 
 // The fault of the batch that the fields spell, if it has one.
 fn batch_fault(fields: Option<&[u8]>) -> Option<Fault>
-    requires { IfSome fields (λ rest. length rest.now ≤ 4096) }
+    requires { IfSome fields (λ rest. length rest.now ≤ longest_line) }
     ensures { result ≡ result_err (edits_read (fields_behind fields.entry)) }
 {
     let mut rest = fields;
@@ -92,6 +93,7 @@ pub struct Edits<'l> {
 impl<'l> Model for Edits<'l> {
     ghost use Rattle.std.specs.Prelude.{◌≡◌, ◌≤◌, List, length, Ok, IfSome};
     ghost use Rattle.mst_key.specs.declared.history.Edit.{Edit};
+    ghost use Rattle.mst_lines.specs.Lines.{longest_line};
     ghost use Rattle.mst_requests.specs.Fields.{fields_behind};
     ghost use Rattle.mst_requests.specs.Batches.{edits_read, edits_or_none};
 
@@ -99,7 +101,7 @@ impl<'l> Model for Edits<'l> {
 
     ghost view = { λ e. edits_or_none (edits_read (fields_behind e.fields)) };
 
-    ghost invariant = { λ e. (IfSome e.fields (λ rest. length rest.now ≤ 4096))
+    ghost invariant = { λ e. (IfSome e.fields (λ rest. length rest.now ≤ longest_line))
         × (edits_read (fields_behind e.fields)
         ≡ Ok (edits_or_none (edits_read (fields_behind e.fields)))) };
 }
@@ -107,7 +109,7 @@ impl<'l> Model for Edits<'l> {
 impl<'l> Edits<'l> {
     /// The edits that the fields spell, or the fault of the batch. This takes no memory.
     pub fn new(fields: Option<&'l [u8]>) -> Result<Edits<'l>, Fault>
-        requires { IfSome fields (λ rest. length rest.now ≤ 4096) }
+        requires { IfSome fields (λ rest. length rest.now ≤ longest_line) }
         ensures edits { result ≡ edits_read (fields_behind fields.entry) }
     {
         match batch_fault(fields) {

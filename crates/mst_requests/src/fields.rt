@@ -1,5 +1,6 @@
 //! The fields of a line, and what they spell.
 ghost use Rattle.std.specs.Prelude.{◌≡◌, ◌≢◌, ◌≤◌, ◌<◌, ◌∷◌, [], List, ℕ, true, false, length, take, MatchOption, MatchResult, IfSome, IfOk, None, Some};
+ghost use Rattle.mst_lines.specs.Lines.{longest_line};
 ghost use Rattle.mst_requests.specs.declared.request.Fault.TheVariants.{FieldCount};
 ghost use Rattle.mst_requests.specs.Fields.{fields_of, fields_behind, bytes_of as spelt_bytes, number_up_to, pass_in, count_in, format_in, has_key_size, has_value_size, has_bound_size, bound_of};
 
@@ -32,10 +33,10 @@ pub fn no_field(fields: Option<&[u8]>) -> Result<(), Fault>
 
 /// The one field, if there is one.
 pub fn one_field(fields: Option<&[u8]>) -> Result<&[u8], Fault>
-    requires { IfSome fields (λ rest. length rest.now ≤ 4096) }
+    requires { IfSome fields (λ rest. length rest.now ≤ longest_line) }
     ensures fields { MatchResult result (λ one. fields_behind fields.entry ≡ one.now ∷ [])
         (λ fault. (fault ≡ FieldCount) × (length (fields_behind fields.entry) ≢ 1)) }
-    ensures size { IfOk result (λ one. length one.now ≤ 4096) }
+    ensures size { IfOk result (λ one. length one.now ≤ longest_line) }
 {
     let Some(fields) = fields else {
         return Err(Fault::FieldCount);
@@ -49,11 +50,12 @@ pub fn one_field(fields: Option<&[u8]>) -> Result<&[u8], Fault>
 
 /// The two fields, if there are two.
 pub fn two_fields(fields: Option<&[u8]>) -> Result<(&[u8], &[u8]), Fault>
-    requires { IfSome fields (λ rest. length rest.now ≤ 4096) }
+    requires { IfSome fields (λ rest. length rest.now ≤ longest_line) }
     ensures fields { MatchResult result
         (λ two. fields_behind fields.entry ≡ two.0.now ∷ two.1.now ∷ [])
         (λ fault. (fault ≡ FieldCount) × (length (fields_behind fields.entry) ≢ 2)) }
-    ensures size { IfOk result (λ two. (length two.0.now ≤ 4096) × (length two.1.now ≤ 4096)) }
+    ensures size { IfOk result (λ two. (length two.0.now ≤ longest_line)
+        × (length two.1.now ≤ longest_line)) }
 {
     let Some(fields) = fields else {
         return Err(Fault::FieldCount);
@@ -65,12 +67,12 @@ pub fn two_fields(fields: Option<&[u8]>) -> Result<(&[u8], &[u8]), Fault>
 
 /// The three fields, if there are three.
 pub fn three_fields(fields: Option<&[u8]>) -> Result<(&[u8], &[u8], &[u8]), Fault>
-    requires { IfSome fields (λ rest. length rest.now ≤ 4096) }
+    requires { IfSome fields (λ rest. length rest.now ≤ longest_line) }
     ensures fields { MatchResult result
         (λ three. fields_behind fields.entry ≡ three.0.now ∷ three.1.now ∷ three.2.now ∷ [])
         (λ fault. (fault ≡ FieldCount) × (length (fields_behind fields.entry) ≢ 3)) }
-    ensures size { IfOk result (λ three. (length three.0.now ≤ 4096)
-        × (length three.1.now ≤ 4096)) }
+    ensures size { IfOk result (λ three. (length three.0.now ≤ longest_line)
+        × (length three.1.now ≤ longest_line)) }
 {
     let Some(fields) = fields else {
         return Err(Fault::FieldCount);
@@ -136,7 +138,7 @@ pub fn format_of(field: &[u8]) -> Option<Format>
 // none.
 #[tactic(auto, unfolding(crate::specs::Fields::bytes_of))]
 fn bytes_of(field: &[u8], room: &mut [u8; 2048]) -> Option<usize>
-    requires { length field.now ≤ 4096 }
+    requires { length field.now ≤ longest_line }
     ensures { MatchOption result (spelt_bytes field.now ≡ None) (λ n. (n ≤ 2048)
         × (spelt_bytes field.now ≡ Some (take n room.new))) }
 {
@@ -156,7 +158,7 @@ fn bytes_of(field: &[u8], room: &mut [u8; 2048]) -> Option<usize>
 
 /// The key that a field spells, if it spells any bytes.
 pub fn key_of(field: &[u8]) -> Option<Result<Key, KeySize>>
-    requires { length field.now ≤ 4096 }
+    requires { length field.now ≤ longest_line }
     ensures { MatchOption result (spelt_bytes field.now ≡ None) (λ read. MatchResult read
         (λ key. (spelt_bytes field.now ≡ Some key) × (has_key_size key ≡ true))
         (λ _. (k : List ℕ) × (spelt_bytes field.now ≡ Some k) × (has_key_size k ≡ false))) }
@@ -168,7 +170,7 @@ pub fn key_of(field: &[u8]) -> Option<Result<Key, KeySize>>
 
 /// The bound that a field spells, if it spells any bytes: `-` is none.
 pub fn bound_in(field: &[u8]) -> Option<Result<Option<Key>, KeySize>>
-    requires { length field.now ≤ 4096 }
+    requires { length field.now ≤ longest_line }
     ensures { MatchOption result (spelt_bytes field.now ≡ None) (λ read. MatchResult read (λ bound.
         (k : List ℕ) × (spelt_bytes field.now ≡ Some k) × (has_bound_size k ≡ true)
         × (bound ≡ bound_of k)) (λ _. (k : List ℕ) × (spelt_bytes field.now ≡ Some k)
@@ -187,7 +189,7 @@ pub fn bound_in(field: &[u8]) -> Option<Result<Option<Key>, KeySize>>
 
 /// The value that a field spells, if it spells any bytes.
 pub fn value_of(field: &[u8]) -> Option<Result<Value, ValueSize>>
-    requires { length field.now ≤ 4096 }
+    requires { length field.now ≤ longest_line }
     ensures { MatchOption result (spelt_bytes field.now ≡ None) (λ read. MatchResult read
         (λ value. (spelt_bytes field.now ≡ Some value) × (has_value_size value ≡ true))
         (λ _. (v : List ℕ) × (spelt_bytes field.now ≡ Some v) × (has_value_size v ≡ false))) }

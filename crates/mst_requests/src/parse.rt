@@ -1,9 +1,10 @@
 //! From what is kept of a line to what it asks for.
 ghost use Rattle.std.specs.Prelude.{◌≡◌, ◌≤◌, length, IfSome, IfOk};
+ghost use Rattle.mst_lines.specs.Lines.{longest_line};
 ghost use Rattle.mst_requests.specs.declared.request.Command.TheVariants.{Remove, Get, Prove};
 ghost use Rattle.mst_requests.specs.Fields.{fields_of, fields_behind};
 ghost use Rattle.mst_requests.specs.Batches.{edits_read};
-ghost use Rattle.mst_requests.specs.Grammar.{put_fields, key_fields, about_key, next_fields, range_fields, migrate_fields, about_edits, no_fields, named_command, command_of, by_fields, asked, IsDealt};
+ghost use Rattle.mst_requests.specs.Grammar.{put_fields, key_fields, about_key, next_fields, range_fields, migrate_fields, about_edits, no_fields, plain_command, named_command, command_of, by_fields, asked, IsDealt};
 
 use crate::edits::Edits;
 use crate::fields::{
@@ -16,7 +17,7 @@ use mst_lines::LineBuffer;
 
 // What `put` asks for, by what stands after it.
 fn put_command(fields: Option<&[u8]>) -> Result<Command<'_>, Fault>
-    requires { IfSome fields (λ rest. length rest.now ≤ 4096) }
+    requires { IfSome fields (λ rest. length rest.now ≤ longest_line) }
     ensures { result ≡ put_fields (fields_behind fields.entry) }
 {
     let (key, value) = two_fields(fields)?;
@@ -30,7 +31,7 @@ fn put_command(fields: Option<&[u8]>) -> Result<Command<'_>, Fault>
 
 // The key that stands alone after a command.
 fn key_alone(fields: Option<&[u8]>) -> Result<Key, Fault>
-    requires { IfSome fields (λ rest. length rest.now ≤ 4096) }
+    requires { IfSome fields (λ rest. length rest.now ≤ longest_line) }
     ensures { result ≡ key_fields (fields_behind fields.entry) }
 {
     let key = one_field(fields)?;
@@ -43,7 +44,7 @@ fn key_alone(fields: Option<&[u8]>) -> Result<Key, Fault>
 
 // What `del` asks for, by what stands after it.
 fn remove_command(fields: Option<&[u8]>) -> Result<Command<'_>, Fault>
-    requires { IfSome fields (λ rest. length rest.now ≤ 4096) }
+    requires { IfSome fields (λ rest. length rest.now ≤ longest_line) }
     ensures { result ≡ about_key Remove (key_fields (fields_behind fields.entry)) }
 {
     Ok(Command::Remove(key_alone(fields)?))
@@ -51,7 +52,7 @@ fn remove_command(fields: Option<&[u8]>) -> Result<Command<'_>, Fault>
 
 // What `get` asks for, by what stands after it.
 fn get_command(fields: Option<&[u8]>) -> Result<Command<'_>, Fault>
-    requires { IfSome fields (λ rest. length rest.now ≤ 4096) }
+    requires { IfSome fields (λ rest. length rest.now ≤ longest_line) }
     ensures { result ≡ about_key Get (key_fields (fields_behind fields.entry)) }
 {
     Ok(Command::Get(key_alone(fields)?))
@@ -59,7 +60,7 @@ fn get_command(fields: Option<&[u8]>) -> Result<Command<'_>, Fault>
 
 // What `prove` asks for, by what stands after it.
 fn prove_command(fields: Option<&[u8]>) -> Result<Command<'_>, Fault>
-    requires { IfSome fields (λ rest. length rest.now ≤ 4096) }
+    requires { IfSome fields (λ rest. length rest.now ≤ longest_line) }
     ensures { result ≡ about_key Prove (key_fields (fields_behind fields.entry)) }
 {
     Ok(Command::Prove(key_alone(fields)?))
@@ -67,7 +68,7 @@ fn prove_command(fields: Option<&[u8]>) -> Result<Command<'_>, Fault>
 
 // What `next` asks for, by what stands after it.
 fn next_command(fields: Option<&[u8]>) -> Result<Command<'_>, Fault>
-    requires { IfSome fields (λ rest. length rest.now ≤ 4096) }
+    requires { IfSome fields (λ rest. length rest.now ≤ longest_line) }
     ensures { result ≡ next_fields (fields_behind fields.entry) }
 {
     let bound = one_field(fields)?;
@@ -80,7 +81,7 @@ fn next_command(fields: Option<&[u8]>) -> Result<Command<'_>, Fault>
 
 // What `range` asks for, by what stands after it.
 fn range_command(fields: Option<&[u8]>) -> Result<Command<'_>, Fault>
-    requires { IfSome fields (λ rest. length rest.now ≤ 4096) }
+    requires { IfSome fields (λ rest. length rest.now ≤ longest_line) }
     ensures { result ≡ range_fields (fields_behind fields.entry) }
 {
     let (from, to, limit) = three_fields(fields)?;
@@ -93,7 +94,7 @@ fn range_command(fields: Option<&[u8]>) -> Result<Command<'_>, Fault>
 
 // What `migrate` asks for, by what stands after it.
 fn migrate_command(fields: Option<&[u8]>) -> Result<Command<'_>, Fault>
-    requires { IfSome fields (λ rest. length rest.now ≤ 4096) }
+    requires { IfSome fields (λ rest. length rest.now ≤ longest_line) }
     ensures { result ≡ migrate_fields (fields_behind fields.entry) }
 {
     let format = one_field(fields)?;
@@ -105,7 +106,7 @@ fn migrate_command(fields: Option<&[u8]>) -> Result<Command<'_>, Fault>
 
 // What `batch` asks for, by what stands after it.
 fn batch_command(fields: Option<&[u8]>) -> Result<Command<'_>, Fault>
-    requires { IfSome fields (λ rest. length rest.now ≤ 4096) }
+    requires { IfSome fields (λ rest. length rest.now ≤ longest_line) }
     ensures { result ≡ about_edits (edits_read (fields_behind fields.entry)) }
 {
     Ok(Command::Batch(Edits::new(fields)?))
@@ -119,11 +120,39 @@ fn without_fields<'l>(command: Command<'l>, fields: Option<&[u8]>) -> Result<Com
     Ok(command)
 }
 
+// The command with this name that has no fields, if there is one.
+fn plain_named<'l>(name: &[u8]) -> Option<Command<'l>>
+    ensures { result ≡ plain_command name.now }
+{
+    if name == b"root".as_slice() {
+        return Some(Command::Root);
+    }
+    if name == b"node".as_slice() {
+        return Some(Command::Node);
+    }
+    if name == b"pin".as_slice() {
+        return Some(Command::Pin);
+    }
+    if name == b"unpin".as_slice() {
+        return Some(Command::Unpin);
+    }
+    if name == b"rows".as_slice() {
+        return Some(Command::Rows);
+    }
+    if name == b"format".as_slice() {
+        return Some(Command::Format);
+    }
+    None
+}
+
 // What the command with this name asks for, by what stands after it.
 fn command_named<'l>(name: &[u8], fields: Option<&'l [u8]>) -> Result<Command<'l>, Fault>
-    requires { IfSome fields (λ rest. length rest.now ≤ 4096) }
+    requires { IfSome fields (λ rest. length rest.now ≤ longest_line) }
     ensures { result ≡ named_command name.now (fields_behind fields.entry) }
 {
+    if let Some(command) = plain_named(name) {
+        return without_fields(command, fields);
+    }
     if name == b"put".as_slice() {
         return put_command(fields);
     }
@@ -139,26 +168,8 @@ fn command_named<'l>(name: &[u8], fields: Option<&'l [u8]>) -> Result<Command<'l
     if name == b"range".as_slice() {
         return range_command(fields);
     }
-    if name == b"root".as_slice() {
-        return without_fields(Command::Root, fields);
-    }
-    if name == b"node".as_slice() {
-        return without_fields(Command::Node, fields);
-    }
     if name == b"prove".as_slice() {
         return prove_command(fields);
-    }
-    if name == b"pin".as_slice() {
-        return without_fields(Command::Pin, fields);
-    }
-    if name == b"unpin".as_slice() {
-        return without_fields(Command::Unpin, fields);
-    }
-    if name == b"rows".as_slice() {
-        return without_fields(Command::Rows, fields);
-    }
-    if name == b"format".as_slice() {
-        return without_fields(Command::Format, fields);
     }
     if name == b"migrate".as_slice() {
         return migrate_command(fields);
@@ -171,7 +182,7 @@ fn command_named<'l>(name: &[u8], fields: Option<&'l [u8]>) -> Result<Command<'l
 
 // What a command asks for, with its fields.
 fn command_in(fields: Option<&[u8]>) -> Result<Command<'_>, Fault>
-    requires { IfSome fields (λ rest. length rest.now ≤ 4096) }
+    requires { IfSome fields (λ rest. length rest.now ≤ longest_line) }
     ensures { result ≡ command_of (fields_behind fields.entry) }
 {
     let Some(fields) = fields else {
@@ -183,7 +194,7 @@ fn command_in(fields: Option<&[u8]>) -> Result<Command<'_>, Fault>
 
 // What the bytes of a line ask for.
 fn request_of(line: &[u8], passes: u32) -> Result<Request<'_>, Fault>
-    requires { length line.now ≤ 4096 }
+    requires { length line.now ≤ longest_line }
     ensures { result ≡ by_fields passes (fields_of line.now) }
 {
     let (pass, fields) = first_field(line);
