@@ -14,6 +14,7 @@ use Rattle.mst_key.specs.declared.history.Event.{Event}
 use Rattle.mst_key.specs.History.{History, events_of, IsPrefix}
 use Rattle.mst_words.specs.declared.view.View.{View}
 use Rattle.mst_words.specs.Notes.{having_heard, IsOfPasses, SeesTold}
+use Rattle.mst_versions.specs.declared.numbers.Numbers.{Numbers}
 use Rattle.mst_store.specs.Passes.{Known, IsPinning, having_asked}
 use Rattle.mst_versions.specs.Turns.{Seat}
 use Rattle.mst_store.specs.Settling.{AreAllPasses, IsOfOne, IsBeside, GoesOn}
@@ -91,12 +92,12 @@ still at v h told n p =
     }
 
 -- a pinned pass that looks and hears pins what it pinned
-pub pinned_still : (number passes rows : ℕ) (at : PinnedRoot) (s t : Seated) (h told : History)
+pub pinned_still : (numbers : Numbers) (at : PinnedRoot) (s t : Seated) (h told : History)
     (n : ℕ) → t.me ≡ (record s.me.0 { seen = h; told = told; asked = n }, s.me.1)
-    → IsPinning number passes rows at s → IsPinning number passes rows at t
-pinned_still number passes rows at s t h told n is p = record {
+    → IsPinning numbers at s → IsPinning numbers at t
+pinned_still numbers at s t h told n is p = record {
   pinned = subst (λ (m : Seat). HasPinned at m.0) (sym is) (still at s.me.0 h told n p.pinned);
-  pin = subst (λ (m : Seat). IsPinned number at.pinned m) (sym is) p.pin;
+  pin = subst (λ (m : Seat). IsPinned numbers.number at.pinned m) (sym is) p.pin;
   empty = ap (λ (m : Seat). m.1) is ∙ p.empty;
   some = p.some;
   low = p.low;
@@ -104,7 +105,7 @@ pinned_still number passes rows at s t h told n is p = record {
   few = p.few;
   rows_is = ap (λ (m : Seat). m.0.rows) is ∙ p.rows_is;
   few_rows = p.few_rows;
-  own = subst (λ (m : Seat). events_of number m.0.pinned_history ≡ m.0.mine) (sym is) p.own;
+  own = subst (λ (m : Seat). events_of numbers.number m.0.pinned_history ≡ m.0.mine) (sym is) p.own;
 }
 
 -- ---- the way back

@@ -4,10 +4,15 @@ use Rattle.mst_key.specs.declared.format.Format.{Format}
 use Rattle.mst_key.specs.History.{after, events_of}
 use Rattle.mst_key.specs.Map.{Pair}
 use Rattle.mst_words.specs.Access.{Seated}
-use Rattle.mst_words.specs.Steps.{IsFree, IsPinned}
+use Rattle.mst_words.specs.Steps.{IsPinned}
 use Rattle.mst_words.specs.declared.view.Shape.{Shape}
 use Rattle.mst_versions.specs.declared.reading.PinnedRoot.{PinnedRoot}
+use Rattle.mst_versions.specs.declared.numbers.Numbers.{Numbers}
 use Rattle.mst_versions.specs.Pinned.{HasPinned}
+use Rattle.mst_versions.specs.Resting.{IsResting}
+-- the limits of a store
+pub use Rattle.mst_words.specs.Layout.{most_passes}
+pub use Rattle.mst_versions.specs.Known.{most_rows}
 -- what its seat shows of a pass, and what is said of a call by it
 pub use Rattle.mst_versions.specs.Known.{StoreId, Known, store_of, known, having_asked}
 pub use Rattle.mst_versions.specs.Known.{having_missed, IsSamePass, Looks, FindsBusy}
@@ -30,31 +35,28 @@ known_at_pin number made s = record {
 }
 
 -- The pass has no pin and not the turn, and its events in what it has seen are its own
-pub record IsAtRest (number passes rows : ℕ) (s : Seated) : Type 0 where
-  pub free : IsFree number s.me
-  pub low : number ≤ passes
-  pub passes_is : s.me.0.passes ≡ passes
-  pub few : passes ≤ 32
-  pub rows_is : s.me.0.rows ≡ rows
-  pub few_rows : rows ≤ 65535
-  pub own : events_of number s.me.0.seen ≡ s.me.0.mine
+pub record IsAtRest (n : Numbers) (s : Seated) : Type 0 where
+  pub rest : IsResting n s.me
+  pub low : n.number ≤ n.passes
+  pub own : events_of n.number s.me.0.seen ≡ s.me.0.mine
 
 -- The pass pins the version at this root, and its events in the history at the pin are its own
-pub record IsPinning (number passes rows : ℕ) (at : PinnedRoot) (s : Seated) : Type 0 where
+pub record IsPinning (n : Numbers) (at : PinnedRoot) (s : Seated) : Type 0 where
   pub pinned : HasPinned at s.me.0
-  pub pin : IsPinned number at.pinned s.me
+  pub pin : IsPinned n.number at.pinned s.me
   pub empty : s.me.1 ≡ []
-  pub some : 0 < number
-  pub low : number ≤ passes
-  pub passes_is : s.me.0.passes ≡ passes
-  pub few : passes ≤ 32
-  pub rows_is : s.me.0.rows ≡ rows
-  pub few_rows : rows ≤ 65535
-  pub own : events_of number s.me.0.pinned_history ≡ s.me.0.mine
+  pub some : 0 < n.number
+  pub low : n.number ≤ n.passes
+  pub passes_is : s.me.0.passes ≡ n.passes
+  pub few : n.passes ≤ most_passes
+  pub rows_is : s.me.0.rows ≡ n.rows
+  pub few_rows : n.rows ≤ most_rows
+  pub own : events_of n.number s.me.0.pinned_history ≡ s.me.0.mine
 
 -- the sizes that a store may have
 abbrev pub IsShape : Shape → Type 0
-IsShape shape = (4 ≤ shape.rows) × (shape.rows ≤ 65535) × (1 ≤ shape.passes) × (shape.passes ≤ 32)
+IsShape shape = (4 ≤ shape.rows) × (shape.rows ≤ most_rows)
+    × (1 ≤ shape.passes) × (shape.passes ≤ most_passes)
 
 -- the store has this size, and its version 0 this format
 abbrev pub HasShape : Shape → StoreId → Type 0

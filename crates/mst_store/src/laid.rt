@@ -5,6 +5,7 @@ ghost use Rattle.std.specs.Prelude.{◌≡◌};
 use crate::pass::Pass;
 use crate::pinned::Pinned;
 use crate::store::Store;
+use mst_versions::Numbers;
 use mst_versions::reading::PinnedRoot;
 use mst_words::Token;
 use std::alloc::Allocator;
@@ -14,9 +15,7 @@ use std::marker::Model;
 #[derive(Drop)]
 pub struct Laid<A: Allocator + Copy> {
     token: Token<A>,
-    number: u32,
-    passes: u32,
-    rows: u32,
+    numbers: Numbers,
     made: Option<u64>,
 }
 
@@ -28,10 +27,10 @@ impl<A: Allocator + Copy> Model for Laid<A> {
 
     ghost Value = { Known };
 
-    ghost view = { λ p. known p.number p.made
+    ghost view = { λ p. known p.numbers.number p.made
         (record { table = p.token.table_id; id = p.token.id; me = p.token.me }) };
 
-    ghost invariant = { λ p. IsAtRest p.number p.passes p.rows
+    ghost invariant = { λ p. IsAtRest p.numbers
         (record { table = p.token.table_id; id = p.token.id; me = p.token.me })
         × (p.token.table_id.words ≡ table_words p.token.me.0.rows) };
 }
@@ -41,9 +40,7 @@ impl<A: Allocator + Copy> Model for Laid<A> {
 pub struct LaidPinned<A: Allocator + Copy> {
     token: Token<A>,
     at: PinnedRoot,
-    number: u32,
-    passes: u32,
-    rows: u32,
+    numbers: Numbers,
     made: Option<u64>,
 }
 
@@ -55,10 +52,10 @@ impl<A: Allocator + Copy> Model for LaidPinned<A> {
 
     ghost Value = { Known };
 
-    ghost view = { λ p. known_at_pin p.number p.made
+    ghost view = { λ p. known_at_pin p.numbers.number p.made
         (record { table = p.token.table_id; id = p.token.id; me = p.token.me }) };
 
-    ghost invariant = { λ p. IsPinning p.number p.passes p.rows p.at
+    ghost invariant = { λ p. IsPinning p.numbers p.at
         (record { table = p.token.table_id; id = p.token.id; me = p.token.me })
         × (p.token.table_id.words ≡ table_words p.token.me.0.rows) };
 }
@@ -70,17 +67,13 @@ impl<'a, A: Allocator + Copy> Pass<'a, A> {
     {
         let Pass {
             seat,
-            number,
-            passes,
-            rows,
+            numbers,
             made,
         } = self;
         let token = seat.into_token();
         Laid {
             token,
-            number,
-            passes,
-            rows,
+            numbers,
             made,
         }
     }
@@ -94,18 +87,14 @@ impl<'a, A: Allocator + Copy> Pinned<'a, A> {
         let Pinned {
             seat,
             at,
-            number,
-            passes,
-            rows,
+            numbers,
             made,
         } = self;
         let token = seat.into_token();
         LaidPinned {
             token,
             at,
-            number,
-            passes,
-            rows,
+            numbers,
             made,
         }
     }
@@ -119,17 +108,13 @@ impl<A: Allocator + Copy> Store<A> {
     {
         let Laid {
             token,
-            number,
-            passes,
-            rows,
+            numbers,
             made,
         } = laid;
         let seat = self.board.seat(token);
         Pass {
             seat,
-            number,
-            passes,
-            rows,
+            numbers,
             made,
         }
     }
@@ -142,18 +127,14 @@ impl<A: Allocator + Copy> Store<A> {
         let LaidPinned {
             token,
             at,
-            number,
-            passes,
-            rows,
+            numbers,
             made,
         } = laid;
         let seat = self.board.seat(token);
         Pinned {
             seat,
             at,
-            number,
-            passes,
-            rows,
+            numbers,
             made,
         }
     }

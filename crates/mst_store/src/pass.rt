@@ -14,7 +14,8 @@ ghost use Rattle.mst_versions.specs.Applying.{RefusesBatch};
 
 use mst_key::{Change, Edit, Event, Format, Key, Memory, Value};
 use mst_versions::{
-    ApplyFault, Busy, MigrateFault, WriteFault, applying, counting, migrating, reading, writing,
+    ApplyFault, Busy, MigrateFault, Numbers, WriteFault, applying, counting, migrating, reading,
+    writing,
 };
 use mst_words::PassSeat;
 use std::alloc::Allocator;
@@ -28,9 +29,7 @@ use std::marker::Model;
 #[derive(Drop)]
 pub struct Pass<'a, A: Allocator + Copy> {
     pub(crate) seat: PassSeat<'a, A>,
-    pub(crate) number: u32,
-    pub(crate) passes: u32,
-    pub(crate) rows: u32,
+    pub(crate) numbers: Numbers,
     /// The version that the last write of the pass made.
     pub(crate) made: Option<u64>,
 }
@@ -42,9 +41,9 @@ impl<'a, A: Allocator + Copy> Model for Pass<'a, A> {
 
     ghost Value = { Known };
 
-    ghost view = { λ p. known p.number p.made p.seat };
+    ghost view = { λ p. known p.numbers.number p.made p.seat };
 
-    ghost invariant = { λ p. IsAtRest p.number p.passes p.rows p.seat };
+    ghost invariant = { λ p. IsAtRest p.numbers p.seat };
 }
 
 impl<'a, A: Allocator + Copy> Pass<'a, A> {
@@ -52,7 +51,7 @@ impl<'a, A: Allocator + Copy> Pass<'a, A> {
     pub fn number(&self) -> u32
         ensures number { result ≡ self.now.number }
     {
-        self.number
+        self.numbers.number
     }
 
     /// Returns the value of the key in the current version, or `None` if the key has no value. It
@@ -61,9 +60,9 @@ impl<'a, A: Allocator + Copy> Pass<'a, A> {
         ensures answers { Answers (λ _ m. map_get m key.now) self.old result self.new }
         ensures once { self.new.asked ≡ self.old.asked + 1 }
     {
-        let at = reading::pin(&mut self.seat, self.number);
+        let at = reading::pin(&mut self.seat, self.numbers);
         let value = reading::get(&mut self.seat, &at, key);
-        self.seat.unpin(self.number, at.pinned);
+        self.seat.unpin(self.numbers.number, at.pinned);
         value
     }
 
@@ -74,9 +73,9 @@ impl<'a, A: Allocator + Copy> Pass<'a, A> {
             self.new }
         ensures once { self.new.asked ≡ self.old.asked + 1 }
     {
-        let at = reading::pin(&mut self.seat, self.number);
+        let at = reading::pin(&mut self.seat, self.numbers);
         let pair = reading::next(&mut self.seat, &at, after);
-        self.seat.unpin(self.number, at.pinned);
+        self.seat.unpin(self.numbers.number, at.pinned);
         pair
     }
 
@@ -99,15 +98,15 @@ impl<'a, A: Allocator + Copy> Pass<'a, A> {
         ensures memory { OnErr result (self.new ≡ having_asked 1 self.old) }
         ensures once { self.new.asked ≡ self.old.asked + 1 }
     {
-        let at = reading::pin(&mut self.seat, self.number);
+        let at = reading::pin(&mut self.seat, self.numbers);
         match reading::range(&mut self.seat, alloc, &at, from, to, limit) {
             Ok(found) => {
-                self.seat.unpin(self.number, at.pinned);
+                self.seat.unpin(self.numbers.number, at.pinned);
                 Ok(found)
             }
             Err(refused) => {
                 // no pairs are answered, so none were seen
-                self.seat.forget(self.number, at.pinned);
+                self.seat.forget(self.numbers.number, at.pinned);
                 Err(refused)
             }
         }
@@ -119,9 +118,9 @@ impl<'a, A: Allocator + Copy> Pass<'a, A> {
         ensures answers { Answers (λ f _. f) self.old result self.new }
         ensures once { self.new.asked ≡ self.old.asked + 1 }
     {
-        let at = reading::pin(&mut self.seat, self.number);
+        let at = reading::pin(&mut self.seat, self.numbers);
         let format = reading::format(&mut self.seat, &at);
-        self.seat.unpin(self.number, at.pinned);
+        self.seat.unpin(self.numbers.number, at.pinned);
         format
     }
 
@@ -132,9 +131,9 @@ impl<'a, A: Allocator + Copy> Pass<'a, A> {
         ensures answers { Answers root self.old result self.new }
         ensures once { self.new.asked ≡ self.old.asked + 1 }
     {
-        let at = reading::pin(&mut self.seat, self.number);
+        let at = reading::pin(&mut self.seat, self.numbers);
         let digest = reading::root(&mut self.seat, &at);
-        self.seat.unpin(self.number, at.pinned);
+        self.seat.unpin(self.numbers.number, at.pinned);
         digest
     }
 
@@ -152,15 +151,15 @@ impl<'a, A: Allocator + Copy> Pass<'a, A> {
         ensures memory { OnErr result (self.new ≡ having_asked 1 self.old) }
         ensures once { self.new.asked ≡ self.old.asked + 1 }
     {
-        let at = reading::pin(&mut self.seat, self.number);
+        let at = reading::pin(&mut self.seat, self.numbers);
         match reading::prove(&mut self.seat, alloc, &at, key) {
             Ok(proof) => {
-                self.seat.unpin(self.number, at.pinned);
+                self.seat.unpin(self.numbers.number, at.pinned);
                 Ok(proof)
             }
             Err(refused) => {
                 // no proof is answered, so no map was seen
-                self.seat.forget(self.number, at.pinned);
+                self.seat.forget(self.numbers.number, at.pinned);
                 Err(refused)
             }
         }
@@ -183,7 +182,7 @@ impl<'a, A: Allocator + Copy> Pass<'a, A> {
         ensures steps { OnOk result (self.new.asked ≡ self.old.asked + self.old.store.passes + 4) }
         ensures busy { OnErr result (FindsBusy self.old self.new) }
     {
-        counting::rows(&mut self.seat, self.number, self.passes, self.rows)
+        counting::rows(&mut self.seat, self.numbers)
     }
 
     /// Returns how many rows are free to the next write: all rows but those that the current
@@ -206,7 +205,7 @@ impl<'a, A: Allocator + Copy> Pass<'a, A> {
         ensures steps { OnOk result (self.new.asked ≡ self.old.asked + self.old.store.passes + 2) }
         ensures busy { OnErr result (FindsBusy self.old self.new) }
     {
-        counting::free_rows(&mut self.seat, self.number, self.passes)
+        counting::free_rows(&mut self.seat, self.numbers)
     }
 
     /// Returns the number of the current version: how many events led to it. It takes no memory.
@@ -215,8 +214,8 @@ impl<'a, A: Allocator + Copy> Pass<'a, A> {
         ensures version { result ≡ length self.new.seen }
         ensures once { self.new.asked ≡ self.old.asked + 1 }
     {
-        let at = reading::pin(&mut self.seat, self.number);
-        self.seat.unpin(self.number, at.pinned);
+        let at = reading::pin(&mut self.seat, self.numbers);
+        self.seat.unpin(self.numbers.number, at.pinned);
         at.version
     }
 
@@ -238,10 +237,10 @@ impl<'a, A: Allocator + Copy> Pass<'a, A> {
         ensures err { IfErr result (λ fault. Refuses fault change.entry self.old self.new) }
     {
         let event = Event {
-            pass: self.number,
+            pass: self.numbers.number,
             change,
         };
-        let (old, version) = writing::write(&mut self.seat, self.number, self.passes, &event)?;
+        let (old, version) = writing::write(&mut self.seat, self.numbers, &event)?;
         self.made = Some(version);
         Ok(old)
     }
@@ -300,7 +299,7 @@ impl<'a, A: Allocator + Copy> Pass<'a, A> {
             (λ format. Wrote (made_by self.old (Migrate to)) self.old (was format) self.new) }
         ensures err { IfErr result (λ fault. RefusesMigration fault to self.old self.new) }
     {
-        let (was, made) = migrating::migrate(&mut self.seat, alloc, self.number, self.passes, to)?;
+        let (was, made) = migrating::migrate(&mut self.seat, alloc, self.numbers, to)?;
         self.made = Some(made);
         Ok(was)
     }
@@ -326,7 +325,7 @@ impl<'a, A: Allocator + Copy> Pass<'a, A> {
             (Wrote (made_by self.old (change.Batch edits.now)) self.old done self.new) }
         ensures err { IfErr result (λ fault. RefusesBatch fault edits.now self.old self.new) }
     {
-        let version = applying::apply(&mut self.seat, alloc, self.number, self.passes, edits)?;
+        let version = applying::apply(&mut self.seat, alloc, self.numbers, edits)?;
         self.made = Some(version);
         Ok(())
     }

@@ -5,11 +5,12 @@ ghost use Rattle.mst_key.specs.Map.{map_get, map_next, map_range, IsMap};
 ghost use Rattle.mst_node.specs.Text as text;
 ghost use Rattle.mst_node.specs.Trail.{proof_text};
 ghost use Rattle.std.specs.Option.{option_copied};
-ghost use Rattle.mst_store.specs.Passes.{Looks, format_seen};
+ghost use Rattle.mst_store.specs.Passes.{Looks, most_rows, format_seen};
 ghost use Rattle.mst_key.specs.History.{after as after_events};
 
 use crate::pass::Pass;
 use mst_key::{Format, Key, Memory, Value};
+use mst_versions::Numbers;
 use mst_versions::reading::{self, PinnedRoot};
 use mst_words::PassSeat;
 use std::alloc::Allocator;
@@ -24,9 +25,7 @@ use std::marker::Model;
 pub struct Pinned<'a, A: Allocator + Copy> {
     pub(crate) seat: PassSeat<'a, A>,
     pub(crate) at: PinnedRoot,
-    pub(crate) number: u32,
-    pub(crate) passes: u32,
-    pub(crate) rows: u32,
+    pub(crate) numbers: Numbers,
     pub(crate) made: Option<u64>,
 }
 
@@ -36,9 +35,9 @@ impl<'a, A: Allocator + Copy> Model for Pinned<'a, A> {
 
     ghost Value = { Known };
 
-    ghost view = { λ p. known_at_pin p.number p.made p.seat };
+    ghost view = { λ p. known_at_pin p.numbers.number p.made p.seat };
 
-    ghost invariant = { λ p. IsPinning p.number p.passes p.rows p.at p.seat };
+    ghost invariant = { λ p. IsPinning p.numbers p.at p.seat };
 }
 
 impl<'a, A: Allocator + Copy> Pass<'a, A> {
@@ -51,22 +50,18 @@ impl<'a, A: Allocator + Copy> Pass<'a, A> {
         ensures looks { Looks self.entry result }
         ensures once { result.asked ≡ self.entry.asked + 1 }
         ensures map { IsMap (after_events result.seen) }
-        ensures few { length (after_events result.seen) ≤ 65535 }
+        ensures few { length (after_events result.seen) ≤ most_rows }
     {
         let Pass {
             mut seat,
-            number,
-            passes,
-            rows,
+            numbers,
             made,
         } = self;
-        let at = reading::pin(&mut seat, number);
+        let at = reading::pin(&mut seat, numbers);
         Pinned {
             seat,
             at,
-            number,
-            passes,
-            rows,
+            numbers,
             made,
         }
     }
@@ -77,7 +72,7 @@ impl<'a, A: Allocator + Copy> Pinned<'a, A> {
     pub fn number(&self) -> u32
         ensures number { result ≡ self.now.number }
     {
-        self.number
+        self.numbers.number
     }
 
     /// Returns the version that the last write of the pass made, as [`Pass::made`] does.
@@ -170,17 +165,13 @@ impl<'a, A: Allocator + Copy> Pinned<'a, A> {
         let Pinned {
             mut seat,
             at,
-            number,
-            passes,
-            rows,
+            numbers,
             made,
         } = self;
-        seat.unpin(number, at.pinned);
+        seat.unpin(numbers.number, at.pinned);
         Pass {
             seat,
-            number,
-            passes,
-            rows,
+            numbers,
             made,
         }
     }

@@ -6,6 +6,7 @@ use crate::faults::OpenFault;
 use crate::pass::Pass;
 use mst_arena::Desk;
 use mst_key::Memory;
+use mst_versions::Numbers;
 use mst_words::{Board, Shape, Token};
 use std::alloc::Allocator;
 use std::marker::Model;
@@ -126,9 +127,11 @@ impl<A: Allocator + Copy> Store<A> {
             let seat = self.board.deal(&mut token);
             passes.push_reserved(Pass {
                 seat,
-                number: index + 1,
-                passes: count,
-                rows: self.shape.rows,
+                numbers: Numbers {
+                    number: index + 1,
+                    passes: count,
+                    rows: self.shape.rows,
+                },
                 made: None,
             });
         }

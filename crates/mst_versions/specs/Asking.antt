@@ -3,6 +3,7 @@
 use Rattle.std.specs.Prelude.{◌≡◌, ◌≢◌, ◌⊎◌, ℕ, ◌+◌, ◌<◌, ◌≤◌, ◌∷◌, length, slice_index}
 use Rattle.mst_arena.specs.Lives.{State, version}
 use Rattle.mst_arena.specs.Lists.{In}
+use Rattle.mst_words.specs.Layout.{most_passes}
 use Rattle.mst_words.specs.Steps.{IsHolder}
 use Rattle.mst_versions.specs.Turns.{Seat, StoodAtAsk}
 use Rattle.mst_versions.specs.declared.turn.Asked.{Asked}
@@ -11,7 +12,7 @@ use Rattle.mst_versions.specs.declared.turn.Asked.{Asked}
 pub record KnowsRecords (desk : State) (m : Seat) : Type 0 where
   pub holder : IsHolder m
   pub some : 0 < m.0.passes
-  pub few : m.0.passes ≤ 32
+  pub few : m.0.passes ≤ most_passes
   pub current : m.0.desk.current ≡ desk.current
   pub there : desk.current < m.0.passes + 2
   pub records : length desk.versions ≡ m.0.passes + 2

@@ -17,7 +17,7 @@ use Rattle.mst_path.specs.Takes.{FreeIsBlank}
 use Rattle.mst_path.specs.Reached.{ReachesExactly, TogetherReach, advanced}
 use Rattle.mst_words.specs.declared.view.View.{View}
 use Rattle.mst_words.specs.Access.{content_of, is_blank}
-use Rattle.mst_words.specs.Layout.{table_words}
+use Rattle.mst_words.specs.Layout.{most_passes, table_words}
 use Rattle.mst_words.specs.Notes.{IsOfPasses}
 use Rattle.mst_words.specs.Records.{Standing, Agrees}
 use Rattle.mst_words.specs.Steps.{IsHolder, Misses, Takes}
@@ -37,7 +37,7 @@ pub record HoldsDesk {A : Type 0} (t : Turn A) (m : Seat) : Type 0 where
   pub holder : IsHolder m
   pub slot : m.1 ≡ (0, None) ∷ []
   pub known : length m.0.known_words ≡ table_words m.0.rows
-  pub few : m.0.passes ≤ 32
+  pub few : m.0.passes ≤ most_passes
   pub short : length m.0.seen ≤ last_version
   pub current : t.desk.current ≡ m.0.desk.current
   pub rows_is : length t.desk.lives ≡ m.0.rows

@@ -5,12 +5,14 @@ ghost use Rattle.mst_key.specs.History.{done};
 ghost use Rattle.mst_arena.specs.Lives.{last_version};
 ghost use Rattle.mst_words.specs.Access.{IsSameSeat};
 ghost use Rattle.mst_words.specs.Steps.{IsFree, Misses};
+ghost use Rattle.mst_versions.specs.Resting.{IsResting};
 ghost use Rattle.mst_versions.specs.Known.{AtSeat};
 ghost use Rattle.mst_versions.specs.Turns.{HasTurn, Spent};
 ghost use Rattle.mst_versions.specs.Writes.{Made, KeepsPass, WroteAtSeat};
 ghost use Rattle.mst_versions.specs.Applying.{LacksEdits, RefusesBatch};
 
 use crate::faults::ApplyFault;
+use crate::numbers::Numbers;
 use crate::publishing::publish;
 use crate::turn::{NotBegun, Turn, begin_write, give_back};
 use mst_arena::Root;
@@ -51,26 +53,23 @@ fn make_batch<A: Allocator + Copy, B: Allocator + Copy>(
 pub fn apply<A: Allocator + Copy, B: Allocator + Copy>(
     seat: &mut PassSeat<'_, A>,
     alloc: B,
-    number: u32,
-    passes: u32,
+    numbers: Numbers,
     edits: &[Edit],
 ) -> Result<u64, ApplyFault>
-    requires free { IsFree number seat.old.me }
-    requires passes { passes ≡ seat.old.me.0.passes }
-    requires few { passes ≤ 32 }
-    requires few_rows { seat.old.me.0.rows ≤ 65535 }
+    requires rest { IsResting numbers seat.old.me }
     ensures same { IsSameSeat seat.old seat.new }
     ensures pass { KeepsPass seat.old.me seat.new.me }
-    ensures free { IsFree number seat.new.me }
-    ensures wrote { IfOk result (λ version. WroteAtSeat number (change.Batch edits.now) seat.old
-        done version seat.new) }
+    ensures free { IsFree numbers.number seat.new.me }
+    ensures wrote { IfOk result
+        (λ version. WroteAtSeat numbers.number (change.Batch edits.now) seat.old done version
+        seat.new) }
     ensures version { IfOk result (λ version. version ≡ length seat.new.me.0.seen) }
     ensures refused { IfErr result
-        (λ fault. AtSeat (RefusesBatch fault edits.now) number seat.old seat.new) }
+        (λ fault. AtSeat (RefusesBatch fault edits.now) numbers.number seat.old seat.new) }
     ensures missed { IsErrOf result ApplyFault.Busy → Misses seat.old.me seat.new.me }
     ensures spent { IsErrOf result ApplyFault.VersionsSpent → Spent seat.old.me seat.new.me }
 {
-    let mut turn = match begin_write(seat, number, passes) {
+    let mut turn = match begin_write(seat, numbers) {
         Ok(turn) => turn,
         Err(NotBegun::Busy) => return Err(ApplyFault::Busy),
         Err(NotBegun::VersionsSpent) => return Err(ApplyFault::VersionsSpent),
@@ -79,7 +78,7 @@ pub fn apply<A: Allocator + Copy, B: Allocator + Copy>(
     match make_batch(seat, alloc, &mut turn, edits) {
         Ok(root) => {
             let event = Event {
-                pass: number,
+                pass: numbers.number,
                 change: Change::Batch(Batch::new(edits)),
             };
             Ok(publish(seat, turn, &root, format, &event))

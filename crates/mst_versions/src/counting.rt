@@ -2,11 +2,13 @@
 ghost use Rattle.std.specs.Prelude.{◌≡◌, ◌≤◌, ◌%◌, Some, IfSome, IfOk, OnErr};
 ghost use Rattle.mst_words.specs.Access.{IsSameSeat};
 ghost use Rattle.mst_words.specs.Steps.{IsFree, Misses};
+ghost use Rattle.mst_versions.specs.Resting.{IsResting};
 ghost use Rattle.mst_versions.specs.Counting.{Counts, CountsFree};
 ghost use Rattle.mst_versions.specs.Known.{AtSeat};
 ghost use Rattle.mst_versions.specs.Writes.{KeepsPass};
 
 use crate::faults::Busy;
+use crate::numbers::Numbers;
 use crate::turn::{begin, give_back};
 use mst_words::PassSeat;
 use mst_words::layout::MASKS;
@@ -34,28 +36,23 @@ fn where_alone(used: u32, kept: u32, noted: u64, done: u64) -> Option<u32>
 /// turn is given back. Returns `Busy` only if another pass has the turn. It takes no memory.
 pub fn rows<A: Allocator + Copy>(
     seat: &mut PassSeat<'_, A>,
-    number: u32,
-    passes: u32,
-    all: u32,
+    numbers: Numbers,
 ) -> Result<Option<u32>, Busy>
-    requires free { IsFree number seat.old.me }
-    requires passes { passes ≡ seat.old.me.0.passes }
-    requires all { all ≡ seat.old.me.0.rows }
-    requires few { passes ≤ 32 }
-    requires few_rows { all ≤ 65535 }
+    requires rest { IsResting numbers seat.old.me }
     ensures same { IsSameSeat seat.old seat.new }
     ensures pass { KeepsPass seat.old.me seat.new.me }
-    ensures free { IsFree number seat.new.me }
-    ensures counted { IfOk result (λ found. AtSeat (Counts found) number seat.old seat.new) }
+    ensures free { IsFree numbers.number seat.new.me }
+    ensures counted { IfOk result
+        (λ found. AtSeat (Counts found) numbers.number seat.old seat.new) }
     ensures busy { OnErr result (Misses seat.old.me seat.new.me) }
 {
-    let Some(turn) = begin(seat, number, passes) else {
+    let Some(turn) = begin(seat, numbers) else {
         return Err(Busy);
     };
     let (current, _) = turn.desk.current();
     let noted = seat.note_current();
     let done = seat.ask_current(current);
-    let (kept, used) = (turn.kept, all - turn.desk.free());
+    let (kept, used) = (turn.kept, numbers.rows - turn.desk.free());
     give_back(seat, turn);
     Ok(where_alone(used, kept, noted, done))
 }
@@ -68,20 +65,17 @@ pub fn rows<A: Allocator + Copy>(
 /// takes no memory.
 pub fn free_rows<A: Allocator + Copy>(
     seat: &mut PassSeat<'_, A>,
-    number: u32,
-    passes: u32,
+    numbers: Numbers,
 ) -> Result<u32, Busy>
-    requires free { IsFree number seat.old.me }
-    requires passes { passes ≡ seat.old.me.0.passes }
-    requires few { passes ≤ 32 }
-    requires few_rows { seat.old.me.0.rows ≤ 65535 }
+    requires rest { IsResting numbers seat.old.me }
     ensures same { IsSameSeat seat.old seat.new }
     ensures pass { KeepsPass seat.old.me seat.new.me }
-    ensures free { IsFree number seat.new.me }
-    ensures counted { IfOk result (λ rows. AtSeat (CountsFree rows) number seat.old seat.new) }
+    ensures free { IsFree numbers.number seat.new.me }
+    ensures counted { IfOk result
+        (λ rows. AtSeat (CountsFree rows) numbers.number seat.old seat.new) }
     ensures busy { OnErr result (Misses seat.old.me seat.new.me) }
 {
-    let Some(turn) = begin(seat, number, passes) else {
+    let Some(turn) = begin(seat, numbers) else {
         return Err(Busy);
     };
     let free = turn.desk.free();

@@ -2,8 +2,9 @@
 //! next version, made in the pass's turn.
 //!
 //! ```
-//! let at = reading::pin(&mut reader, 1);            // the seat of pass 1: one xor and two loads
-//! let (old, version) = writing::write(&mut writer, 2, 2, &event)?;
+//! let first = Numbers { number: 1, passes: 2, rows: 16 };
+//! let at = reading::pin(&mut reader, first);        // the seat of pass 1: one xor and two loads
+//! let (old, version) = writing::write(&mut writer, second, &event)?;
 //! reading::get(&mut reader, &at, &apple)            // as it was at the pin
 //! reader.unpin(1, at.pinned);
 //! ```
@@ -21,6 +22,7 @@ pub mod applying;
 pub mod counting;
 mod faults;
 pub mod migrating;
+mod numbers;
 mod publishing;
 pub mod reading;
 pub mod roots;
@@ -28,3 +30,4 @@ pub mod turn;
 pub mod writing;
 
 pub use faults::{ApplyFault, Busy, MigrateFault, WriteFault};
+pub use numbers::Numbers;

@@ -10,12 +10,15 @@ ghost use Rattle.mst_path.specs.Planting.{tree_at, IsTreeOf};
 ghost use Rattle.mst_arena.specs.Lives.{last_version};
 ghost use Rattle.mst_words.specs.Access.{IsSameSeat};
 ghost use Rattle.mst_words.specs.Steps.{IsFree, Misses};
+ghost use Rattle.mst_versions.specs.Known.{most_rows};
+ghost use Rattle.mst_versions.specs.Resting.{IsResting};
 ghost use Rattle.mst_versions.specs.Known.{AtSeat};
 ghost use Rattle.mst_versions.specs.Turns.{HasTurn, Spent};
 ghost use Rattle.mst_versions.specs.Writes.{Made, LacksRows, KeepsPass, WroteAtSeat};
 ghost use Rattle.mst_versions.specs.Migrating.{LacksTree, RefusesMigration};
 
 use crate::faults::MigrateFault;
+use crate::numbers::Numbers;
 use crate::publishing::publish;
 use crate::turn::{NotBegun, Turn, begin_write, give_back};
 use mst_arena::Root;
@@ -45,10 +48,10 @@ fn tree_in<A: Allocator + Copy, B: Allocator + Copy>(
     to: Format,
 ) -> Result<Option<Box<Node<B>, B>>, Memory>
     requires turn { HasTurn turn.now seat.old.me }
-    requires few_rows { seat.old.me.0.rows ≤ 65535 }
+    requires few_rows { seat.old.me.0.rows ≤ most_rows }
     ensures tree { IfOk result
         (λ t. tree_of_child to t ≡ tree to (after seat.old.me.0.seen)) }
-    ensures few { length (after seat.old.me.0.seen) ≤ 65535 }
+    ensures few { length (after seat.old.me.0.seen) ≤ most_rows }
     ensures same { seat.new ≡ seat.old }
 {
     let pairs = mst_read::range(alloc, seat, &turn.root, None, None, MOST_PAIRS)?;
@@ -89,7 +92,7 @@ fn make_move<A: Allocator + Copy, B: Allocator + Copy>(
 ) -> Result<Root, NotMoved>
     requires turn { HasTurn turn.old seat.old.me }
     requires open { length seat.old.me.0.seen < last_version }
-    requires few_rows { seat.old.me.0.rows ≤ 65535 }
+    requires few_rows { seat.old.me.0.rows ≤ most_rows }
     ensures same { IsSameSeat seat.old seat.new }
     ensures made { IfOk result (λ root. Made (Migrate to)
         turn.old seat.old.me root (was turn.old.format) turn.new seat.new.me) }
@@ -124,26 +127,22 @@ fn make_move<A: Allocator + Copy, B: Allocator + Copy>(
 pub fn migrate<A: Allocator + Copy, B: Allocator + Copy>(
     seat: &mut PassSeat<'_, A>,
     alloc: B,
-    number: u32,
-    passes: u32,
+    numbers: Numbers,
     to: Format,
 ) -> Result<(Format, u64), MigrateFault>
-    requires free { IsFree number seat.old.me }
-    requires passes { passes ≡ seat.old.me.0.passes }
-    requires few { passes ≤ 32 }
-    requires few_rows { seat.old.me.0.rows ≤ 65535 }
+    requires rest { IsResting numbers seat.old.me }
     ensures same { IsSameSeat seat.old seat.new }
     ensures pass { KeepsPass seat.old.me seat.new.me }
-    ensures free { IsFree number seat.new.me }
-    ensures wrote { IfOk result (λ done. WroteAtSeat number (Migrate to) seat.old
+    ensures free { IsFree numbers.number seat.new.me }
+    ensures wrote { IfOk result (λ done. WroteAtSeat numbers.number (Migrate to) seat.old
         (was done.0) done.1 seat.new) }
     ensures version { IfOk result (λ done. done.1 ≡ length seat.new.me.0.seen) }
     ensures refused { IfErr result
-        (λ fault. AtSeat (RefusesMigration fault to) number seat.old seat.new) }
+        (λ fault. AtSeat (RefusesMigration fault to) numbers.number seat.old seat.new) }
     ensures missed { IsErrOf result MigrateFault.Busy → Misses seat.old.me seat.new.me }
     ensures spent { IsErrOf result MigrateFault.VersionsSpent → Spent seat.old.me seat.new.me }
 {
-    let mut turn = match begin_write(seat, number, passes) {
+    let mut turn = match begin_write(seat, numbers) {
         Ok(turn) => turn,
         Err(NotBegun::Busy) => return Err(MigrateFault::Busy),
         Err(NotBegun::VersionsSpent) => return Err(MigrateFault::VersionsSpent),
@@ -152,7 +151,7 @@ pub fn migrate<A: Allocator + Copy, B: Allocator + Copy>(
     match make_move(seat, alloc, &mut turn, to) {
         Ok(root) => {
             let event = Event {
-                pass: number,
+                pass: numbers.number,
                 change: Change::Migrate(to),
             };
             let version = publish(seat, turn, &root, to, &event);

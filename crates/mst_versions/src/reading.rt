@@ -7,9 +7,10 @@ ghost use Rattle.mst_node.specs.Text as text;
 ghost use Rattle.mst_node.specs.Trail.{proof_text};
 ghost use Rattle.mst_words.specs.Access.{IsSameSeat};
 ghost use Rattle.mst_words.specs.Layout.{most_passes};
-ghost use Rattle.mst_words.specs.Steps.{IsFree};
+ghost use Rattle.mst_versions.specs.Resting.{IsResting};
 ghost use Rattle.mst_versions.specs.Pinned.{format_pinned, HasPinned, Pins};
 
+use crate::numbers::Numbers;
 use crate::roots::{read_digest, read_format, read_link};
 use mst_key::{Format, Key, Memory, Value};
 use mst_words::PassSeat;
@@ -27,15 +28,13 @@ pub struct PinnedRoot {
 }
 
 /// Pins the current version and reads where its map stands: one xor and two loads.
-pub fn pin<A: Allocator + Copy>(seat: &mut PassSeat<'_, A>, number: u32) -> PinnedRoot
-    requires free { IsFree number seat.old.me }
-    requires few { number ≤ most_passes }
-    requires few_rows { seat.old.me.0.rows ≤ 65535 }
-    requires few_passes { seat.old.me.0.passes ≤ 32 }
+pub fn pin<A: Allocator + Copy>(seat: &mut PassSeat<'_, A>, numbers: Numbers) -> PinnedRoot
+    requires rest { IsResting numbers seat.old.me }
+    requires few { numbers.number ≤ most_passes }
     ensures same { IsSameSeat seat.old seat.new }
     ensures pinned { Pins seat.old.me result seat.new.me }
 {
-    let pinned = seat.pin(number);
+    let pinned = seat.pin(numbers.number);
     let (version, link) = read_link(seat, pinned);
     PinnedRoot {
         pinned,

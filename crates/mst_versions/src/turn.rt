@@ -5,8 +5,12 @@ ghost use Rattle.mst_arena.specs.Lives.{last_version, IsSettled};
 ghost use Rattle.mst_words.specs.Steps.{IsFree, IsHolder, IsGiving, Misses};
 ghost use Rattle.mst_words.specs.Stored.{stored, desk_state};
 ghost use Rattle.mst_versions.specs.Asking.{KnowsRecords, HasAsked, AsksOnly, AsksEach};
+ghost use Rattle.mst_words.specs.Layout.{most_passes};
+ghost use Rattle.mst_versions.specs.Known.{most_rows};
+ghost use Rattle.mst_versions.specs.Resting.{IsResting};
 ghost use Rattle.mst_versions.specs.Turns.{Seat, TakesDesk, HoldsDesk, HasTurn, Begun, IsNotBegun};
 
+use crate::numbers::Numbers;
 use crate::roots::{read_format, read_root};
 use arrayvec::ArrayVec;
 use mst_arena::{Desk, Root};
@@ -132,8 +136,8 @@ fn make_ready<A: Allocator + Copy>(
     requires taken { (before : Seat) × TakesDesk before desk seat.old.me }
     requires holder { IsHolder seat.old.me }
     requires passes { passes ≡ seat.old.me.0.passes }
-    requires few { passes ≤ 32 }
-    requires few_rows { seat.old.me.0.rows ≤ 65535 }
+    requires few { passes ≤ most_passes }
+    requires few_rows { seat.old.me.0.rows ≤ most_rows }
     ensures same { IsSameSeat seat.old seat.new }
     ensures kept { AsksOnly seat.old.me seat.new.me }
     ensures asked { seat.new.me.0.asked ≡ seat.old.me.0.asked + passes + 1 }
@@ -156,49 +160,38 @@ fn make_ready<A: Allocator + Copy>(
 /// Takes the turn, finds a record for a version to come, and frees the rows that no version
 /// reaches: one compare-exchange, one exchange, one load for each record but the current one, and
 /// seven loads more. Returns `None` if another pass has the turn.
-pub fn begin<A: Allocator + Copy>(
-    seat: &mut PassSeat<'_, A>,
-    number: u32,
-    passes: u32,
-) -> Option<Turn<A>>
-    requires free { IsFree number seat.old.me }
-    requires passes { passes ≡ seat.old.me.0.passes }
-    requires few { passes ≤ 32 }
-    requires few_rows { seat.old.me.0.rows ≤ 65535 }
+pub fn begin<A: Allocator + Copy>(seat: &mut PassSeat<'_, A>, numbers: Numbers) -> Option<Turn<A>>
+    requires rest { IsResting numbers seat.old.me }
     ensures same { IsSameSeat seat.old seat.new }
     ensures missed { IfNone result (Misses seat.old.me seat.new.me) }
     ensures begun { IfSome result (λ t. Begun seat.old.me t seat.new.me) }
 {
-    let Some(desk) = take(seat, number) else {
+    let Some(desk) = take(seat, numbers.number) else {
         return None;
     };
-    Some(make_ready(seat, desk, passes))
+    Some(make_ready(seat, desk, numbers.passes))
 }
 
 /// Begins a write as [`begin`] does. But if the current version has the last number, the turn is
 /// given back before any record is asked.
 pub fn begin_write<A: Allocator + Copy>(
     seat: &mut PassSeat<'_, A>,
-    number: u32,
-    passes: u32,
+    numbers: Numbers,
 ) -> Result<Turn<A>, NotBegun>
-    requires free { IsFree number seat.old.me }
-    requires passes { passes ≡ seat.old.me.0.passes }
-    requires few { passes ≤ 32 }
-    requires few_rows { seat.old.me.0.rows ≤ 65535 }
+    requires rest { IsResting numbers seat.old.me }
     ensures same { IsSameSeat seat.old seat.new }
     ensures refused { IfErr result (λ why. IsNotBegun why seat.old.me seat.new.me) }
     ensures begun { IfOk result (λ t. Begun seat.old.me t seat.new.me) }
     ensures room { OnOk result (length seat.new.me.0.seen < last_version) }
 {
-    let Some(desk) = take(seat, number) else {
+    let Some(desk) = take(seat, numbers.number) else {
         return Err(NotBegun::Busy);
     };
     if let Err(_) = desk.next_version() {
         lay_back(seat, desk);
         return Err(NotBegun::VersionsSpent);
     }
-    Ok(make_ready(seat, desk, passes))
+    Ok(make_ready(seat, desk, numbers.passes))
 }
 
 /// Gives the turn back with the history as it was: one exchange and one store.

@@ -5,11 +5,13 @@ ghost use Rattle.mst_key.specs.declared.history.Change.TheVariants.{Put, Remove}
 ghost use Rattle.mst_arena.specs.Lives.{last_version};
 ghost use Rattle.mst_words.specs.Access.{IsSameSeat};
 ghost use Rattle.mst_words.specs.Steps.{IsFree, Misses};
+ghost use Rattle.mst_versions.specs.Resting.{IsResting};
 ghost use Rattle.mst_versions.specs.Known.{AtSeat};
 ghost use Rattle.mst_versions.specs.Turns.{HasTurn, Spent};
 ghost use Rattle.mst_versions.specs.Writes.{Made, LacksRows, KeepsPass, WroteAtSeat, Refuses};
 
 use crate::faults::WriteFault;
+use crate::numbers::Numbers;
 use crate::publishing::publish;
 use crate::turn::{NotBegun, Turn, begin_write, give_back};
 use mst_arena::Root;
@@ -107,29 +109,25 @@ pub fn make<A: Allocator + Copy>(
 /// a store of one pass these are the rows of the map.
 pub fn write<A: Allocator + Copy>(
     seat: &mut PassSeat<'_, A>,
-    number: u32,
-    passes: u32,
+    numbers: Numbers,
     event: &Event,
 ) -> Result<(Option<Value>, u64), WriteFault>
-    requires free { IsFree number seat.old.me }
+    requires rest { IsResting numbers seat.old.me }
     requires keyed { IsMigration event.now.change → ⊥ }
     requires single { IsBatch event.now.change → ⊥ }
-    requires mine { event.now.pass ≡ number }
-    requires passes { passes ≡ seat.old.me.0.passes }
-    requires few { passes ≤ 32 }
-    requires few_rows { seat.old.me.0.rows ≤ 65535 }
+    requires mine { event.now.pass ≡ numbers.number }
     ensures same { IsSameSeat seat.old seat.new }
     ensures pass { KeepsPass seat.old.me seat.new.me }
-    ensures free { IsFree number seat.new.me }
-    ensures wrote { IfOk result (λ done. WroteAtSeat number event.now.change seat.old
+    ensures free { IsFree numbers.number seat.new.me }
+    ensures wrote { IfOk result (λ done. WroteAtSeat numbers.number event.now.change seat.old
         (had done.0) done.1 seat.new) }
     ensures version { IfOk result (λ done. done.1 ≡ length seat.new.me.0.seen) }
     ensures refused { IfErr result
-        (λ fault. AtSeat (Refuses fault event.now.change) number seat.old seat.new) }
+        (λ fault. AtSeat (Refuses fault event.now.change) numbers.number seat.old seat.new) }
     ensures missed { IsErrOf result WriteFault.Busy → Misses seat.old.me seat.new.me }
     ensures spent { IsErrOf result WriteFault.VersionsSpent → Spent seat.old.me seat.new.me }
 {
-    let mut turn = match begin_write(seat, number, passes) {
+    let mut turn = match begin_write(seat, numbers) {
         Ok(turn) => turn,
         Err(NotBegun::Busy) => return Err(WriteFault::Busy),
         Err(NotBegun::VersionsSpent) => return Err(WriteFault::VersionsSpent),

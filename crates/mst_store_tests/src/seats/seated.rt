@@ -6,7 +6,7 @@ ghost use Rattle.mst_words.specs.Layout.{most_records};
 use mst_key::{Change, Edit, Event, Format, Key, Memory, Value};
 use mst_versions::reading::{self, PinnedRoot};
 use mst_versions::{
-    ApplyFault, Busy, MigrateFault, WriteFault, applying, counting, migrating, writing,
+    ApplyFault, Busy, MigrateFault, Numbers, WriteFault, applying, counting, migrating, writing,
 };
 use mst_words::PassSeat;
 use std::alloc::Global;
@@ -16,9 +16,7 @@ use std::marker::Model;
 #[derive(Drop)]
 pub(crate) struct Free<'a> {
     pub(crate) seat: PassSeat<'a, Global>,
-    pub(crate) number: u32,
-    pub(crate) passes: u32,
-    pub(crate) rows: u32,
+    pub(crate) numbers: Numbers,
 }
 
 impl<'a> Model for Free<'a> {
@@ -29,7 +27,7 @@ impl<'a> Model for Free<'a> {
 
     ghost view = { λ p. p.seat };
 
-    ghost invariant = { λ p. IsFreeSeat p.number p.passes p.rows p.seat };
+    ghost invariant = { λ p. IsFreeSeat p.numbers p.seat };
 }
 
 /// A pass that pins a version.
@@ -37,9 +35,7 @@ impl<'a> Model for Free<'a> {
 pub(crate) struct Held<'a> {
     seat: PassSeat<'a, Global>,
     at: PinnedRoot,
-    number: u32,
-    passes: u32,
-    rows: u32,
+    numbers: Numbers,
 }
 
 impl<'a> Model for Held<'a> {
@@ -50,25 +46,14 @@ impl<'a> Model for Held<'a> {
 
     ghost view = { λ p. p.seat };
 
-    ghost invariant = { λ p. IsHeldSeat p.number p.passes p.rows p.at p.seat };
+    ghost invariant = { λ p. IsHeldSeat p.numbers p.at p.seat };
 }
 
 impl<'a> Free<'a> {
     pub(crate) fn pin(self) -> Held<'a> {
-        let Free {
-            mut seat,
-            number,
-            passes,
-            rows,
-        } = self;
-        let at = reading::pin(&mut seat, number);
-        Held {
-            seat,
-            at,
-            number,
-            passes,
-            rows,
-        }
+        let Free { mut seat, numbers } = self;
+        let at = reading::pin(&mut seat, numbers);
+        Held { seat, at, numbers }
     }
 
     // Makes a change of a key, and returns the value that it had.
@@ -77,10 +62,10 @@ impl<'a> Free<'a> {
         requires single { IsBatch change → ⊥ }
     {
         let event = Event {
-            pass: self.number,
+            pass: self.numbers.number,
             change,
         };
-        let (old, _) = writing::write(&mut self.seat, self.number, self.passes, &event)?;
+        let (old, _) = writing::write(&mut self.seat, self.numbers, &event)?;
         Ok(old)
     }
 
@@ -93,20 +78,20 @@ impl<'a> Free<'a> {
     }
 
     pub(crate) fn apply(&mut self, alloc: Global, edits: &[Edit]) -> Result<u64, ApplyFault> {
-        applying::apply(&mut self.seat, alloc, self.number, self.passes, edits)
+        applying::apply(&mut self.seat, alloc, self.numbers, edits)
     }
 
     pub(crate) fn migrate(&mut self, alloc: Global, to: Format) -> Result<Format, MigrateFault> {
-        let (was, _) = migrating::migrate(&mut self.seat, alloc, self.number, self.passes, to)?;
+        let (was, _) = migrating::migrate(&mut self.seat, alloc, self.numbers, to)?;
         Ok(was)
     }
 
     pub(crate) fn rows(&mut self) -> Result<Option<u32>, Busy> {
-        counting::rows(&mut self.seat, self.number, self.passes, self.rows)
+        counting::rows(&mut self.seat, self.numbers)
     }
 
     pub(crate) fn free_rows(&mut self) -> Result<u32, Busy> {
-        counting::free_rows(&mut self.seat, self.number, self.passes)
+        counting::free_rows(&mut self.seat, self.numbers)
     }
 
     /// Who pins the record, by what the words say now, as a mask of their bits.
@@ -152,16 +137,9 @@ impl<'a> Held<'a> {
         let Held {
             mut seat,
             at,
-            number,
-            passes,
-            rows,
+            numbers,
         } = self;
-        seat.unpin(number, at.pinned);
-        Free {
-            seat,
-            number,
-            passes,
-            rows,
-        }
+        seat.unpin(numbers.number, at.pinned);
+        Free { seat, numbers }
     }
 }

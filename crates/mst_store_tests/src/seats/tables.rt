@@ -1,12 +1,14 @@
 //! What the tests share: a new table with its dealer, and an event.
 ghost use Rattle.std.specs.Prelude.{◌≡◌, ◌<◌, ◌≤◌, [], IfOk};
-ghost use Rattle.mst_words.specs.Layout.{table_words};
+ghost use Rattle.mst_words.specs.Layout.{most_passes, table_words};
+ghost use Rattle.mst_versions.specs.Known.{most_rows};
 ghost use Rattle.mst_words.specs.World.{dealer};
 ghost use Rattle.mst_key.specs.History.{IsMigration, IsBatch};
 ghost use Rattle.mst_key.specs.declared.format.Format.TheVariants.{One};
 
 use mst_arena::Desk;
 use mst_key::{Change, Event, Format, Key, Memory, Value};
+use mst_versions::Numbers;
 use mst_words::{Board, Shape, Token};
 use std::alloc::Allocator;
 use std::test::Fail;
@@ -17,8 +19,8 @@ pub(crate) fn opened<A: Allocator + Copy>(
     rows: u32,
     passes: u32,
 ) -> Result<(Board<A>, Token<A>), Memory>
-    requires some { (0 < rows) × (rows ≤ 65535) }
-    requires few { (0 < passes) × (passes ≤ 32) }
+    requires some { (0 < rows) × (rows ≤ most_rows) }
+    requires few { (0 < passes) × (passes ≤ most_passes) }
     ensures ok { IfOk result (λ r. (r.1.table_id ≡ r.0) × (r.0.words ≡ table_words rows)
         × (r.1.me ≡ (dealer rows passes One 1, []))) }
 {
@@ -29,6 +31,17 @@ pub(crate) fn opened<A: Allocator + Copy>(
     };
     let desk = Desk::new(alloc, rows, passes + 2, 0)?;
     Board::open(alloc, shape, desk)
+}
+
+// The numbers of a pass of a table for so many passes and rows.
+pub(crate) fn numbers(number: u32, passes: u32, rows: u32) -> Numbers
+    ensures { result ≡ record { number = number; passes = passes; rows = rows } }
+{
+    Numbers {
+        number,
+        passes,
+        rows,
+    }
 }
 
 // The event that a pass makes by putting the key a.

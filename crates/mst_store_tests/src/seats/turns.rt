@@ -8,7 +8,7 @@ ghost use Rattle.mst_key.specs.declared.format.Format.TheVariants.{One};
 use crate::confirming::confirm_at;
 use crate::fixtures::{key, value};
 use crate::seats::seated::Free;
-use crate::seats::tables::opened;
+use crate::seats::tables::{numbers, opened};
 use mst_key::{Key, Value};
 use mst_versions::turn::{NotBegun, begin, begin_write, give_back};
 use mst_versions::{ApplyFault, Busy, WriteFault};
@@ -23,15 +23,15 @@ fn one_pass_has_the_turn(rt: HostRuntime) {
     };
     let mut first = board.deal(&mut dealer);
     let mut second = board.deal(&mut dealer);
-    let Some(turn) = begin(&mut first, 1, 2) else {
+    let Some(turn) = begin(&mut first, numbers(1, 2, 4)) else {
         panic!(rt; "the turn is free")
     };
     assert!(rt; turn.root.link == 0 && turn.into != 0 && turn.desk.free() == 4);
-    if let Some(_) = begin(&mut second, 2, 2) {
+    if let Some(_) = begin(&mut second, numbers(2, 2, 4)) {
         panic!(rt; "the first pass has the turn")
     }
     give_back(&mut first, turn);
-    let Some(turn) = begin(&mut first, 1, 2) else {
+    let Some(turn) = begin(&mut first, numbers(1, 2, 4)) else {
         panic!(rt; "the turn is free again")
     };
     give_back(&mut first, turn);
@@ -44,10 +44,10 @@ fn a_write_is_begun_by_one_pass(rt: HostRuntime) {
     };
     let mut first = board.deal(&mut dealer);
     let mut second = board.deal(&mut dealer);
-    let Ok(turn) = begin_write(&mut first, 1, 2) else {
+    let Ok(turn) = begin_write(&mut first, numbers(1, 2, 4)) else {
         panic!(rt; "the turn is free")
     };
-    match begin_write(&mut second, 2, 2) {
+    match begin_write(&mut second, numbers(2, 2, 4)) {
         Err(NotBegun::Busy) => {}
         _ => panic!(rt; "the first pass has the turn"),
     }
@@ -62,15 +62,11 @@ fn both_passes<'a>(board: &'a Board<Global>, token: &mut Token<Global>) -> (Free
 {
     let first = Free {
         seat: board.deal(token),
-        number: 1,
-        passes: 2,
-        rows: 8,
+        numbers: numbers(1, 2, 8),
     };
     let second = Free {
         seat: board.deal(token),
-        number: 2,
-        passes: 2,
-        rows: 8,
+        numbers: numbers(2, 2, 8),
     };
     (first, second)
 }
@@ -144,12 +140,8 @@ fn a_pass_that_finds_the_turn_taken_is_told_so_and_reads_on(rt: HostRuntime) {
     assert!(rt; adds(&mut first, &abc, &x));
     assert!(rt; adds(&mut second, &a, &one));
     let (mut second, before) = read_all(&rt, rt.alloc(), second, &abc);
-    let Free {
-        mut seat,
-        number,
-        ..
-    } = first;
-    assert!(rt; seat.take_turn(number));
+    let Free { mut seat, numbers } = first;
+    assert!(rt; seat.take_turn(numbers.number));
     for round in 0..3usize {
         confirm_at(&rt, is_refused(rt.alloc(), &mut second, &abc, &one), round);
         confirm_at(&rt, is_not_counted(&mut second), round);

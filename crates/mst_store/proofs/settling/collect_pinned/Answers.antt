@@ -9,7 +9,7 @@ use Rattle.mst_store.proofs.settling.collect_pinned.Goals as goal
 pub invariant_of-pinned : goal.invariant_of-pinned
 invariant_of-pinned g c = let i = c.pinned.inside in let m : Seat = i.seat.me in let sees =
     c.see_all.ensures.seen in
-    pinned_still i.number i.passes i.rows i.at i.seat c.write_note-note.new.self sees.log m.0.told
+    pinned_still i.numbers i.at i.seat c.write_note-note.new.self sees.log m.0.told
     (m.0.asked + 1) (ap (λ s. s.me) c.write_note-note.ensures.kept ∙ sees.is) c.pinned.invariant
 
 pub returns-clause-later : goal.returns-clause-later

@@ -16,26 +16,28 @@ invariant_of-pass g c = let m : Seat = c.pass.inside.seat.me in let i = c.pass.i
     rw same (subst (λ (k : Known). IsPrefix k.seen log) (sym c.pass.view_is) c.requires.later)
     in
     let own : events_of m.0.number m.0.seen ≡ m.0.mine =
-    subst (λ (n : ℕ). events_of n m.0.seen ≡ m.0.mine) (sym i.free.3) i.own in
+    subst (λ (n : ℕ). events_of n m.0.seen ≡ m.0.mine) (sym i.rest.free.3) i.own in
     let told : events_of m.0.number note.seen ≡ m.0.mine =
     told_own m note c.hear_note.ensures.told c.see_told.ensures.seen later own in
     let is = c.see_told.ensures.seen.is
     ∙ ap (λ (z : Seat). (record z.0 { seen = z.0.told; asked = z.0.asked + 1 }, z.1))
     c.hear_note.ensures.told in record {
-      free = (
-        ap (λ (z : Seat). z.1) is ∙ i.free.0,
-        ap (λ (z : Seat). z.0.turn) is ∙ i.free.1,
-        ap (λ (z : Seat). z.0.pin) is ∙ i.free.2,
-        ap (λ (z : Seat). z.0.number) is ∙ i.free.3,
-        i.free.4,
-      );
+      rest = record {
+        free = (
+          ap (λ (z : Seat). z.1) is ∙ i.rest.free.0,
+          ap (λ (z : Seat). z.0.turn) is ∙ i.rest.free.1,
+          ap (λ (z : Seat). z.0.pin) is ∙ i.rest.free.2,
+          ap (λ (z : Seat). z.0.number) is ∙ i.rest.free.3,
+          i.rest.free.4,
+        );
+        passes_is = ap (λ (z : Seat). z.0.passes) is ∙ i.rest.passes_is;
+        few = i.rest.few;
+        rows_is = ap (λ (z : Seat). z.0.rows) is ∙ i.rest.rows_is;
+        few_rows = i.rest.few_rows;
+      };
       low = i.low;
-      passes_is = ap (λ (z : Seat). z.0.passes) is ∙ i.passes_is;
-      few = i.few;
-      rows_is = ap (λ (z : Seat). z.0.rows) is ∙ i.rows_is;
-      few_rows = i.few_rows;
-      own = ap (λ (z : Seat). events_of c.pass.inside.number z.0.seen) is
-          ∙ subst (λ (n : ℕ). events_of n note.seen ≡ m.0.mine) i.free.3 told
+      own = ap (λ (z : Seat). events_of c.pass.inside.numbers.number z.0.seen) is
+          ∙ subst (λ (n : ℕ). events_of n note.seen ≡ m.0.mine) i.rest.free.3 told
           ∙ sym (ap (λ (z : Seat). z.0.mine) is);
     }
 
@@ -48,9 +50,9 @@ returns-clause-own g c = let m : Seat = c.pass.inside.seat.me in let i = c.pass.
     rw same (subst (λ (k : Known). IsPrefix k.seen log) (sym c.pass.view_is) c.requires.later)
     in
     let own : events_of m.0.number m.0.seen ≡ m.0.mine =
-    subst (λ (n : ℕ). events_of n m.0.seen ≡ m.0.mine) (sym i.free.3) i.own in
+    subst (λ (n : ℕ). events_of n m.0.seen ≡ m.0.mine) (sym i.rest.free.3) i.own in
     let told : events_of m.0.number note.seen ≡ m.0.mine =
     told_own m note c.hear_note.ensures.told c.see_told.ensures.seen later own in
     rw (sym c.pass.view_is)
-    (subst (λ (n : ℕ). events_of n log ≡ m.0.mine) i.free.3
+    (subst (λ (n : ℕ). events_of n log ≡ m.0.mine) i.rest.free.3
     (subst (λ (h : History). events_of m.0.number h ≡ m.0.mine) same told))

@@ -9,7 +9,7 @@ use Rattle.mst_store.proofs.settling.deliver_pinned.Goals as goal
 pub invariant_of-pinned : goal.invariant_of-pinned
 invariant_of-pinned g c = let i = c.pinned.inside in let m : Seat = i.seat.me in let sees =
     c.see_all.ensures.seen in
-    pinned_still i.number i.passes i.rows i.at i.seat c.see_all.new.self sees.log
+    pinned_still i.numbers i.at i.seat c.see_all.new.self sees.log
     c.write_note-note.result.me.0.seen (m.0.asked + 1 + 1)
     (sees.is ∙ ap (λ (z : Seat). (record z.0 { seen = sees.log; asked = z.0.asked + 1 }, z.1))
     c.hear_note.ensures.told) c.pinned.invariant

@@ -18,9 +18,10 @@ returns-in-Ok-make_batch-clause-wrote g c =
     let made = c.in-Ok-make_batch in
     let last = c.publish in
     let same : IsSameSeat c.args.seat.now last.new.seat = search rules in
-    let event : List Edit → Event = λ es. record { pass = c.args.number; change = Batch es } in
+    let event : List Edit → Event = λ es. record { pass = c.args.numbers.number; change = Batch es }
+    in
     wrote c.args.seat.now c.begin_write.new.seat.me c.in-Ok.turn c.in-Ok.ensures.begun
-    c.args.number c.requires.free.3 (Batch c.args.edits.now) made.root done
+    c.args.numbers.number c.requires.rest.free.3 (Batch c.args.edits.now) made.root done
     c.make_batch.new.turn c.make_batch.new.seat.me last.new.seat last.result same
     made.ensures.made
     (subst (λ (es : List Edit). Added (event es) c.make_batch.new.seat.me last.new.seat.me)
@@ -35,22 +36,13 @@ returns-in-Err-NoRoom-clause-refused g c =
     let lacks = subst (λ (why : NotApplied). LacksEdits why c.args.edits.now t
     c.begin_write.new.seat.me) is why.lacks in
     let same : IsSameSeat c.args.seat.now back.new.seat = search rules in
-    refused c.args.seat.now c.begin_write.new.seat.me t c.in-Ok.ensures.begun c.args.number
-    c.requires.free.3 c.make_batch.new.seat.me back.new.seat same
+    refused c.args.seat.now c.begin_write.new.seat.me t c.in-Ok.ensures.begun c.args.numbers.number
+    c.requires.rest.free.3 c.make_batch.new.seat.me back.new.seat same
     (ap (λ (z : Seated). z.me) why.untouched.1) back.ensures.gave (Batch c.args.edits.now)
     c.in-Ok.ensures.room lacks
 
-pub begin_write-requires-clause-free : goal.begin_write-requires-clause-free
-begin_write-requires-clause-free g c = search rules
-
-pub begin_write-requires-clause-passes : goal.begin_write-requires-clause-passes
-begin_write-requires-clause-passes g c = search rules
-
-pub begin_write-requires-clause-few : goal.begin_write-requires-clause-few
-begin_write-requires-clause-few g c = search rules
-
-pub begin_write-requires-clause-few_rows : goal.begin_write-requires-clause-few_rows
-begin_write-requires-clause-few_rows g c = search rules
+pub begin_write-requires : goal.begin_write-requires
+begin_write-requires g c = search rules
 
 pub returns-in-Err-Busy-clause-same : goal.returns-in-Err-Busy-clause-same
 returns-in-Err-Busy-clause-same g c = search rules
@@ -137,8 +129,9 @@ returns-in-Err-Memory-clause-refused g c =
     let same : IsSameSeat c.args.seat.now back.new.seat = search rules in
     let several = subst (λ (why : NotApplied). LacksEdits why c.args.edits.now t
     c.begin_write.new.seat.me) c.in-Err-Memory.field-0-is why.lacks in
-    batch_memory c.args.seat.now c.begin_write.new.seat.me t c.in-Ok.ensures.begun c.args.number
-    c.requires.free.3 c.make_batch.new.seat.me back.new.seat same
+    batch_memory c.args.seat.now c.begin_write.new.seat.me t c.in-Ok.ensures.begun
+    c.args.numbers.number
+    c.requires.rest.free.3 c.make_batch.new.seat.me back.new.seat same
     (ap (λ (z : Seated). z.me) why.untouched.1) back.ensures.gave c.args.edits.now
     c.in-Err-Memory.refused c.in-Ok.ensures.room several
 

@@ -16,8 +16,8 @@ returns-in-Ok-make_move-clause-wrote g c =
     let done = c.in-Ok-make_move in
     let last = c.publish-version in
     let same : IsSameSeat c.args.seat.now last.new.seat = search rules in
-    wrote c.args.seat.now c.begin_write.new.seat.me t c.in-Ok.ensures.begun c.args.number
-    c.requires.free.3 (Migrate c.args.to) done.root (was t.format) c.make_move.new.turn
+    wrote c.args.seat.now c.begin_write.new.seat.me t c.in-Ok.ensures.begun c.args.numbers.number
+    c.requires.rest.free.3 (Migrate c.args.to) done.root (was t.format) c.make_move.new.turn
     c.make_move.new.seat.me last.new.seat last.result same done.ensures.made last.ensures.added
     last.ensures.version c.in-Ok.ensures.room
 
@@ -30,8 +30,9 @@ returns-in-Err-NoRoom-clause-refused g c =
     let lacks = subst (λ (why : NotMoved). LacksTree why c.args.to t c.begin_write.new.seat.me)
     is refused.lacks in
     let same : IsSameSeat c.args.seat.now back.new.seat = search rules in
-    refused_room c.args.seat.now c.begin_write.new.seat.me t c.in-Ok.ensures.begun c.args.number
-    c.requires.free.3 c.make_move.new.seat.me back.new.seat same
+    refused_room c.args.seat.now c.begin_write.new.seat.me t c.in-Ok.ensures.begun
+    c.args.numbers.number
+    c.requires.rest.free.3 c.make_move.new.seat.me back.new.seat same
     (ap (λ (z : Seated). z.me) refused.untouched.1) back.ensures.gave c.args.to lacks.0
     c.in-Ok.ensures.room lacks.1
 
@@ -49,7 +50,8 @@ returns-in-Err-Memory-clause-refused g c =
     let same : IsSameSeat c.args.seat.now back.new.seat = search rules in
     let other = subst (λ (why : NotMoved). LacksTree why c.args.to t c.begin_write.new.seat.me)
     c.in-Err-Memory.field-0-is why.lacks in
-    refused_memory c.args.seat.now c.begin_write.new.seat.me t c.in-Ok.ensures.begun c.args.number
-    c.requires.free.3 c.make_move.new.seat.me back.new.seat same
+    refused_memory c.args.seat.now c.begin_write.new.seat.me t c.in-Ok.ensures.begun
+    c.args.numbers.number
+    c.requires.rest.free.3 c.make_move.new.seat.me back.new.seat same
     (ap (λ (z : Seated). z.me) why.untouched.1) back.ensures.gave c.args.to other
     c.in-Ok.ensures.room c.in-Err-Memory.refused

@@ -1,5 +1,5 @@
 use Rattle.std.proofs.Common.{rules}
-use Rattle.std.proofs.Common.{sym, subst}
+use Rattle.std.proofs.Common.{ℕ, ◌≤◌, sym, subst}
 use Rattle.mst_words.specs.Access.{Seated}
 use Rattle.mst_versions.specs.Pinned.{Pins}
 use Rattle.mst_versions.proofs.Pinning.{pinned_link, pinned_root}
@@ -8,7 +8,7 @@ use Rattle.mst_versions.proofs.reading.pin.Goals as goal
 pub read_link-version-requires-clause-link : goal.read_link-version-requires-clause-link
 read_link-version-requires-clause-link g c = let p = c.pin-pinned.ensures.pinned in
     pinned_link c.args.seat.now.me c.pin-pinned.new.self.me p.0 c.pin-pinned.result p.1 p.2
-    c.requires.few_rows
+    (subst (λ (r : ℕ). r ≤ 65535) (sym c.requires.rest.rows_is) c.requires.rest.few_rows)
 
 pub returns-clause-pinned : goal.returns-clause-pinned
 returns-clause-pinned g c = let p = c.pin-pinned.ensures.pinned in let r = c.read_link-version in
@@ -20,7 +20,8 @@ returns-clause-pinned g c = let p = c.pin-pinned.ensures.pinned in let r = c.rea
     } z.me) (sym r.ensures.same)
     (pinned_root c.args.seat.now.me c.pin-pinned.new.self.me p.0 p.1
     (record { pinned = c.pin-pinned.result; version = r.result.0; link = r.result.1 })
-    c.requires.few_passes p.2 r.ensures.version r.ensures.link)
+    (subst (λ (n : ℕ). n ≤ 32) (sym c.requires.rest.passes_is) c.requires.rest.few) p.2
+    r.ensures.version r.ensures.link)
 
 pub pin-pinned-requires-clause-free : goal.pin-pinned-requires-clause-free
 pin-pinned-requires-clause-free g c = search rules

@@ -20,7 +20,7 @@ publish-version-requires g c = record {
       subst (λ (e : Event). HasMade c.make.new.turn c.in-Ok-make.root c.in-Ok.turn.format e
       c.make.new.seat.me)
       (own_event c.args.seat.now.me c.begin_write.new.seat.me c.args.event.now
-      (c.requires.mine ∙ sym c.requires.free.3)
+      (c.requires.mine ∙ sym c.requires.rest.free.3)
       (ap (λ (v : View). v.number) c.in-Ok.ensures.begun.rest))
       (subst (λ (f : Format). HasMade c.make.new.turn c.in-Ok-make.root f
       (made_at_seat c.begin_write.new.seat.me c.args.event.now.change) c.make.new.seat.me)
@@ -43,7 +43,7 @@ returns-in-Ok-make-clause-wrote g c =
     let same : IsSameSeat c.args.seat.now last.new.seat = search rules in
     let change = c.args.event.now.change in
     wrote c.args.seat.now c.begin_write.new.seat.me c.in-Ok.turn c.in-Ok.ensures.begun
-    c.args.number c.requires.free.3 change c.in-Ok-make.root (had c.in-Ok-make.old)
+    c.args.numbers.number c.requires.rest.free.3 change c.in-Ok-make.root (had c.in-Ok-make.old)
     c.make.new.turn c.make.new.seat.me last.new.seat last.result same c.in-Ok-make.ensures.made
     (subst (λ (e : Event). Added e c.make.new.seat.me last.new.seat.me)
     (ap (λ (p : ℕ). record { pass = p; change = change }) c.requires.mine) last.ensures.added)
@@ -53,21 +53,12 @@ pub returns-in-Err-clause-refused : goal.returns-in-Err-clause-refused
 returns-in-Err-clause-refused g c =
     let same : IsSameSeat c.args.seat.now c.give_back.new.seat = search rules in
     refused c.args.seat.now c.begin_write.new.seat.me c.in-Ok.turn c.in-Ok.ensures.begun
-    c.args.number c.requires.free.3 c.make.new.seat.me c.give_back.new.seat same
+    c.args.numbers.number c.requires.rest.free.3 c.make.new.seat.me c.give_back.new.seat same
     (ap (λ (z : Seated). z.me) c.in-Err.ensures.untouched.1) c.give_back.ensures.gave
     c.args.event.now.change c.in-Ok.ensures.room c.in-Err.ensures.lacks
 
-pub begin_write-requires-clause-free : goal.begin_write-requires-clause-free
-begin_write-requires-clause-free g c = search rules
-
-pub begin_write-requires-clause-passes : goal.begin_write-requires-clause-passes
-begin_write-requires-clause-passes g c = search rules
-
-pub begin_write-requires-clause-few : goal.begin_write-requires-clause-few
-begin_write-requires-clause-few g c = search rules
-
-pub begin_write-requires-clause-few_rows : goal.begin_write-requires-clause-few_rows
-begin_write-requires-clause-few_rows g c = search rules
+pub begin_write-requires : goal.begin_write-requires
+begin_write-requires g c = search rules
 
 pub returns-in-Err-Busy-clause-same : goal.returns-in-Err-Busy-clause-same
 returns-in-Err-Busy-clause-same g c = search rules

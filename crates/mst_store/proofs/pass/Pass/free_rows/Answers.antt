@@ -4,58 +4,54 @@ use Rattle.mst_versions.specs.Counting.{CountsFree}
 use Rattle.mst_store.proofs.FromSeats.{at_made, own_counted}
 use Rattle.mst_store.proofs.pass.Pass.free_rows.Goals as goal
 
-pub free_rows-requires-clause-free : goal.free_rows-requires-clause-free
-free_rows-requires-clause-free g c = search rules
-
-pub free_rows-requires-clause-passes : goal.free_rows-requires-clause-passes
-free_rows-requires-clause-passes g c = search rules
-
-pub free_rows-requires-clause-few : goal.free_rows-requires-clause-few
-free_rows-requires-clause-few g c = search rules
-
-pub free_rows-requires-clause-few_rows : goal.free_rows-requires-clause-few_rows
-free_rows-requires-clause-few_rows g c = search rules
+pub free_rows-requires : goal.free_rows-requires
+free_rows-requires g c = search rules
 
 pub invariant_of-self : goal.invariant_of-self
 invariant_of-self g c =
-    let own : events_of c.self.inside.number c.self.inside.seat.me.0.seen
+    let own : events_of c.self.inside.numbers.number c.self.inside.seat.me.0.seen
     ≡ c.self.inside.seat.me.0.mine = search rules in
-    let kept = own_counted c.self.inside.number c.self.inside.seat c.free_rows.new.seat own
+    let kept = own_counted c.self.inside.numbers.number c.self.inside.seat c.free_rows.new.seat own
     c.free_rows.result
     CountsFree (λ _ p q h. h.looks) c.free_rows.ensures.counted c.free_rows.ensures.busy in
     search (rules, kept)
 
 pub returns-clause-looks : goal.returns-clause-looks
 returns-clause-looks g c =
-    let counted = at_made c.free_rows.result CountsFree c.self.inside.number c.self.inside.seat
+    let counted = at_made c.free_rows.result CountsFree c.self.inside.numbers.number
+    c.self.inside.seat
     c.free_rows.new.seat
     c.self.inside.made c.args.self.now c.self.view_is c.free_rows.ensures.counted in
     search (rules, counted)
 
 pub returns-clause-exact : goal.returns-clause-exact
 returns-clause-exact g c =
-    let counted = at_made c.free_rows.result CountsFree c.self.inside.number c.self.inside.seat
+    let counted = at_made c.free_rows.result CountsFree c.self.inside.numbers.number
+    c.self.inside.seat
     c.free_rows.new.seat
     c.self.inside.made c.args.self.now c.self.view_is c.free_rows.ensures.counted in
     search (rules, counted)
 
 pub returns-clause-alone : goal.returns-clause-alone
 returns-clause-alone g c =
-    let counted = at_made c.free_rows.result CountsFree c.self.inside.number c.self.inside.seat
+    let counted = at_made c.free_rows.result CountsFree c.self.inside.numbers.number
+    c.self.inside.seat
     c.free_rows.new.seat
     c.self.inside.made c.args.self.now c.self.view_is c.free_rows.ensures.counted in
     search (rules, counted)
 
 pub returns-clause-found : goal.returns-clause-found
 returns-clause-found g c =
-    let counted = at_made c.free_rows.result CountsFree c.self.inside.number c.self.inside.seat
+    let counted = at_made c.free_rows.result CountsFree c.self.inside.numbers.number
+    c.self.inside.seat
     c.free_rows.new.seat
     c.self.inside.made c.args.self.now c.self.view_is c.free_rows.ensures.counted in
     search (rules, counted)
 
 pub returns-clause-steps : goal.returns-clause-steps
 returns-clause-steps g c =
-    let counted = at_made c.free_rows.result CountsFree c.self.inside.number c.self.inside.seat
+    let counted = at_made c.free_rows.result CountsFree c.self.inside.numbers.number
+    c.self.inside.seat
     c.free_rows.new.seat
     c.self.inside.made c.args.self.now c.self.view_is c.free_rows.ensures.counted in
     search (rules, counted)

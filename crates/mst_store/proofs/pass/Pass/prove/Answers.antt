@@ -1,17 +1,11 @@
 use Rattle.std.proofs.Common.{rules}
 use Rattle.mst_store.proofs.pass.Pass.prove.Goals as goal
 
-pub pin-at-requires-clause-free : goal.pin-at-requires-clause-free
-pin-at-requires-clause-free g c = search rules
+pub pin-at-requires-clause-rest : goal.pin-at-requires-clause-rest
+pin-at-requires-clause-rest g c = search rules
 
 pub pin-at-requires-clause-few : goal.pin-at-requires-clause-few
 pin-at-requires-clause-few g c = search rules
-
-pub pin-at-requires-clause-few_rows : goal.pin-at-requires-clause-few_rows
-pin-at-requires-clause-few_rows g c = search rules
-
-pub pin-at-requires-clause-few_passes : goal.pin-at-requires-clause-few_passes
-pin-at-requires-clause-few_passes g c = search rules
 
 pub prove-requires : goal.prove-requires
 prove-requires g c = search rules

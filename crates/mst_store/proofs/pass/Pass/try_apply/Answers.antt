@@ -3,24 +3,16 @@ use Rattle.mst_key.specs.History.{events_of}
 use Rattle.mst_store.proofs.FromSeats.{own_refused_batch}
 use Rattle.mst_store.proofs.pass.Pass.try_apply.Goals as goal
 
-pub apply-requires-clause-free : goal.apply-requires-clause-free
-apply-requires-clause-free g c = search rules
-
-pub apply-requires-clause-passes : goal.apply-requires-clause-passes
-apply-requires-clause-passes g c = search rules
-
-pub apply-requires-clause-few : goal.apply-requires-clause-few
-apply-requires-clause-few g c = search rules
-
-pub apply-requires-clause-few_rows : goal.apply-requires-clause-few_rows
-apply-requires-clause-few_rows g c = search rules
+pub apply-requires : goal.apply-requires
+apply-requires g c = search rules
 
 pub invariant_of-self : goal.invariant_of-self
 invariant_of-self g c =
     let fault = c.in_err-version in
-    let own : events_of c.self.inside.number c.self.inside.seat.me.0.seen
+    let own : events_of c.self.inside.numbers.number c.self.inside.seat.me.0.seen
     ≡ c.self.inside.seat.me.0.mine = search rules in
-    let kept = own_refused_batch c.self.inside.number c.self.inside.seat c.apply.new.seat own
+    let kept = own_refused_batch c.self.inside.numbers.number c.self.inside.seat c.apply.new.seat
+    own
     fault.field-0.0
     c.args.edits.now fault.ensures.refused in
     search (rules, kept)

@@ -3,27 +3,18 @@ use Rattle.mst_key.specs.History.{events_of}
 use Rattle.mst_store.proofs.FromSeats.{own_refused}
 use Rattle.mst_store.proofs.pass.Pass.write.Goals as goal
 
-pub write-requires-clause-free : goal.write-requires-clause-free
-write-requires-clause-free g c = search rules
+pub write-requires-clause-rest : goal.write-requires-clause-rest
+write-requires-clause-rest g c = search rules
 
 pub write-requires-clause-mine : goal.write-requires-clause-mine
 write-requires-clause-mine g c = search rules
 
-pub write-requires-clause-passes : goal.write-requires-clause-passes
-write-requires-clause-passes g c = search rules
-
-pub write-requires-clause-few : goal.write-requires-clause-few
-write-requires-clause-few g c = search rules
-
-pub write-requires-clause-few_rows : goal.write-requires-clause-few_rows
-write-requires-clause-few_rows g c = search rules
-
 pub invariant_of-self : goal.invariant_of-self
 invariant_of-self g c =
     let fault = c.in_err-old in
-    let own : events_of c.self.inside.number c.self.inside.seat.me.0.seen
+    let own : events_of c.self.inside.numbers.number c.self.inside.seat.me.0.seen
     ≡ c.self.inside.seat.me.0.mine = search rules in
-    let kept = own_refused c.self.inside.number c.self.inside.seat c.write.new.seat own
+    let kept = own_refused c.self.inside.numbers.number c.self.inside.seat c.write.new.seat own
     fault.field-0.0
     c.args.change fault.ensures.refused in
     search (rules, kept)
