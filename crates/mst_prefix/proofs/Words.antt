@@ -21,7 +21,8 @@ past_first n one other first second rest other_rest f r s o same = record {
   bytes = first;
   begins = sym (take-append-drop n one) ∙ ap (λ (xs : List ℕ). xs ++ drop n one) (sym f)
       ∙ ap (λ (xs : List ℕ). first ++ xs) (sym r);
-  begins_too = sym (take-append-drop n other) ∙ ap (λ (xs : List ℕ). xs ++ drop n other) (sym s ∙ sym same)
+  begins_too = sym (take-append-drop n other) ∙ ap (λ (xs : List ℕ). xs ++ drop n other)
+      (sym s ∙ sym same)
       ∙ ap (λ (xs : List ℕ). first ++ xs) (sym o);
 }
 
@@ -33,7 +34,8 @@ past_nothing one other = record { bytes = []; begins = refl; begins_too = refl }
 pub past_both : (a b c d e f : List ℕ) → ArePast a b c d → ArePast c d e f → ArePast a b e f
 past_both a b c d e f p q = record {
   bytes = p.bytes ++ q.bytes;
-  begins = p.begins ∙ ap (λ (xs : List ℕ). p.bytes ++ xs) q.begins ∙ sym (append_assoc p.bytes q.bytes e);
+  begins = p.begins ∙ ap (λ (xs : List ℕ). p.bytes ++ xs) q.begins
+      ∙ sym (append_assoc p.bytes q.bytes e);
   begins_too = p.begins_too ∙ ap (λ (xs : List ℕ). p.bytes ++ xs) q.begins_too
       ∙ sym (append_assoc p.bytes q.bytes f);
 }

@@ -186,17 +186,6 @@ impl<A: Allocator> Beginnings<A> {
         self.front = Front::Taken(None);
     }
 
-    /// Whether a text is the digest that is kept of the value.
-    #[inline(never)]
-    fn is_kept_digest(&self, text: &[u8], value: &[u8]) -> bool
-        ensures digest { result ≡ true → text.now ≡ sha256 value.now }
-    {
-        match digest_kept(&self.digests, self.to, value) {
-            Some(digest) => is_digest(text, &digest),
-            None => false,
-        }
-    }
-
     /// Whether a text is what stands for the value. A digest that is not kept is not computed.
     #[inline(always)]
     fn is_held(&self, text: &[u8], format: Format, value: &[u8]) -> bool
@@ -205,7 +194,10 @@ impl<A: Allocator> Beginnings<A> {
     {
         match format {
             Format::One => is_counted(text, value),
-            Format::Two => self.is_kept_digest(text, value),
+            Format::Two => match digest_kept(&self.digests, self.to, value) {
+                Some(digest) => is_digest(text, &digest),
+                None => false,
+            },
         }
     }
 
