@@ -1,11 +1,11 @@
 -- A sharded map: the splits between its shards, what a handle knows of each shard, and the map of
 -- all shards together.
 use Rattle.std.specs.Prelude.{◌≡◌, ◌≤◌, ℕ, suc, ◌+◌, if◌then◌else◌, List, [], ◌∷◌, ◌++◌, map, length, slice_index_or}
-use Rattle.std.specs.List.{slice_set}
+use Rattle.std.specs.List.{AllByRecursion, slice_set}
 use Rattle.std.specs.Ordering.{is_lt}
 use Rattle.mst_key.specs.Map.{Pair, key_cmp}
 use Rattle.mst_key.specs.History.{after, IsPrefix}
-use Rattle.mst_store.specs.Passes.{Known, Looks}
+use Rattle.mst_store.specs.Passes.{Known, Looks, most_rows}
 use Rattle.mst_sharded_proof.specs.Shards.{Shard, least, AreSplits, shards as shards_at, part_of}
 
 -- the splits that a sharded map may have: at most 1,023 keys that rise strictly, from above the
@@ -31,6 +31,10 @@ sharding splits shards = record { splits = splits; shards = shards }
 pub record IsSharding (h : Sharding) : Type 0 where
   pub splits_are : IsSplits h.splits
   pub count : length h.shards ≡ length h.splits + 1
+
+-- each pass has seen a map of no more pairs than a store has rows
+abbrev pub HaveFewPairs : List Known → Type 0
+HaveFewPairs ps = AllByRecursion (λ (p : Known). length (after p.seen) ≤ most_rows) ps
 
 -- ---- steps
 

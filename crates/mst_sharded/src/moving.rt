@@ -4,7 +4,7 @@ ghost use Rattle.std.specs.Prelude.{◌≡◌, ◌<◌, ◌≤◌, ◌+◌, ◌+
 ghost use Rattle.std.specs.List.{AllByRecursion, swap_remove, SwappedAt};
 ghost use Rattle.mst_key.specs.History.{after};
 ghost use Rattle.mst_key.specs.Map.{IsMap};
-ghost use Rattle.mst_sharded.specs.Sharding.{AllStep, PinsNow};
+ghost use Rattle.mst_sharded.specs.Sharding.{AllStep, PinsNow, HaveFewPairs};
 ghost use Rattle.mst_sharded.specs.Shared.{AreOf};
 
 use mst_store::{Laid, LaidPinned, Pass, Pinned, Store};
@@ -185,7 +185,7 @@ pub(crate) fn pin_laid<A: Allocator + Copy>(
     requires fits { vec_len passes ≤ vec_capacity room }
     ensures pins { AllStep PinsNow passes.items result.0.items }
     ensures maps { AllByRecursion (λ p. IsMap (after p.seen)) result.0.items }
-    ensures few { AllByRecursion (λ p. length (after p.seen) ≤ 65535) result.0.items }
+    ensures few { HaveFewPairs result.0.items }
     ensures empty { result.1.items ≡ [] }
     ensures room { vec_len result.0 ≤ vec_capacity result.1 }
 {

@@ -8,7 +8,7 @@ ghost use Rattle.mst_store.specs.Passes.{format_seen};
 ghost use Rattle.mst_sharded_proof.specs.Frame.{framing, sharded_proof};
 ghost use Rattle.mst_sharded_proof.specs.Shards.{directory};
 ghost use Rattle.mst_sharded_proof.specs.Theorem.{HasShardedRoot};
-ghost use Rattle.mst_sharded.specs.Sharding.{sharding, IsSplits};
+ghost use Rattle.mst_sharded.specs.Sharding.{sharding, IsSplits, HaveFewPairs};
 ghost use Rattle.mst_key.specs.declared.format.Format.{Format};
 ghost use Rattle.mst_sharded.specs.Directory.{AllIn, LacksDirectory, OfClean};
 ghost use Rattle.mst_sharded.specs.Entries.{Stays};
@@ -34,7 +34,7 @@ pub(crate) fn root_in<A: Allocator + Copy, B: Allocator, C: Allocator + Copy>(
     requires splits { IsSplits splits.now }
     requires count { length pinned.old ≡ length splits.now + 1 }
     requires maps { AllByRecursion (λ p. IsMap (after p.seen)) pinned.old }
-    requires few { AllByRecursion (λ p. length (after p.seen) ≤ 65535) pinned.old }
+    requires few { HaveFewPairs pinned.old }
     requires listed { HasListed splits.now list.old pinned.old }
     ensures ok { IfOk result (λ digest. OfClean
         (λ format m. HasShardedRoot format m splits.now digest)

@@ -111,7 +111,7 @@ impl<A: Allocator + Copy> Model for SharedSnapshot<A> {
     ghost use Rattle.mst_key.specs.Map.{IsMap};
     ghost use Rattle.mst_sharded.specs.Listing.{HasListed};
     ghost use Rattle.mst_sharded.specs.Shared.{AreOf};
-    ghost use Rattle.mst_sharded.specs.Sharding.{Sharding, sharding, IsSharding};
+    ghost use Rattle.mst_sharded.specs.Sharding.{Sharding, sharding, IsSharding, HaveFewPairs};
 
     ghost Value = { Sharding };
 
@@ -119,7 +119,7 @@ impl<A: Allocator + Copy> Model for SharedSnapshot<A> {
 
     ghost invariant = { λ s. IsSharding (sharding (arc_value s.map).splits s.pinned.items)
         × AllByRecursion (λ p. IsMap (after p.seen)) s.pinned.items
-        × AllByRecursion (λ p. length (after p.seen) ≤ 65535) s.pinned.items
+        × HaveFewPairs s.pinned.items
         × HasListed (arc_value s.map).splits s.directory s.pinned.items
         × AreOf (arc_value s.map).stores s.pinned.items
         × (slice_get (arc_value s.map).directories s.number ≡ Some s.directory.pass.store)

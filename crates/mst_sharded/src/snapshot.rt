@@ -3,7 +3,7 @@ ghost use Rattle.std.specs.Prelude.{◌≡◌, ◌<◌, ◌≤◌, ◌++◌, [],
 ghost use Rattle.std.specs.List.{AllByRecursion};
 ghost use Rattle.mst_key.specs.History.{after};
 ghost use Rattle.mst_key.specs.Map.{map_get, IsMap};
-ghost use Rattle.mst_sharded.specs.Sharding.{AllStep, PinsNow, PinsAll, map_of};
+ghost use Rattle.mst_sharded.specs.Sharding.{AllStep, PinsNow, PinsAll, HaveFewPairs, map_of};
 
 use crate::directory::Directory;
 use crate::handle::Handle;
@@ -31,7 +31,7 @@ impl<'a, A: Allocator + Copy, B: Allocator> Model for Snapshot<'a, A, B> {
     ghost use Rattle.mst_key.specs.History.{after};
     ghost use Rattle.mst_key.specs.Map.{IsMap};
     ghost use Rattle.mst_sharded.specs.Listing.{HasListed};
-    ghost use Rattle.mst_sharded.specs.Sharding.{Sharding, sharding, IsSharding};
+    ghost use Rattle.mst_sharded.specs.Sharding.{Sharding, sharding, IsSharding, HaveFewPairs};
 
     ghost Value = { Sharding };
 
@@ -39,7 +39,7 @@ impl<'a, A: Allocator + Copy, B: Allocator> Model for Snapshot<'a, A, B> {
 
     ghost invariant = { λ s. IsSharding (sharding s.splits.now s.pinned.items)
         × AllByRecursion (λ p. IsMap (after p.seen)) s.pinned.items
-        × AllByRecursion (λ p. length (after p.seen) ≤ 65535) s.pinned.items
+        × HaveFewPairs s.pinned.items
         × HasListed s.splits.now s.directory s.pinned.items
         × (s.room.items ≡ []) × (vec_len s.pinned ≤ vec_capacity s.room) };
 }
@@ -53,7 +53,7 @@ fn pin_all<'a, A: Allocator + Copy, B: Allocator>(
     requires fits { vec_len passes ≤ vec_capacity room }
     ensures pins { AllStep PinsNow passes.entry.items result.0.items }
     ensures maps { AllByRecursion (λ p. IsMap (after p.seen)) result.0.items }
-    ensures few { AllByRecursion (λ p. length (after p.seen) ≤ 65535) result.0.items }
+    ensures few { HaveFewPairs result.0.items }
     ensures empty { result.1.items ≡ [] }
     ensures room { vec_len result.0 ≤ vec_capacity result.1 }
 {
