@@ -4,7 +4,7 @@
 -- An edit is a byte for its kind, 1 for a put and 2 for a remove; the lengths of its key and of its
 -- value, in two bytes each with the high one first; then the key and the value. A remove has no
 -- value. The edits stand one after the other, with no byte left over.
-use Rattle.std.specs.Prelude.{◌≡◌, ◌<◌, ◌+◌, ◌==◌, ℕ, zero, suc, ℤ, pos, negsuc, nat_lt, if◌then◌else◌, List, [], ◌∷◌, ◌++◌, length, take, drop, Option, Some, None, Result, Ok, Err}
+use Rattle.std.specs.Prelude.{◌≡◌, ◌<◌, ◌+◌, ◌==◌, ℕ, zero, suc, ℤ, pos, nat_lt, if◌then◌else◌, List, [], ◌∷◌, ◌++◌, length, take, drop, Option, Some, None, Result, Ok, Err}
 use Rattle.std.specs.Int.{w16, from_be_bytes, to_be_bytes}
 use Rattle.mst_key.specs.declared.history.Change.TheVariants.{Batch}
 use Rattle.mst_key.specs.declared.history.Edit.{Edit}
@@ -13,6 +13,7 @@ use Rattle.mst_key.specs.History as history
 use Rattle.mst_versions.specs.declared.faults.ApplyFault.TheVariants as apply
 use Rattle.mst_store.specs.Passes.{Known, Wrote, made_by}
 use Rattle.mst_versions.specs.Applying.{RefusesBatch}
+use Rattle.mst_c.specs.Codes.{bad_key, bad_value, closed, wrong_state, memory, busy, versions_spent, no_free_rows, bad_batch}
 use Rattle.mst_c.specs.declared.held.State.{State}
 use Rattle.mst_c.specs.declared.held.State.TheVariants.{Away, Free, Pinned}
 use Rattle.mst_c.specs.declared.held.Unapplied.{Unapplied}
@@ -117,17 +118,17 @@ Applies es (Pinned p) (Err (Store fault)) s = ⊥
 Applies es (Pinned p) (Ok _) s = ⊥
 
 abbrev pub fault_code : EditFault → ℤ
-fault_code KeySize = negsuc 4
-fault_code ValueSize = negsuc 5
-fault_code Form = negsuc 24
+fault_code KeySize = bad_key
+fault_code ValueSize = bad_value
+fault_code Form = bad_batch
 
 abbrev pub unapplied_code : Unapplied → ℤ
-unapplied_code Pins = negsuc 7
-unapplied_code (Memory refused) = negsuc 8
-unapplied_code (Store apply.Busy) = negsuc 20
-unapplied_code (Store apply.VersionsSpent) = negsuc 21
-unapplied_code (Store (apply.Memory refused)) = negsuc 8
-unapplied_code (Store apply.NoRoom) = negsuc 22
+unapplied_code Pins = wrong_state
+unapplied_code (Memory refused) = memory
+unapplied_code (Store apply.Busy) = busy
+unapplied_code (Store apply.VersionsSpent) = versions_spent
+unapplied_code (Store (apply.Memory refused)) = memory
+unapplied_code (Store apply.NoRoom) = no_free_rows
 
 abbrev pub apply_code : Result (Unit {0}) Unapplied → ℤ
 apply_code (Ok _) = pos 0
@@ -143,6 +144,6 @@ SpeltTold (Ok es) s place code place' hand = (r : Result (Unit {0}) Unapplied) �
 -- -7 for an empty hand, otherwise by what the buffer spells
 abbrev pub ApplyTold : Option State → List ℕ → ℕ → ℤ → ℕ → Option State → Type 0
 ApplyTold None bytes place code place' hand =
-    (code ≡ negsuc 6) × (place' ≡ place) × (hand ≡ None)
+    (code ≡ closed) × (place' ≡ place) × (hand ≡ None)
 ApplyTold (Some s) bytes place code place' hand =
     SpeltTold (edits_in bytes) s place code place' hand

@@ -1,5 +1,5 @@
 -- The numbers of formats, and what C is told of the format of a version and of a migration.
-use Rattle.std.specs.Prelude.{◌≡◌, ◌==◌, if◌then◌else◌, ℕ, ℤ, pos, negsuc, Option, Some, None, Result, Ok, Err}
+use Rattle.std.specs.Prelude.{◌≡◌, ◌==◌, if◌then◌else◌, ℕ, ℤ, pos, Option, Some, None, Result, Ok, Err}
 use Rattle.mst_key.specs.declared.format.Format.{Format}
 use Rattle.mst_key.specs.declared.format.Format.TheVariants.{One, Two}
 use Rattle.mst_key.specs.declared.history.Change.TheVariants.{Migrate}
@@ -7,6 +7,7 @@ use Rattle.mst_key.specs.History as history
 use Rattle.mst_versions.specs.declared.faults.MigrateFault.TheVariants.{Busy, VersionsSpent, Memory, NoRoom}
 use Rattle.mst_store.specs.Passes.{Known, Wrote, made_by}
 use Rattle.mst_versions.specs.Migrating.{RefusesMigration}
+use Rattle.mst_c.specs.Codes.{unknown_format, closed, wrong_state, memory, busy, versions_spent, no_free_rows}
 use Rattle.mst_c.specs.declared.held.State.{State}
 use Rattle.mst_c.specs.declared.held.State.TheVariants.{Away, Free, Pinned}
 use Rattle.mst_c.specs.declared.held.Unmoved.{Unmoved}
@@ -25,7 +26,7 @@ format_code Two = pos 2
 
 -- -7 for an empty hand, otherwise the number of the format of the version
 abbrev pub FormatTold : Option State → ℤ → Option State → Type 0
-FormatTold None code hand = (code ≡ negsuc 6) × (hand ≡ None)
+FormatTold None code hand = (code ≡ closed) × (hand ≡ None)
 FormatTold (Some s) code hand =
     (f : Format) × (t : State) × (hand ≡ Some t) × Reads (λ g _. g) s f t × (code ≡ format_code f)
 
@@ -42,11 +43,11 @@ Moves to (Pinned p) (Err (Store fault)) s = ⊥
 Moves to (Pinned p) (Ok was) s = ⊥
 
 abbrev pub unmoved_code : Unmoved → ℤ
-unmoved_code Pins = negsuc 7
-unmoved_code (Store Busy) = negsuc 20
-unmoved_code (Store VersionsSpent) = negsuc 21
-unmoved_code (Store (Memory refused)) = negsuc 8
-unmoved_code (Store NoRoom) = negsuc 22
+unmoved_code Pins = wrong_state
+unmoved_code (Store Busy) = busy
+unmoved_code (Store VersionsSpent) = versions_spent
+unmoved_code (Store (Memory refused)) = memory
+unmoved_code (Store NoRoom) = no_free_rows
 
 abbrev pub move_code : Result Format Unmoved → ℤ
 move_code (Ok was) = format_code was
@@ -54,8 +55,8 @@ move_code (Err fault) = unmoved_code fault
 
 -- -7 for an empty hand, -3 for what is no format's number, otherwise what the pass did
 abbrev pub MigrateTold : Option State → ℕ → ℤ → Option State → Type 0
-MigrateTold None number code hand = (code ≡ negsuc 6) × (hand ≡ None)
+MigrateTold None number code hand = (code ≡ closed) × (hand ≡ None)
 MigrateTold (Some s) number code hand =
-    (format_named number ≡ None → (code ≡ negsuc 2) × (hand ≡ Some s))
+    (format_named number ≡ None → (code ≡ unknown_format) × (hand ≡ Some s))
     × ((to : Format) → format_named number ≡ Some to → (r : Result Format Unmoved) × (t : State)
     × (hand ≡ Some t) × Moves to s r t × (code ≡ move_code r))

@@ -1,9 +1,10 @@
 -- How many rows are free, and which version a pass made: what the calls through a hand's pass do,
 -- and what C is told.
-use Rattle.std.specs.Prelude.{◌≡◌, ℕ, ℤ, pos, negsuc, ◌+◌, [], Option, Some, None, Result, Ok, Err}
+use Rattle.std.specs.Prelude.{◌≡◌, ℕ, ℤ, pos, ◌+◌, [], Option, Some, None, Result, Ok, Err}
 use Rattle.mst_key.specs.History.{after}
 use Rattle.mst_store.specs.Passes.{Known, format_seen, Looks, FindsBusy, AreFree}
 use Rattle.mst_versions.specs.Writes.{rows_of, AreFound}
+use Rattle.mst_c.specs.Codes.{absent, closed, wrong_state, busy}
 use Rattle.mst_c.specs.declared.held.State.{State}
 use Rattle.mst_c.specs.declared.held.State.TheVariants.{Away, Free, Pinned}
 use Rattle.mst_c.specs.declared.held.Uncounted.{Uncounted}
@@ -32,8 +33,8 @@ Knows (Pinned p) made s = (s ≡ Pinned p) × (made ≡ p.made)
 
 abbrev pub free_code : Result ℕ Uncounted → ℤ
 free_code (Ok n) = pos 0
-free_code (Err Pins) = negsuc 7
-free_code (Err Busy) = negsuc 20
+free_code (Err Pins) = wrong_state
+free_code (Err Busy) = busy
 
 -- the free rows, where they were counted
 abbrev pub free_after : ℕ → Result ℕ Uncounted → ℕ
@@ -43,14 +44,14 @@ free_after number (Err fault) = number
 -- -7 for an empty hand, otherwise what the pass found
 abbrev pub FreeRowsTold : Option State → ℕ → ℤ → ℕ → Option State → Type 0
 FreeRowsTold None number code number' hand =
-    (code ≡ negsuc 6) × (number' ≡ number) × (hand ≡ None)
+    (code ≡ closed) × (number' ≡ number) × (hand ≡ None)
 FreeRowsTold (Some s) number code number' hand =
     (r : Result ℕ Uncounted) × (t : State) × (hand ≡ Some t) × CountsFree s r t
     × (code ≡ free_code r) × (number' ≡ free_after number r)
 
 abbrev pub made_code : Option ℕ → ℤ
 made_code (Some n) = pos 0
-made_code None = negsuc 0
+made_code None = absent
 
 -- the version, if the pass made one
 abbrev pub made_after : ℕ → Option ℕ → ℕ
@@ -59,7 +60,7 @@ made_after number None = number
 
 -- -7 for an empty hand, -1 for a pass that made no version
 abbrev pub MadeTold : Option State → ℕ → ℤ → ℕ → Option State → Type 0
-MadeTold None number code number' hand = (code ≡ negsuc 6) × (number' ≡ number) × (hand ≡ None)
+MadeTold None number code number' hand = (code ≡ closed) × (number' ≡ number) × (hand ≡ None)
 MadeTold (Some s) number code number' hand =
     (made : Option ℕ) × (t : State) × (hand ≡ Some t) × Knows s made t
     × (code ≡ made_code made) × (number' ≡ made_after number made)

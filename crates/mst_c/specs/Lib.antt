@@ -1,3 +1,4 @@
+pub mod Codes
 pub mod States
 pub mod Holding
 pub mod Formats

@@ -1,6 +1,6 @@
 -- What C is told when a store is opened.
 use Rattle.std.specs.Prelude.{◌≡◌, ◌<◌, ◌≤◌, ◌+◌, ℕ, List, length, get_or, Some, None}
-use Rattle.mst_store.specs.Passes.{StoreId, new_pass}
+use Rattle.mst_store.specs.Passes.{StoreId, most_rows, most_passes, new_pass}
 use Rattle.mst_c.specs.declared.held.State.TheVariants.{Free}
 use Rattle.mst_c.specs.declared.hand.PaddedHand.{PaddedHand}
 use Rattle.mst_c.specs.Formats.{format_named}
@@ -15,7 +15,8 @@ Opened format rows hands = (s : StoreId) × (format_named format ≡ Some s.form
 
 -- the size that a store can have
 abbrev pub IsSize : ℕ → ℕ → Type 0
-IsSize rows passes = (4 ≤ rows) × (rows ≤ 65535) × (1 ≤ passes) × (passes ≤ 32)
+IsSize rows passes =
+    (4 ≤ rows) × (rows ≤ most_rows) × (1 ≤ passes) × (passes ≤ most_passes)
 
 -- no hand holds a pass
 abbrev pub AllEmpty : List PaddedHand → Type 0

@@ -1,10 +1,11 @@
 -- What C is told of a range.
-use Rattle.std.specs.Prelude.{◌≡◌, ℕ, ◌+◌, ℤ, negsuc, List, ◌++◌, length, take, drop}
+use Rattle.std.specs.Prelude.{◌≡◌, ℕ, ◌+◌, ℤ, List, ◌++◌, length, take, drop}
 use Rattle.std.specs.Prelude.{Option, Some, None}
 use Rattle.std.specs.Int.{w16, to_be_bytes}
 use Rattle.std.specs.List.{flat_map}
 use Rattle.std.specs.Option.{option_map}
 use Rattle.mst_key.specs.Map.{Pair, map_range}
+use Rattle.mst_c.specs.Codes.{bad_key, closed}
 use Rattle.mst_c.specs.declared.held.State.{State}
 use Rattle.mst_c.specs.Holding.{Reads, Forgets}
 use Rattle.mst_c.specs.Told.{Nothing, IsBound, bound_of, bytes_code, room_after, size_after}
@@ -43,11 +44,11 @@ NoRange wanted s room count size code room' count' size' hand =
 abbrev pub RangeTold : Option State → List ℕ → List ℕ → ℕ
     → List ℕ → ℕ → ℕ → ℤ → List ℕ → ℕ → ℕ → Option State → Type 0
 RangeTold None from to limit room count size code room' count' size' hand =
-    Nothing (negsuc 6) None room code room' hand × (count' ≡ count) × (size' ≡ size)
+    Nothing closed None room code room' hand × (count' ≡ count) × (size' ≡ size)
 RangeTold (Some s) from to limit room count size code room' count' size' hand =
-    (¬ (IsBound from) → NoRange (negsuc 4) s room count size code room' count' size' hand)
+    (¬ (IsBound from) → NoRange bad_key s room count size code room' count' size' hand)
     × (IsBound from → ¬ (IsBound to)
-    → NoRange (negsuc 4) s room count size code room' count' size' hand)
+    → NoRange bad_key s room count size code room' count' size' hand)
     × (IsBound from → IsBound to → (r : Option (List Pair)) × (t : State) × (hand ≡ Some t)
     × Ranges (bound_of from) (bound_of to) limit s r t
     × (code ≡ bytes_code (length room) (option_map pairs_bytes r))

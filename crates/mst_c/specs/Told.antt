@@ -1,11 +1,12 @@
 -- What C is told by a call, and what its hand then holds.
-use Rattle.std.specs.Prelude.{◌≡◌, ◌<◌, ◌≤◌, ℕ, ℤ, pos, negsuc, nat_lt, if◌then◌else◌, List, ◌++◌, length, drop, Bool, true, false, Option, Some, None, Result, Ok, Err}
+use Rattle.std.specs.Prelude.{◌≡◌, ◌<◌, ◌≤◌, ℕ, ℤ, pos, nat_lt, if◌then◌else◌, List, ◌++◌, length, drop, Bool, true, false, Option, Some, None, Result, Ok, Err}
 use Rattle.mst_key.specs.Bytes.{IsKey, IsValue}
 use Rattle.mst_key.specs.Map.{Pair, map_get, map_next}
 use Rattle.mst_key.specs.declared.history.Change.TheVariants.{Put, Remove}
 use Rattle.mst_node.specs.Text.{root}
 use Rattle.mst_node.specs.Trail.{proof_text}
 use Rattle.mst_versions.specs.declared.faults.WriteFault.TheVariants.{Busy, VersionsSpent, NoRoom}
+use Rattle.mst_c.specs.Codes.{absent, short_room, bad_key, bad_value, closed, wrong_state, memory, busy, versions_spent, no_free_rows, rows_pinned}
 use Rattle.mst_c.specs.declared.held.State.{State}
 use Rattle.mst_c.specs.declared.held.Unwritten.{Unwritten}
 use Rattle.mst_c.specs.declared.held.Unwritten.TheVariants.{Pins, Store}
@@ -15,8 +16,8 @@ use Rattle.mst_c.specs.Holding.{Reads, Forgets, Writes, PinsNow, Unpins, Version
 
 -- the length of a value that there is room for, -2 where there is not, -1 for absence
 abbrev pub value_code : ℕ → Option (List ℕ) → ℤ
-value_code room (Some value) = if nat_lt room (length value) then negsuc 1 else pos (length value)
-value_code room None = negsuc 0
+value_code room (Some value) = if nat_lt room (length value) then short_room else pos (length value)
+value_code room None = absent
 
 -- a value that there is room for stands first; all else stays
 abbrev pub room_after : List ℕ → Option (List ℕ) → List ℕ
@@ -25,10 +26,10 @@ room_after room (Some value) =
 room_after room None = room
 
 abbrev pub unwritten_code : Unwritten → ℤ
-unwritten_code Pins = negsuc 7
-unwritten_code (Store Busy) = negsuc 20
-unwritten_code (Store VersionsSpent) = negsuc 21
-unwritten_code (Store NoRoom) = negsuc 22
+unwritten_code Pins = wrong_state
+unwritten_code (Store Busy) = busy
+unwritten_code (Store VersionsSpent) = versions_spent
+unwritten_code (Store NoRoom) = no_free_rows
 
 abbrev pub write_code : ℕ → Result (Option (List ℕ)) Unwritten → ℤ
 write_code room (Ok old) = value_code room old
@@ -50,19 +51,19 @@ ValueTold key s room code room' t =
 
 -- -7 for an empty hand, -5 for what is no key, otherwise the answer of the pass
 abbrev pub GetTold : Option State → List ℕ → List ℕ → ℤ → List ℕ → Option State → Type 0
-GetTold None key room code room' hand = Nothing (negsuc 6) None room code room' hand
+GetTold None key room code room' hand = Nothing closed None room code room' hand
 GetTold (Some s) key room code room' hand =
-    (¬ (IsKey key) → Nothing (negsuc 4) (Some s) room code room' hand)
+    (¬ (IsKey key) → Nothing bad_key (Some s) room code room' hand)
     × (IsKey key → (a : Option (List ℕ)) × (t : State) × (hand ≡ Some t)
     × Reads (λ _ m. map_get m key) s a t
     × (code ≡ value_code (length room) a) × (room' ≡ room_after room a))
 
 -- -7 for an empty hand, -5 for what is no key, -6 for what is no value, otherwise what the pass did
 abbrev pub PutTold : Option State → List ℕ → List ℕ → List ℕ → ℤ → List ℕ → Option State → Type 0
-PutTold None key value room code room' hand = Nothing (negsuc 6) None room code room' hand
+PutTold None key value room code room' hand = Nothing closed None room code room' hand
 PutTold (Some s) key value room code room' hand =
-    (¬ (IsKey key) → Nothing (negsuc 4) (Some s) room code room' hand)
-    × (IsKey key → ¬ (IsValue value) → Nothing (negsuc 5) (Some s) room code room' hand)
+    (¬ (IsKey key) → Nothing bad_key (Some s) room code room' hand)
+    × (IsKey key → ¬ (IsValue value) → Nothing bad_value (Some s) room code room' hand)
     × (IsKey key → IsValue value → (r : Result (Option (List ℕ)) Unwritten) × (t : State)
     × (hand ≡ Some t)
     × Writes (Put key value) s r t × (code ≡ write_code (length room) r)
@@ -70,29 +71,29 @@ PutTold (Some s) key value room code room' hand =
 
 abbrev pub done_code : Bool → ℤ
 done_code true = pos 0
-done_code false = negsuc 7
+done_code false = wrong_state
 
 abbrev pub PinTold : Option State → ℤ → Option State → Type 0
-PinTold None code hand = (code ≡ negsuc 6) × (hand ≡ None)
+PinTold None code hand = (code ≡ closed) × (hand ≡ None)
 PinTold (Some s) code hand =
     (done : Bool) × (t : State) × (hand ≡ Some t) × PinsNow s done t × (code ≡ done_code done)
 
 abbrev pub UnpinTold : Option State → ℤ → Option State → Type 0
-UnpinTold None code hand = (code ≡ negsuc 6) × (hand ≡ None)
+UnpinTold None code hand = (code ≡ closed) × (hand ≡ None)
 UnpinTold (Some s) code hand =
     (done : Bool) × (t : State) × (hand ≡ Some t) × Unpins s done t × (code ≡ done_code done)
 
 -- an empty hand stays empty, and any other is then
 abbrev pub CloseTold : Option State → ℤ → Option State → Type 0
-CloseTold None code hand = (code ≡ negsuc 6) × (hand ≡ None)
+CloseTold None code hand = (code ≡ closed) × (hand ≡ None)
 CloseTold (Some s) code hand = (code ≡ pos 0) × (hand ≡ None)
 
 -- -7 for an empty hand, -2 if the room has less than 32 bytes, otherwise the digest stands first in
 -- it
 abbrev pub RootTold : Option State → List ℕ → ℤ → List ℕ → Option State → Type 0
-RootTold None room code room' hand = Nothing (negsuc 6) None room code room' hand
+RootTold None room code room' hand = Nothing closed None room code room' hand
 RootTold (Some s) room code room' hand =
-    (length room < 32 → Nothing (negsuc 1) (Some s) room code room' hand)
+    (length room < 32 → Nothing short_room (Some s) room code room' hand)
     × (32 ≤ length room → (digest : List ℕ) × (t : State) × (hand ≡ Some t) × Reads root s digest t
     × (code ≡ pos 32) × (room' ≡ digest ++ drop 32 room))
 
@@ -103,8 +104,8 @@ Proves key s (Some proof) t = Reads (λ f m. proof_text f m key) s proof t
 
 -- 0 for bytes that there is room for, -2 if there is none, -9 if memory was refused
 abbrev pub bytes_code : ℕ → Option (List ℕ) → ℤ
-bytes_code room None = negsuc 8
-bytes_code room (Some bytes) = if nat_lt room (length bytes) then negsuc 1 else pos 0
+bytes_code room None = memory
+bytes_code room (Some bytes) = if nat_lt room (length bytes) then short_room else pos 0
 
 -- how many bytes they are
 abbrev pub size_after : ℕ → Option (List ℕ) → ℕ
@@ -113,33 +114,33 @@ size_after size (Some bytes) = length bytes
 
 -- -7 for an empty hand, -5 for what is no key, otherwise the answer of the pass
 abbrev pub ProveTold : Option State → List ℕ → List ℕ → ℕ → ℤ → List ℕ → ℕ → Option State → Type 0
-ProveTold None key room size code room' size' hand = Nothing (negsuc 6) None room code room' hand
+ProveTold None key room size code room' size' hand = Nothing closed None room code room' hand
     × (size' ≡ size)
 ProveTold (Some s) key room size code room' size' hand =
-    (¬ (IsKey key) → Nothing (negsuc 4) (Some s) room code room' hand × (size' ≡ size))
+    (¬ (IsKey key) → Nothing bad_key (Some s) room code room' hand × (size' ≡ size))
     × (IsKey key → (r : Option (List ℕ)) × (t : State) × (hand ≡ Some t) × Proves key s r t
     × (code ≡ bytes_code (length room) r) × (room' ≡ room_after room r)
     × (size' ≡ size_after size r))
 
 -- -7 for an empty hand, -5 for what is no key, otherwise what the pass did
 abbrev pub RemoveTold : Option State → List ℕ → List ℕ → ℤ → List ℕ → Option State → Type 0
-RemoveTold None key room code room' hand = Nothing (negsuc 6) None room code room' hand
+RemoveTold None key room code room' hand = Nothing closed None room code room' hand
 RemoveTold (Some s) key room code room' hand =
-    (¬ (IsKey key) → Nothing (negsuc 4) (Some s) room code room' hand)
+    (¬ (IsKey key) → Nothing bad_key (Some s) room code room' hand)
     × (IsKey key → (r : Result (Option (List ℕ)) Unwritten) × (t : State) × (hand ≡ Some t)
     × Writes (Remove key) s r t × (code ≡ write_code (length room) r) × (room' ≡ write_room room r))
 
 -- -7 for an empty hand, otherwise the number of the version is written
 abbrev pub VersionTold : Option State → ℕ → ℤ → ℕ → Option State → Type 0
-VersionTold None number code number' hand = (code ≡ negsuc 6) × (number' ≡ number) × (hand ≡ None)
+VersionTold None number code number' hand = (code ≡ closed) × (number' ≡ number) × (hand ≡ None)
 VersionTold (Some s) number code number' hand =
     (t : State) × (hand ≡ Some t) × Versions s number' t × (code ≡ pos 0)
 
 abbrev pub count_code : Result (Option ℕ) Uncounted → ℤ
 count_code (Ok (Some n)) = pos 0
-count_code (Ok None) = negsuc 23
-count_code (Err uncounted.Pins) = negsuc 7
-count_code (Err uncounted.Busy) = negsuc 20
+count_code (Ok None) = rows_pinned
+count_code (Err uncounted.Pins) = wrong_state
+count_code (Err uncounted.Busy) = busy
 
 -- the rows that were counted, where they were
 abbrev pub count_after : ℕ → Result (Option ℕ) Uncounted → ℕ
@@ -149,7 +150,7 @@ count_after number (Err fault) = number
 
 -- -7 for an empty hand, otherwise what the pass found
 abbrev pub RowsTold : Option State → ℕ → ℤ → ℕ → Option State → Type 0
-RowsTold None number code number' hand = (code ≡ negsuc 6) × (number' ≡ number) × (hand ≡ None)
+RowsTold None number code number' hand = (code ≡ closed) × (number' ≡ number) × (hand ≡ None)
 RowsTold (Some s) number code number' hand =
     (r : Result (Option ℕ) Uncounted) × (t : State) × (hand ≡ Some t) × Counts s r t
     × (code ≡ count_code r) × (number' ≡ count_after number r)
@@ -163,9 +164,9 @@ bound_of bytes = if nat_lt 0 (length bytes) then Some bytes else None
 
 -- a pair that there is room for: its key stands first in one room, its value in the other
 abbrev pub pair_code : ℕ → ℕ → Option Pair → ℤ
-pair_code keys values None = negsuc 0
+pair_code keys values None = absent
 pair_code keys values (Some (key, value)) =
-    if nat_lt keys (length key) then negsuc 1 else value_code values (Some value)
+    if nat_lt keys (length key) then short_room else value_code values (Some value)
 
 abbrev pub key_room_after : List ℕ → List ℕ → Option Pair → List ℕ
 key_room_after keys values None = keys
@@ -188,9 +189,9 @@ key_size_after keys values size (Some (key, value)) =
 abbrev pub NextTold : Option State → List ℕ → List ℕ → ℕ → List ℕ → ℤ → List ℕ → ℕ → List ℕ
     → Option State → Type 0
 NextTold None key keys size values code keys' size' values' hand =
-    Nothing (negsuc 6) None values code values' hand × (keys' ≡ keys) × (size' ≡ size)
+    Nothing closed None values code values' hand × (keys' ≡ keys) × (size' ≡ size)
 NextTold (Some s) key keys size values code keys' size' values' hand =
-    (¬ (IsBound key) → Nothing (negsuc 4) (Some s) values code values' hand × (keys' ≡ keys)
+    (¬ (IsBound key) → Nothing bad_key (Some s) values code values' hand × (keys' ≡ keys)
     × (size' ≡ size))
     × (IsBound key → (pair : Option Pair) × (t : State) × (hand ≡ Some t)
     × Reads (λ _ m. map_next m (bound_of key)) s pair t

@@ -2,10 +2,12 @@
 ghost use Rattle.std.specs.Prelude.{◌≡◌};
 ghost use Rattle.mst_c.specs.Batches.{fault_code as code_of_fault, apply_code as code_of_applied, ApplyTold};
 
+use crate::codes::{
+    BAD_BATCH, BAD_KEY, BAD_VALUE, BUSY, CLOSED, MEMORY, NO_FREE_ROWS, VERSIONS_SPENT, WRONG_STATE,
+};
 use crate::hand::{Hand, give, take};
 use crate::held::Unapplied;
 use crate::packing::{EditFault, Packed};
-use crate::telling::{BAD_BATCH, BAD_KEY, BAD_VALUE, MEMORY, NO_HAND, WRONG_STATE};
 use mst_store::ApplyFault;
 use std::alloc::Global;
 
@@ -28,10 +30,10 @@ fn apply_code(applied: Result<(), Unapplied>) -> i32
         Ok(()) => 0,
         Err(Unapplied::Pins) => WRONG_STATE,
         Err(Unapplied::Memory(_)) => MEMORY,
-        Err(Unapplied::Store(ApplyFault::Busy)) => -21,
-        Err(Unapplied::Store(ApplyFault::VersionsSpent)) => -22,
+        Err(Unapplied::Store(ApplyFault::Busy)) => BUSY,
+        Err(Unapplied::Store(ApplyFault::VersionsSpent)) => VERSIONS_SPENT,
         Err(Unapplied::Store(ApplyFault::Memory(_))) => MEMORY,
-        Err(Unapplied::Store(ApplyFault::NoRoom)) => -23,
+        Err(Unapplied::Store(ApplyFault::NoRoom)) => NO_FREE_ROWS,
     }
 }
 
@@ -40,7 +42,7 @@ pub fn try_apply(alloc: Global, hand: &mut Hand, edits: &[u8], place: &mut usize
     ensures told { ApplyTold hand.old.held edits.now place.old result place.new hand.new.held }
 {
     let Some(mut taken) = take(alloc, hand) else {
-        return NO_HAND;
+        return CLOSED;
     };
     let packed = match Packed::of(edits) {
         Ok(packed) => packed,

@@ -2,9 +2,11 @@
 ghost use Rattle.std.specs.Prelude.{◌≡◌};
 ghost use Rattle.mst_c.specs.Formats.{format_named as named, format_code, move_code as code_of_move, FormatTold, MigrateTold};
 
+use crate::codes::{
+    BUSY, CLOSED, MEMORY, NO_FREE_ROWS, UNKNOWN_FORMAT, VERSIONS_SPENT, WRONG_STATE,
+};
 use crate::hand::{Hand, give, take};
 use crate::held::Unmoved;
-use crate::telling::{MEMORY, NO_HAND, UNKNOWN_FORMAT, WRONG_STATE};
 use mst_key::Format;
 use mst_store::MigrateFault;
 use std::alloc::Global;
@@ -37,10 +39,10 @@ fn move_code(moved: Result<Format, Unmoved>) -> i32
     match moved {
         Ok(was) => number_of(was),
         Err(Unmoved::Pins) => WRONG_STATE,
-        Err(Unmoved::Store(MigrateFault::Busy)) => -21,
-        Err(Unmoved::Store(MigrateFault::VersionsSpent)) => -22,
+        Err(Unmoved::Store(MigrateFault::Busy)) => BUSY,
+        Err(Unmoved::Store(MigrateFault::VersionsSpent)) => VERSIONS_SPENT,
         Err(Unmoved::Store(MigrateFault::Memory(_))) => MEMORY,
-        Err(Unmoved::Store(MigrateFault::NoRoom)) => -23,
+        Err(Unmoved::Store(MigrateFault::NoRoom)) => NO_FREE_ROWS,
     }
 }
 
@@ -49,7 +51,7 @@ pub fn format(alloc: Global, hand: &mut Hand) -> i32
     ensures told { FormatTold hand.old.held result hand.new.held }
 {
     let Some(mut taken) = take(alloc, hand) else {
-        return NO_HAND;
+        return CLOSED;
     };
     let format = taken.held.format();
     give(hand, taken);
@@ -61,7 +63,7 @@ pub fn try_migrate(alloc: Global, hand: &mut Hand, number: u32) -> i32
     ensures told { MigrateTold hand.old.held number result hand.new.held }
 {
     let Some(mut taken) = take(alloc, hand) else {
-        return NO_HAND;
+        return CLOSED;
     };
     let Some(to) = format_named(number) else {
         give(hand, taken);

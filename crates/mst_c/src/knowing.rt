@@ -2,9 +2,9 @@
 ghost use Rattle.std.specs.Prelude.{◌≡◌};
 ghost use Rattle.mst_c.specs.Knowing.{free_code, free_after, made_code, made_after, FreeRowsTold, MadeTold};
 
+use crate::codes::{ABSENT, BUSY, CLOSED, WRONG_STATE};
 use crate::hand::{Hand, give, take};
 use crate::held::Uncounted;
-use crate::telling::{ABSENT, NO_HAND, WRONG_STATE};
 use std::alloc::Global;
 
 /// The code of a count of the free rows. The count is written then, if there is one.
@@ -18,7 +18,7 @@ fn tell_free(free: Result<u32, Uncounted>, count: &mut u32) -> i32
             0
         }
         Err(Uncounted::Pins) => WRONG_STATE,
-        Err(Uncounted::Busy) => -21,
+        Err(Uncounted::Busy) => BUSY,
     }
 }
 
@@ -27,7 +27,7 @@ pub fn free_rows(alloc: Global, hand: &mut Hand, count: &mut u32) -> i32
     ensures told { FreeRowsTold hand.old.held count.old result count.new hand.new.held }
 {
     let Some(mut taken) = take(alloc, hand) else {
-        return NO_HAND;
+        return CLOSED;
     };
     let free = taken.held.free_rows();
     give(hand, taken);
@@ -54,7 +54,7 @@ pub fn made(alloc: Global, hand: &mut Hand, number: &mut u64) -> i32
     ensures told { MadeTold hand.old.held number.old result number.new hand.new.held }
 {
     let Some(mut taken) = take(alloc, hand) else {
-        return NO_HAND;
+        return CLOSED;
     };
     let made = taken.held.made();
     give(hand, taken);

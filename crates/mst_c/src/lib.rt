@@ -28,6 +28,7 @@
 
 mod answering;
 pub mod batches;
+pub mod codes;
 pub mod formats;
 pub mod hand;
 pub mod held;

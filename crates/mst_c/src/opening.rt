@@ -1,16 +1,18 @@
 //! Opening a store for C.
-ghost use Rattle.std.specs.Prelude.{◌≡◌, ◌≢◌, ◌↔◌, ◌⊎◌, ◌<◌, ◌≤◌, ◌+◌, ℕ, true, pos, negsuc, length, get_or, vec_len, Some, None, IsSome};
+ghost use Rattle.std.specs.Prelude.{◌≡◌, ◌≢◌, ◌↔◌, ◌⊎◌, ◌<◌, ◌≤◌, ◌+◌, ℕ, true, pos, length, get_or, vec_len, Some, None, IsSome};
 ghost use Rattle.std.specs.Arc.{arc_value};
 ghost use Rattle.mst_store.specs.Passes.{Known, StoreId, new_pass, new_passes};
+ghost use Rattle.mst_c.specs.Codes.{unknown_format, memory, bad_shape};
 ghost use Rattle.mst_c.specs.declared.held.State.TheVariants.{Free};
 ghost use Rattle.mst_c.specs.declared.hand.PaddedHand.{PaddedHand};
 ghost use Rattle.mst_c.specs.Formats.{format_named as named};
 ghost use Rattle.mst_c.specs.Opened.{Opened, IsSize, AllEmpty};
 
+use crate::codes::{BAD_SHAPE, MEMORY, UNKNOWN_FORMAT};
 use crate::formats::format_named;
 use crate::hand::PaddedHand;
 use crate::held::hand_out_padded;
-use crate::telling::{BAD_SHAPE, MEMORY, UNKNOWN_FORMAT, close};
+use crate::telling::close;
 use mst_key::Format;
 use mst_store::{OpenFault, Pass, Seats, Shape, Store};
 use std::alloc::Global;
@@ -78,7 +80,7 @@ fn hand_passes(
     ensures all { result ≡ pos 0 → (k : ℕ) (h : PaddedHand) → k < length hands.new
         → (get_or hands.new k h).hand.held ≡ Some (Free (new_pass (arc_value store.now) (k + 1))) }
     ensures empty { result ≢ pos 0 → AllEmpty hands.new }
-    ensures range { (result ≡ pos 0) ⊎ (result ≡ negsuc 8) }
+    ensures range { (result ≡ pos 0) ⊎ (result ≡ memory) }
 {
     if hand_all(alloc, store, passes, hands) {
         return 0;
@@ -100,7 +102,7 @@ fn hand_store(
     ensures all { result ≡ pos 0 → (k : ℕ) (h : PaddedHand) → k < length hands.new
         → (get_or hands.new k h).hand.held ≡ Some (Free (new_pass store (k + 1))) }
     ensures empty { result ≢ pos 0 → AllEmpty hands.new }
-    ensures range { (result ≡ pos 0) ⊎ (result ≡ negsuc 8) }
+    ensures range { (result ≡ pos 0) ⊎ (result ≡ memory) }
 {
     let Ok(store) = Arc::new(alloc, store) else {
         return MEMORY;
@@ -119,8 +121,8 @@ fn open_in(alloc: Global, format: Format, rows: u32, hands: &mut [PaddedHand]) -
         × ((k : ℕ) (h : PaddedHand) → k < length hands.new
         → (get_or hands.new k h).hand.held ≡ Some (Free (new_pass s (k + 1)))) }
     ensures empty { result ≢ pos 0 → AllEmpty hands.new }
-    ensures size { result ≡ negsuc 9 ↔ ¬ (IsSize rows (length hands.old)) }
-    ensures range { (result ≡ pos 0) ⊎ (result ≡ negsuc 9) ⊎ (result ≡ negsuc 8) }
+    ensures size { result ≡ bad_shape ↔ ¬ (IsSize rows (length hands.old)) }
+    ensures range { (result ≡ pos 0) ⊎ (result ≡ bad_shape) ⊎ (result ≡ memory) }
 {
     if hands.len() > 32 {
         return BAD_SHAPE;
@@ -142,11 +144,11 @@ fn open_in(alloc: Global, format: Format, rows: u32, hands: &mut [PaddedHand]) -
 pub fn open(alloc: Global, format: u32, rows: u32, hands: &mut [PaddedHand]) -> i32
     ensures opened { result ≡ pos 0 → Opened format rows hands.new }
     ensures empty { result ≢ pos 0 → AllEmpty hands.new }
-    ensures size { result ≡ negsuc 9
+    ensures size { result ≡ bad_shape
         ↔ IsSome (named format) × (¬ (IsSize rows (length hands.old))) }
-    ensures format { result ≡ negsuc 2 ↔ (named format ≡ None) }
-    ensures range { (result ≡ pos 0) ⊎ (result ≡ negsuc 2) ⊎ (result ≡ negsuc 9)
-        ⊎ (result ≡ negsuc 8) }
+    ensures format { result ≡ unknown_format ↔ (named format ≡ None) }
+    ensures range { (result ≡ pos 0) ⊎ (result ≡ unknown_format) ⊎ (result ≡ bad_shape)
+        ⊎ (result ≡ memory) }
 {
     close_all(alloc, hands);
     match format_named(format) {

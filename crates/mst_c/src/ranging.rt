@@ -3,8 +3,9 @@ ghost use Rattle.std.specs.Prelude.{◌≡◌, ◌≤◌, ◌<◌, ◌+◌, ◌^
 ghost use Rattle.mst_c.specs.Told.{bytes_code, room_after};
 ghost use Rattle.mst_c.specs.Ranges.{pair_bytes, pairs_bytes, written, RangeTold};
 
+use crate::codes::{BAD_KEY, CLOSED, MEMORY, SHORT_ROOM};
 use crate::hand::{Hand, give, take};
-use crate::telling::{BAD_KEY, MEMORY, NO_HAND, SHORT_ROOM, bound};
+use crate::telling::bound;
 use mst_key::{Key, Value};
 use std::alloc::Global;
 
@@ -108,7 +109,7 @@ pub fn range(
         room.new count.new size.new hand.new.held }
 {
     let Some(mut taken) = take(alloc, hand) else {
-        return NO_HAND;
+        return CLOSED;
     };
     let Ok(low) = bound(from) else {
         give(hand, taken);

@@ -2,31 +2,15 @@
 ghost use Rattle.std.specs.Prelude.{◌≡◌, ◌≤◌, ◌++◌, length, drop, Some, None, ◌↔◌, IsOk, IfOk};
 ghost use Rattle.mst_c.specs.Told.{value_code, room_after, unwritten_code as code_of_unwritten, done_code, bytes_code, GetTold, PutTold, RootTold, ProveTold, PinTold, UnpinTold, CloseTold, RemoveTold, VersionTold, RowsTold, count_code, count_after, NextTold, IsBound, bound_of, pair_code, key_room_after, value_room_after, key_size_after};
 
+use crate::codes::{
+    ABSENT, BAD_KEY, BAD_VALUE, BUSY, CLOSED, MEMORY, NO_FREE_ROWS, ROWS_PINNED, SHORT_ROOM,
+    VERSIONS_SPENT, WRONG_STATE,
+};
 use crate::hand::{Hand, give, take};
 use crate::held::{Uncounted, Unwritten};
 use mst_key::{Key, KeySize, Value};
 use mst_store::WriteFault;
 use std::alloc::Global;
-
-pub const ABSENT: i32 = -1;
-
-pub const SHORT_ROOM: i32 = -2;
-
-pub const UNKNOWN_FORMAT: i32 = -3;
-
-pub const BAD_KEY: i32 = -5;
-
-pub const BAD_VALUE: i32 = -6;
-
-pub const NO_HAND: i32 = -7;
-
-pub const WRONG_STATE: i32 = -8;
-
-pub const MEMORY: i32 = -9;
-
-pub const BAD_SHAPE: i32 = -10;
-
-pub(crate) const BAD_BATCH: i32 = -25;
 
 /// Puts bytes first, and keeps those after them.
 pub fn put(room: &mut [u8], bytes: &[u8])
@@ -73,9 +57,9 @@ pub fn unwritten_code(fault: Unwritten) -> i32
 {
     match fault {
         Unwritten::Pins => WRONG_STATE,
-        Unwritten::Store(WriteFault::Busy) => -21,
-        Unwritten::Store(WriteFault::VersionsSpent) => -22,
-        Unwritten::Store(WriteFault::NoRoom) => -23,
+        Unwritten::Store(WriteFault::Busy) => BUSY,
+        Unwritten::Store(WriteFault::VersionsSpent) => VERSIONS_SPENT,
+        Unwritten::Store(WriteFault::NoRoom) => NO_FREE_ROWS,
     }
 }
 
@@ -89,9 +73,9 @@ fn tell_rows(rows: Result<Option<u32>, Uncounted>, count: &mut u32) -> i32
             *count = rows;
             0
         }
-        Ok(None) => -24,
+        Ok(None) => ROWS_PINNED,
         Err(Uncounted::Pins) => WRONG_STATE,
-        Err(Uncounted::Busy) => -21,
+        Err(Uncounted::Busy) => BUSY,
     }
 }
 
@@ -106,7 +90,7 @@ pub fn get(alloc: Global, hand: &mut Hand, key: &[u8], room: &mut [u8]) -> i32
     ensures told { GetTold hand.old.held key.now room.old result room.new hand.new.held }
 {
     let Some(mut taken) = take(alloc, hand) else {
-        return NO_HAND;
+        return CLOSED;
     };
     let code = match Key::new(key) {
         Ok(key) => taken.held.get(&key, room),
@@ -121,7 +105,7 @@ pub fn try_put(alloc: Global, hand: &mut Hand, key: &[u8], value: &[u8], room: &
     ensures told { PutTold hand.old.held key.now value.now room.old result room.new hand.new.held }
 {
     let Some(mut taken) = take(alloc, hand) else {
-        return NO_HAND;
+        return CLOSED;
     };
     let Ok(key) = Key::new(key) else {
         give(hand, taken);
@@ -144,7 +128,7 @@ pub fn root(alloc: Global, hand: &mut Hand, room: &mut [u8]) -> i32
     ensures told { RootTold hand.old.held room.old result room.new hand.new.held }
 {
     let Some(mut taken) = take(alloc, hand) else {
-        return NO_HAND;
+        return CLOSED;
     };
     if room.len() < 32 {
         give(hand, taken);
@@ -162,7 +146,7 @@ pub fn prove(alloc: Global, hand: &mut Hand, key: &[u8], room: &mut [u8], size: 
         size.new hand.new.held }
 {
     let Some(mut taken) = take(alloc, hand) else {
-        return NO_HAND;
+        return CLOSED;
     };
     let Ok(key) = Key::new(key) else {
         give(hand, taken);
@@ -181,7 +165,7 @@ pub fn pin(alloc: Global, hand: &mut Hand) -> i32
     ensures told { PinTold hand.old.held result hand.new.held }
 {
     let Some(mut taken) = take(alloc, hand) else {
-        return NO_HAND;
+        return CLOSED;
     };
     let pinned = taken.held.pin();
     give(hand, taken);
@@ -193,7 +177,7 @@ pub fn unpin(alloc: Global, hand: &mut Hand) -> i32
     ensures told { UnpinTold hand.old.held result hand.new.held }
 {
     let Some(mut taken) = take(alloc, hand) else {
-        return NO_HAND;
+        return CLOSED;
     };
     let unpinned = taken.held.unpin();
     give(hand, taken);
@@ -206,7 +190,7 @@ pub fn close(alloc: Global, hand: &mut Hand) -> i32
     ensures empty { hand.new.held ≡ None }
 {
     let Some(mut taken) = take(alloc, hand) else {
-        return NO_HAND;
+        return CLOSED;
     };
     let _pinned = taken.held.unpin();
     taken.let_go();
@@ -218,7 +202,7 @@ pub fn try_remove(alloc: Global, hand: &mut Hand, key: &[u8], room: &mut [u8]) -
     ensures told { RemoveTold hand.old.held key.now room.old result room.new hand.new.held }
 {
     let Some(mut taken) = take(alloc, hand) else {
-        return NO_HAND;
+        return CLOSED;
     };
     let Ok(key) = Key::new(key) else {
         give(hand, taken);
@@ -237,7 +221,7 @@ pub fn version(alloc: Global, hand: &mut Hand, number: &mut u64) -> i32
     ensures told { VersionTold hand.old.held number.old result number.new hand.new.held }
 {
     let Some(mut taken) = take(alloc, hand) else {
-        return NO_HAND;
+        return CLOSED;
     };
     *number = taken.held.version();
     give(hand, taken);
@@ -249,7 +233,7 @@ pub fn rows(alloc: Global, hand: &mut Hand, count: &mut u32) -> i32
     ensures told { RowsTold hand.old.held count.old result count.new hand.new.held }
 {
     let Some(mut taken) = take(alloc, hand) else {
-        return NO_HAND;
+        return CLOSED;
     };
     let rows = taken.held.rows();
     give(hand, taken);
@@ -309,7 +293,7 @@ pub fn next(
         size.new room.new hand.new.held }
 {
     let Some(mut taken) = take(alloc, hand) else {
-        return NO_HAND;
+        return CLOSED;
     };
     let Ok(bound) = bound(key) else {
         give(hand, taken);

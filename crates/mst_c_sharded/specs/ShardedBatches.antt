@@ -1,11 +1,12 @@
 -- Batches of a sharded map, and what C is told of them.
-use Rattle.std.specs.Prelude.{◌≡◌, ◌<◌, ◌≤◌, ℕ, ℤ, pos, negsuc, List, length, Option, Some, None, Result, Ok, Err}
+use Rattle.std.specs.Prelude.{◌≡◌, ◌<◌, ◌≤◌, ℕ, ℤ, pos, List, length, Option, Some, None, Result, Ok, Err}
 use Rattle.mst_key.specs.declared.history.Edit.{Edit}
 use Rattle.mst_sharded.specs.Applying.{edits_behind, AppliesAll, RefusesEdits}
 use Rattle.mst_sharded.specs.Sharding.{Sharding}
 use Rattle.mst_sharded.specs.declared.faults.SpreadFault.TheVariants.{Memory, Shard}
 use Rattle.mst_versions.specs.declared.faults.ApplyFault.{ApplyFault}
 use Rattle.mst_versions.specs.declared.faults.ApplyFault.TheVariants as apply
+use Rattle.mst_c.specs.Codes.{absent, closed, wrong_state, memory, busy, versions_spent, no_free_rows}
 use Rattle.mst_c.specs.Batches.{edits_in, fault_code}
 use Rattle.mst_c.specs.declared.packing.BadEdit.{BadEdit}
 use Rattle.mst_c_sharded.specs.declared.batches.Unspread.{Unspread}
@@ -30,16 +31,16 @@ Spreads es from (Snapshot h) (Err (Spread fault)) s = ⊥
 Spreads es from (Snapshot h) (Ok _) s = ⊥
 
 abbrev pub part_code : ApplyFault → ℤ
-part_code apply.Busy = negsuc 20
-part_code apply.VersionsSpent = negsuc 21
-part_code (apply.Memory refused) = negsuc 8
-part_code apply.NoRoom = negsuc 22
+part_code apply.Busy = busy
+part_code apply.VersionsSpent = versions_spent
+part_code (apply.Memory refused) = memory
+part_code apply.NoRoom = no_free_rows
 
 abbrev pub spread_code : Result (Unit {0}) Unspread → ℤ
 spread_code (Ok _) = pos 0
-spread_code (Err Pins) = negsuc 7
-spread_code (Err NoShard) = negsuc 0
-spread_code (Err (Spread (Memory refused))) = negsuc 8
+spread_code (Err Pins) = wrong_state
+spread_code (Err NoShard) = absent
+spread_code (Err (Spread (Memory refused))) = memory
 spread_code (Err (Spread (Shard stop fault))) = part_code fault
 
 -- the shard that refused its edits; the first one once all edits are made; otherwise the one from
@@ -63,6 +64,6 @@ SpeltTold (Ok es) s place shard code place' shard' hand =
 -- -7 for an empty hand, otherwise by what the buffer spells
 abbrev pub ApplyTold : Option Sharing → List ℕ → ℕ → ℕ → ℤ → ℕ → ℕ → Option Sharing → Type 0
 ApplyTold None bytes place shard code place' shard' hand =
-    (code ≡ negsuc 6) × (place' ≡ place) × (shard' ≡ shard) × (hand ≡ None)
+    (code ≡ closed) × (place' ≡ place) × (shard' ≡ shard) × (hand ≡ None)
 ApplyTold (Some s) bytes place shard code place' shard' hand =
     SpeltTold (edits_in bytes) s place shard code place' shard' hand

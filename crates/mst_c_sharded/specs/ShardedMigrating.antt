@@ -1,5 +1,5 @@
 -- Migrations of all shards, and what C is told of them.
-use Rattle.std.specs.Prelude.{◌≡◌, ℕ, ℤ, pos, negsuc, Option, Some, None, Result, Ok, Err}
+use Rattle.std.specs.Prelude.{◌≡◌, ℕ, ℤ, pos, Option, Some, None, Result, Ok, Err}
 use Rattle.mst_key.specs.declared.format.Format.{Format}
 use Rattle.mst_sharded.specs.Applying.{MigratesAll}
 use Rattle.mst_sharded.specs.Shared.{RefusesMoves}
@@ -7,6 +7,7 @@ use Rattle.mst_sharded.specs.Sharding.{Sharding}
 use Rattle.mst_sharded.specs.declared.faults.MoveFault.TheVariants.{Memory, Shard}
 use Rattle.mst_versions.specs.declared.faults.MigrateFault.{MigrateFault}
 use Rattle.mst_versions.specs.declared.faults.MigrateFault.TheVariants as migrate
+use Rattle.mst_c.specs.Codes.{unknown_format, closed, wrong_state, memory, busy, versions_spent, no_free_rows}
 use Rattle.mst_c_sharded.specs.declared.held.Sharing.{Sharing}
 use Rattle.mst_c_sharded.specs.declared.held.Sharing.TheVariants.{Away, Handle, Snapshot}
 use Rattle.mst_c_sharded.specs.declared.migrating.Unmigrated.{Unmigrated}
@@ -26,15 +27,15 @@ MovesAll to (Snapshot h) (Err (Move fault)) s = ⊥
 MovesAll to (Snapshot h) (Ok _) s = ⊥
 
 abbrev pub fault_code : MigrateFault → ℤ
-fault_code migrate.Busy = negsuc 20
-fault_code migrate.VersionsSpent = negsuc 21
-fault_code (migrate.Memory refused) = negsuc 8
-fault_code migrate.NoRoom = negsuc 22
+fault_code migrate.Busy = busy
+fault_code migrate.VersionsSpent = versions_spent
+fault_code (migrate.Memory refused) = memory
+fault_code migrate.NoRoom = no_free_rows
 
 abbrev pub moved_code : Result (Unit {0}) Unmigrated → ℤ
 moved_code (Ok _) = pos 0
-moved_code (Err Pins) = negsuc 7
-moved_code (Err (Move (Memory refused))) = negsuc 8
+moved_code (Err Pins) = wrong_state
+moved_code (Err (Move (Memory refused))) = memory
 moved_code (Err (Move (Shard stopped))) = fault_code stopped.fault
 
 -- the place of the shard that stopped the migration, if one did
@@ -47,9 +48,9 @@ stopped_after place (Err (Move (Shard stopped))) = stopped.shard
 -- -7 for an empty hand, -3 for what is no format's number, otherwise what the handle did
 abbrev pub MigrateTold : Option Sharing → ℕ → ℕ → ℤ → ℕ → Option Sharing → Type 0
 MigrateTold None number place code place' hand =
-    (code ≡ negsuc 6) × (place' ≡ place) × (hand ≡ None)
+    (code ≡ closed) × (place' ≡ place) × (hand ≡ None)
 MigrateTold (Some s) number place code place' hand =
-    (format_named number ≡ None → (code ≡ negsuc 2) × (place' ≡ place) × (hand ≡ Some s))
+    (format_named number ≡ None → (code ≡ unknown_format) × (place' ≡ place) × (hand ≡ Some s))
     × ((to : Format) → format_named number ≡ Some to
     → (r : Result (Unit {0}) Unmigrated) × (t : Sharing) × (hand ≡ Some t) × MovesAll to s r t
     × (code ≡ moved_code r) × (place' ≡ stopped_after place r))

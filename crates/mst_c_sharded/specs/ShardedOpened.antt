@@ -1,5 +1,5 @@
 -- What C is told when a sharded map is opened.
-use Rattle.std.specs.Prelude.{◌≡◌, ◌<◌, ◌+◌, ℕ, ℤ, negsuc, List, length, get_or, Some, None}
+use Rattle.std.specs.Prelude.{◌≡◌, ◌<◌, ◌+◌, ℕ, ℤ, List, length, get_or, Some, None}
 use Rattle.mst_key.specs.declared.format.Format.{Format}
 use Rattle.mst_words.specs.declared.view.Shape.{Shape}
 use Rattle.mst_store.specs.Passes.{IsShape}
@@ -7,6 +7,7 @@ use Rattle.mst_sharded.specs.Sharding.{IsSplits}
 use Rattle.mst_sharded.specs.Opening.{Shards, HasShards, new_handle}
 use Rattle.mst_sharded.specs.declared.faults.ShardsFault.{ShardsFault}
 use Rattle.mst_sharded.specs.declared.faults.ShardsFault.TheVariants.{Splits, Shape as BadShape, Memory}
+use Rattle.mst_c.specs.Codes.{memory, bad_shape, bad_splits}
 use Rattle.mst_c_sharded.specs.declared.held.Sharing.TheVariants.{Handle}
 use Rattle.mst_c_sharded.specs.declared.hand.PaddedShardedHand.{PaddedShardedHand}
 use Rattle.mst_c.specs.Formats.{format_named}
@@ -41,6 +42,6 @@ NoneHeld hands = (k : ℕ) (h : PaddedShardedHand) → k < length hands → (get
     ≡ None
 
 abbrev pub fault_code : ShardsFault → ℤ
-fault_code Splits = negsuc 25
-fault_code BadShape = negsuc 9
-fault_code (Memory refused) = negsuc 8
+fault_code Splits = bad_splits
+fault_code BadShape = bad_shape
+fault_code (Memory refused) = memory

@@ -1,8 +1,9 @@
 -- The root digest, the proofs and the directory of a snapshot, and what C is told of them.
-use Rattle.std.specs.Prelude.{◌≡◌, ℕ, ℤ, pos, negsuc, nat_lt, if◌then◌else◌, List, ◌++◌, length, drop, option_map, Option, Some, None, Result, Ok, Err}
+use Rattle.std.specs.Prelude.{◌≡◌, ℕ, ℤ, pos, nat_lt, if◌then◌else◌, List, ◌++◌, length, drop, option_map, Option, Some, None, Result, Ok, Err}
 use Rattle.mst_key.specs.Bytes.{IsKey}
 use Rattle.mst_key.specs.Map.{Pair}
 use Rattle.mst_key.specs.declared.format.Format.{Format}
+use Rattle.mst_c.specs.Codes.{short_room, bad_key, closed, wrong_state, memory, versions_spent, mixed_formats, stray_key}
 use Rattle.mst_sharded_proof.specs.Frame.{sharded_proof}
 use Rattle.mst_sharded_proof.specs.Shards.{directory}
 use Rattle.mst_sharded_proof.specs.Theorem.{HasShardedRoot}
@@ -38,15 +39,15 @@ abbrev pub IsDirectory : Format → List Pair → List (List ℕ) → List Pair 
 IsDirectory format m splits pairs = pairs ≡ directory format m splits
 
 abbrev pub unlisted_code : Unlisted → ℤ
-unlisted_code PinsNone = negsuc 7
-unlisted_code (Directory Mixed) = negsuc 26
-unlisted_code (Directory Stray) = negsuc 27
-unlisted_code (Directory VersionsSpent) = negsuc 21
-unlisted_code (Directory (Memory refused)) = negsuc 8
+unlisted_code PinsNone = wrong_state
+unlisted_code (Directory Mixed) = mixed_formats
+unlisted_code (Directory Stray) = stray_key
+unlisted_code (Directory VersionsSpent) = versions_spent
+unlisted_code (Directory (Memory refused)) = memory
 
 -- 32 for a digest that there is room for, -2 where there is not
 abbrev pub root_code : ℕ → Result (List ℕ) Unlisted → ℤ
-root_code room (Ok digest) = if nat_lt room 32 then negsuc 1 else pos 32
+root_code room (Ok digest) = if nat_lt room 32 then short_room else pos 32
 root_code room (Err fault) = unlisted_code fault
 
 abbrev pub root_room : List ℕ → Result (List ℕ) Unlisted → List ℕ
@@ -55,7 +56,7 @@ root_room room (Err fault) = room
 
 -- -7 for an empty hand, otherwise the answer of the snapshot
 abbrev pub RootTold : Option Sharing → List ℕ → ℤ → List ℕ → Option Sharing → Type 0
-RootTold None room code room' hand = Nothing (negsuc 6) None room code room' hand
+RootTold None room code room' hand = Nothing closed None room code room' hand
 RootTold (Some s) room code room' hand =
     (r : Result (List ℕ) Unlisted) × (t : Sharing) × (hand ≡ Some t) × Lists HasShardedRoot s r t
     × (code ≡ root_code (length room) r) × (room' ≡ root_room room r)
@@ -72,10 +73,10 @@ proof_code room (Err fault) = unlisted_code fault
 -- -7 for an empty hand, -5 for what is no key, otherwise the answer of the snapshot
 abbrev pub ProveTold : Option Sharing → List ℕ → List ℕ → ℕ → ℤ → List ℕ → ℕ → Option Sharing
     → Type 0
-ProveTold None key room size code room' size' hand = Nothing (negsuc 6) None room code room' hand
+ProveTold None key room size code room' size' hand = Nothing closed None room code room' hand
     × (size' ≡ size)
 ProveTold (Some s) key room size code room' size' hand =
-    (¬ (IsKey key) → Nothing (negsuc 4) (Some s) room code room' hand × (size' ≡ size))
+    (¬ (IsKey key) → Nothing bad_key (Some s) room code room' hand × (size' ≡ size))
     × (IsKey key → (r : Result (List ℕ) Unlisted) × (t : Sharing) × (hand ≡ Some t)
     × Lists (Proof key) s r t × (code ≡ proof_code (length room) r)
     × (room' ≡ room_after room (answer_of r)) × (size' ≡ size_after size (answer_of r)))
@@ -88,7 +89,7 @@ directory_code room (Err fault) = unlisted_code fault
 abbrev pub DirectoryTold : Option Sharing → List ℕ → ℕ → ℕ → ℤ → List ℕ → ℕ → ℕ → Option Sharing
     → Type 0
 DirectoryTold None room count size code room' count' size' hand =
-    Nothing (negsuc 6) None room code room' hand × (count' ≡ count) × (size' ≡ size)
+    Nothing closed None room code room' hand × (count' ≡ count) × (size' ≡ size)
 DirectoryTold (Some s) room count size code room' count' size' hand =
     (r : Result (List Pair) Unlisted) × (t : Sharing) × (hand ≡ Some t)
     × Lists IsDirectory s r t × (code ≡ directory_code (length room) r)

@@ -1,9 +1,10 @@
 -- What only a snapshot reads of a sharded map, and what C is told of it.
-use Rattle.std.specs.Prelude.{◌≡◌, ℕ, ℤ, pos, negsuc, List, length, option_map, slice_get, Option, Some, None, Result, Ok, Err}
+use Rattle.std.specs.Prelude.{◌≡◌, ℕ, ℤ, pos, List, length, option_map, slice_get, Option, Some, None, Result, Ok, Err}
 use Rattle.mst_key.specs.Map.{Pair, map_next, map_range}
 use Rattle.mst_key.specs.declared.format.Format.{Format}
 use Rattle.mst_sharded.specs.Directory.{AllIn}
 use Rattle.mst_sharded.specs.Sharding.{map_of}
+use Rattle.mst_c.specs.Codes.{absent, bad_key, closed, wrong_state, memory, mixed_formats}
 use Rattle.mst_c_sharded.specs.declared.held.Sharing.{Sharing}
 use Rattle.mst_c_sharded.specs.declared.held.Sharing.TheVariants.{Away, Handle, Snapshot}
 use Rattle.mst_c_sharded.specs.declared.asking.Unread.{Unread}
@@ -25,8 +26,8 @@ Finds question (Snapshot h) (Err (Memory refused)) s = s ≡ Snapshot h
 Finds question (Snapshot h) (Err PinsNone) s = ⊥
 
 abbrev pub unread_code : Unread → ℤ
-unread_code PinsNone = negsuc 7
-unread_code (Memory refused) = negsuc 8
+unread_code PinsNone = wrong_state
+unread_code (Memory refused) = memory
 
 -- ---- the next pair
 
@@ -43,9 +44,9 @@ next_of (Err fault) = None
 abbrev pub NextTold : Option Sharing → List ℕ → List ℕ → ℕ → List ℕ → ℤ → List ℕ → ℕ → List ℕ
     → Option Sharing → Type 0
 NextTold None key keys size values code keys' size' values' hand =
-    Nothing (negsuc 6) None values code values' hand × (keys' ≡ keys) × (size' ≡ size)
+    Nothing closed None values code values' hand × (keys' ≡ keys) × (size' ≡ size)
 NextTold (Some s) key keys size values code keys' size' values' hand =
-    (¬ (IsBound key) → Nothing (negsuc 4) (Some s) values code values' hand × (keys' ≡ keys)
+    (¬ (IsBound key) → Nothing bad_key (Some s) values code values' hand × (keys' ≡ keys)
     × (size' ≡ size))
     × (IsBound key → (r : Result (Option Pair) Unread) × (t : Sharing) × (hand ≡ Some t)
     × Finds (λ m. map_next m (bound_of key)) s r t
@@ -75,11 +76,11 @@ NoRange wanted s room count size code room' count' size' hand =
 abbrev pub RangeTold : Option Sharing → List ℕ → List ℕ → ℕ
     → List ℕ → ℕ → ℕ → ℤ → List ℕ → ℕ → ℕ → Option Sharing → Type 0
 RangeTold None from to limit room count size code room' count' size' hand =
-    Nothing (negsuc 6) None room code room' hand × (count' ≡ count) × (size' ≡ size)
+    Nothing closed None room code room' hand × (count' ≡ count) × (size' ≡ size)
 RangeTold (Some s) from to limit room count size code room' count' size' hand =
-    (¬ (IsBound from) → NoRange (negsuc 4) s room count size code room' count' size' hand)
+    (¬ (IsBound from) → NoRange bad_key s room count size code room' count' size' hand)
     × (IsBound from → ¬ (IsBound to)
-    → NoRange (negsuc 4) s room count size code room' count' size' hand)
+    → NoRange bad_key s room count size code room' count' size' hand)
     × (IsBound from → IsBound to → (r : Result (List Pair) Unread) × (t : Sharing)
     × (hand ≡ Some t) × Finds (λ m. map_range m (bound_of from) (bound_of to) limit) s r t
     × (code ≡ range_code (length room) r)
@@ -100,8 +101,8 @@ Numbers shard (Snapshot h) (Some found) s =
 Numbers shard (Snapshot h) None s = ⊥
 
 abbrev pub number_code : Option (Option ℕ) → ℤ
-number_code None = negsuc 7
-number_code (Some None) = negsuc 0
+number_code None = wrong_state
+number_code (Some None) = absent
 number_code (Some (Some n)) = pos 0
 
 abbrev pub number_after : ℕ → Option (Option ℕ) → ℕ
@@ -112,7 +113,7 @@ number_after number (Some (Some n)) = n
 -- -7 for an empty hand, otherwise the number of the shard's version is written
 abbrev pub VersionTold : Option Sharing → ℕ → ℕ → ℤ → ℕ → Option Sharing → Type 0
 VersionTold None shard number code number' hand =
-    (code ≡ negsuc 6) × (number' ≡ number) × (hand ≡ None)
+    (code ≡ closed) × (number' ≡ number) × (hand ≡ None)
 VersionTold (Some s) shard number code number' hand =
     (r : Option (Option ℕ)) × (t : Sharing) × (hand ≡ Some t) × Numbers shard s r t
     × (code ≡ number_code r) × (number' ≡ number_after number r)
@@ -133,11 +134,11 @@ HasFormat (Snapshot h) (Err PinsNone) s = ⊥
 
 abbrev pub one_format_code : Result (Option Format) Unread → ℤ
 one_format_code (Ok (Some format)) = format_code format
-one_format_code (Ok None) = negsuc 26
+one_format_code (Ok None) = mixed_formats
 one_format_code (Err fault) = unread_code fault
 
 -- -7 for an empty hand, otherwise the number of the format
 abbrev pub FormatTold : Option Sharing → ℤ → Option Sharing → Type 0
-FormatTold None code hand = (code ≡ negsuc 6) × (hand ≡ None)
+FormatTold None code hand = (code ≡ closed) × (hand ≡ None)
 FormatTold (Some s) code hand = (r : Result (Option Format) Unread) × (t : Sharing)
     × (hand ≡ Some t) × HasFormat s r t × (code ≡ one_format_code r)

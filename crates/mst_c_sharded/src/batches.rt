@@ -7,8 +7,8 @@ ghost use Rattle.mst_c_sharded.specs.ShardedStates.{IsThere};
 use crate::hand::{ShardedHand, give, take};
 use crate::held::Sharing;
 use mst_c::batches::fault_code;
+use mst_c::codes::{ABSENT, BUSY, CLOSED, MEMORY, NO_FREE_ROWS, VERSIONS_SPENT, WRONG_STATE};
 use mst_c::packing::Packed;
-use mst_c::telling::{ABSENT, MEMORY, NO_HAND, WRONG_STATE};
 use mst_sharded::{SharedHandle, SpreadFault};
 use mst_store::ApplyFault;
 use std::alloc::Global;
@@ -72,10 +72,10 @@ fn part_code(fault: ApplyFault) -> i32
     ensures code { result ≡ code_of_part fault }
 {
     match fault {
-        ApplyFault::Busy => -21,
-        ApplyFault::VersionsSpent => -22,
+        ApplyFault::Busy => BUSY,
+        ApplyFault::VersionsSpent => VERSIONS_SPENT,
         ApplyFault::Memory(_) => MEMORY,
-        ApplyFault::NoRoom => -23,
+        ApplyFault::NoRoom => NO_FREE_ROWS,
     }
 }
 
@@ -112,7 +112,7 @@ pub fn try_apply(
         shard.new hand.new.held }
 {
     let Some(mut taken) = take(alloc, hand) else {
-        return NO_HAND;
+        return CLOSED;
     };
     let packed = match Packed::of(edits) {
         Ok(packed) => packed,

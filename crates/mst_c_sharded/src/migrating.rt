@@ -5,8 +5,10 @@ ghost use Rattle.mst_c_sharded.specs.ShardedStates.{IsThere};
 
 use crate::hand::{ShardedHand, give, take};
 use crate::held::Sharing;
+use mst_c::codes::{
+    BUSY, CLOSED, MEMORY, NO_FREE_ROWS, UNKNOWN_FORMAT, VERSIONS_SPENT, WRONG_STATE,
+};
 use mst_c::formats::format_named;
-use mst_c::telling::{MEMORY, NO_HAND, UNKNOWN_FORMAT, WRONG_STATE};
 use mst_key::Format;
 use mst_sharded::MoveFault;
 use mst_store::MigrateFault;
@@ -44,10 +46,10 @@ fn fault_code(fault: MigrateFault) -> i32
     ensures code { result ≡ code_of_fault fault }
 {
     match fault {
-        MigrateFault::Busy => -21,
-        MigrateFault::VersionsSpent => -22,
+        MigrateFault::Busy => BUSY,
+        MigrateFault::VersionsSpent => VERSIONS_SPENT,
         MigrateFault::Memory(_) => MEMORY,
-        MigrateFault::NoRoom => -23,
+        MigrateFault::NoRoom => NO_FREE_ROWS,
     }
 }
 
@@ -72,7 +74,7 @@ pub fn try_migrate(alloc: Global, hand: &mut ShardedHand, number: u32, place: &m
     ensures told { MigrateTold hand.old.held number place.old result place.new hand.new.held }
 {
     let Some(mut taken) = take(alloc, hand) else {
-        return NO_HAND;
+        return CLOSED;
     };
     let Some(to) = format_named(number) else {
         give(hand, taken);

@@ -1,8 +1,9 @@
 //! Opening a sharded map for C.
-ghost use Rattle.std.specs.Prelude.{◌≡◌, ◌≢◌, ◌↔◌, ◌⊎◌, ◌<◌, ◌≤◌, ℕ, List, true, pos, negsuc, length, get_or, vec_len, Some, None, IsSome, IfOk, OnOk, IsErrOf};
+ghost use Rattle.std.specs.Prelude.{◌≡◌, ◌≢◌, ◌↔◌, ◌⊎◌, ◌<◌, ◌≤◌, ℕ, List, true, pos, length, get_or, vec_len, Some, None, IsSome, IfOk, OnOk, IsErrOf};
 ghost use Rattle.mst_store.specs.Passes.{IsShape};
 ghost use Rattle.mst_sharded.specs.Sharding.{Sharding, IsSplits};
 ghost use Rattle.mst_sharded.specs.Opening.{Shards, HasShards, new_handles, seats_of};
+ghost use Rattle.mst_c.specs.Codes.{unknown_format, memory, bad_shape, bad_splits};
 ghost use Rattle.mst_c_sharded.specs.declared.held.Sharing.TheVariants.{Handle};
 ghost use Rattle.mst_c_sharded.specs.declared.hand.PaddedShardedHand.{PaddedShardedHand};
 ghost use Rattle.mst_c.specs.Formats.{format_named as named};
@@ -13,9 +14,9 @@ ghost use Rattle.mst_c_sharded.specs.ShardedSplits.{splits_bytes, PacksSplits};
 use crate::hand::PaddedShardedHand;
 use crate::held::hand_out_padded;
 use crate::splits::list_splits;
-use crate::telling::{BAD_SPLITS, close};
+use crate::telling::close;
+use mst_c::codes::{BAD_SHAPE, BAD_SPLITS, MEMORY, UNKNOWN_FORMAT};
 use mst_c::formats::format_named;
-use mst_c::telling::{BAD_SHAPE, MEMORY, UNKNOWN_FORMAT};
 use mst_key::{Format, Key, Memory};
 use mst_sharded::{AllSeats, Sharded, ShardsFault, SharedHandle};
 use mst_store::Shape;
@@ -123,7 +124,7 @@ fn hand_handles(
         → k < length hands.new
         → (get_or hands.new k h).hand.held ≡ Some (Handle (get_or handles.items k d)) }
     ensures empty { result ≢ pos 0 → NoneHeld hands.new }
-    ensures range { (result ≡ pos 0) ⊎ (result ≡ negsuc 8) }
+    ensures range { (result ≡ pos 0) ⊎ (result ≡ memory) }
 {
     if hand_all(alloc, handles, hands) {
         return 0;
@@ -153,10 +154,10 @@ fn open_of(
     requires empty { NoneHeld hands.old }
     ensures opened { result ≡ pos 0 → HandsOpened splits.items shape hands.new }
     ensures empty { result ≢ pos 0 → NoneHeld hands.new }
-    ensures splits { result ≡ negsuc 25 → ¬ (IsSplits splits.items) }
-    ensures shape { result ≡ negsuc 9 → IsSplits splits.items × ¬ (IsShape shape) }
-    ensures range { (result ≡ pos 0) ⊎ (result ≡ negsuc 25) ⊎ (result ≡ negsuc 9)
-        ⊎ (result ≡ negsuc 8) }
+    ensures splits { result ≡ bad_splits → ¬ (IsSplits splits.items) }
+    ensures shape { result ≡ bad_shape → IsSplits splits.items × ¬ (IsShape shape) }
+    ensures range { (result ≡ pos 0) ⊎ (result ≡ bad_splits) ⊎ (result ≡ bad_shape)
+        ⊎ (result ≡ memory) }
 {
     match open_map(alloc, splits, shape) {
         Ok(handles) => hand_handles(alloc, handles, hands),
@@ -177,12 +178,12 @@ fn open_in(
         × HandsOpened ss (record { rows = rows; passes = length hands.new; format = format })
         hands.new }
     ensures empty { result ≢ pos 0 → NoneHeld hands.new }
-    ensures splits { result ≡ negsuc 25
+    ensures splits { result ≡ bad_splits
         → (ss : List (List ℕ)) → PacksSplits packed.now ss → ⊥ }
-    ensures size { result ≡ negsuc 9 → ((ss : List (List ℕ)) × PacksSplits packed.now ss)
+    ensures size { result ≡ bad_shape → ((ss : List (List ℕ)) × PacksSplits packed.now ss)
         × ¬ (IsSize rows (length hands.old)) }
-    ensures range { (result ≡ pos 0) ⊎ (result ≡ negsuc 25) ⊎ (result ≡ negsuc 9)
-        ⊎ (result ≡ negsuc 8) }
+    ensures range { (result ≡ pos 0) ⊎ (result ≡ bad_splits) ⊎ (result ≡ bad_shape)
+        ⊎ (result ≡ memory) }
 {
     let splits = match list_splits(alloc, packed) {
         Ok(Some(splits)) => splits,
@@ -208,14 +209,14 @@ pub fn open(
 ) -> i32
     ensures opened { result ≡ pos 0 → ShardsOpened format rows packed.now hands.new }
     ensures empty { result ≢ pos 0 → NoneHeld hands.new }
-    ensures format { result ≡ negsuc 2 ↔ (named format ≡ None) }
-    ensures splits { result ≡ negsuc 25
+    ensures format { result ≡ unknown_format ↔ (named format ≡ None) }
+    ensures splits { result ≡ bad_splits
         → IsSome (named format) × ((ss : List (List ℕ)) → PacksSplits packed.now ss → ⊥) }
-    ensures size { result ≡ negsuc 9 → IsSome (named format)
+    ensures size { result ≡ bad_shape → IsSome (named format)
         × ((ss : List (List ℕ)) × PacksSplits packed.now ss)
         × ¬ (IsSize rows (length hands.old)) }
-    ensures range { (result ≡ pos 0) ⊎ (result ≡ negsuc 2) ⊎ (result ≡ negsuc 25)
-        ⊎ (result ≡ negsuc 9) ⊎ (result ≡ negsuc 8) }
+    ensures range { (result ≡ pos 0) ⊎ (result ≡ unknown_format) ⊎ (result ≡ bad_splits)
+        ⊎ (result ≡ bad_shape) ⊎ (result ≡ memory) }
 {
     close_all(alloc, hands);
     match format_named(format) {

@@ -4,14 +4,13 @@ ghost use Rattle.mst_c_sharded.specs.ShardedProving.{unlisted_code as code_of_un
 
 use crate::asking::Unlisted;
 use crate::hand::{ShardedHand, give, take};
-use mst_c::telling::{BAD_KEY, MEMORY, NO_HAND, SHORT_ROOM, WRONG_STATE, put, tell_proof};
+use mst_c::codes::{
+    BAD_KEY, CLOSED, MEMORY, MIXED_FORMATS, SHORT_ROOM, STRAY_KEY, VERSIONS_SPENT, WRONG_STATE,
+};
+use mst_c::telling::{put, tell_proof};
 use mst_key::Key;
 use mst_sharded::DirectoryFault;
 use std::alloc::Global;
-
-pub(crate) const MIXED_FORMATS: i32 = -27;
-
-const STRAY_KEY: i32 = -28;
 
 /// The code of an answer that a hand does not have.
 pub(crate) fn unlisted_code(fault: Unlisted) -> i32
@@ -21,7 +20,7 @@ pub(crate) fn unlisted_code(fault: Unlisted) -> i32
         Unlisted::PinsNone => WRONG_STATE,
         Unlisted::Directory(DirectoryFault::Mixed) => MIXED_FORMATS,
         Unlisted::Directory(DirectoryFault::Stray) => STRAY_KEY,
-        Unlisted::Directory(DirectoryFault::VersionsSpent) => -22,
+        Unlisted::Directory(DirectoryFault::VersionsSpent) => VERSIONS_SPENT,
         Unlisted::Directory(DirectoryFault::Memory(_)) => MEMORY,
     }
 }
@@ -48,7 +47,7 @@ pub fn root(alloc: Global, hand: &mut ShardedHand, room: &mut [u8]) -> i32
     ensures told { RootTold hand.old.held room.old result room.new hand.new.held }
 {
     let Some(mut taken) = take(alloc, hand) else {
-        return NO_HAND;
+        return CLOSED;
     };
     let root = taken.held.root(alloc);
     give(hand, taken);
@@ -67,7 +66,7 @@ pub fn prove(
         hand.new.held }
 {
     let Some(mut taken) = take(alloc, hand) else {
-        return NO_HAND;
+        return CLOSED;
     };
     let Ok(key) = Key::new(key) else {
         give(hand, taken);

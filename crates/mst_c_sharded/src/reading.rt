@@ -5,10 +5,11 @@ ghost use Rattle.mst_c_sharded.specs.ShardedProving.{DirectoryTold};
 
 use crate::asking::Unread;
 use crate::hand::{ShardedHand, give, take};
-use crate::proving::{MIXED_FORMATS, unlisted_code};
+use crate::proving::unlisted_code;
+use mst_c::codes::{ABSENT, BAD_KEY, CLOSED, MEMORY, MIXED_FORMATS, WRONG_STATE};
 use mst_c::formats::number_of;
 use mst_c::ranging::tell_pairs;
-use mst_c::telling::{ABSENT, BAD_KEY, MEMORY, NO_HAND, WRONG_STATE, bound, tell_pair};
+use mst_c::telling::{bound, tell_pair};
 use mst_key::Format;
 use std::alloc::Global;
 
@@ -35,7 +36,7 @@ pub fn next(
         size.new room.new hand.new.held }
 {
     let Some(mut taken) = take(alloc, hand) else {
-        return NO_HAND;
+        return CLOSED;
     };
     let Ok(bound) = bound(key) else {
         give(hand, taken);
@@ -64,7 +65,7 @@ pub fn range(
         room.new count.new size.new hand.new.held }
 {
     let Some(mut taken) = take(alloc, hand) else {
-        return NO_HAND;
+        return CLOSED;
     };
     let Ok(low) = bound(from) else {
         give(hand, taken);
@@ -104,7 +105,7 @@ pub fn version_at(alloc: Global, hand: &mut ShardedHand, shard: usize, number: &
     ensures told { VersionTold hand.old.held shard number.old result number.new hand.new.held }
 {
     let Some(mut taken) = take(alloc, hand) else {
-        return NO_HAND;
+        return CLOSED;
     };
     let found = taken.held.version_at(shard);
     give(hand, taken);
@@ -127,7 +128,7 @@ pub fn format(alloc: Global, hand: &mut ShardedHand) -> i32
     ensures told { FormatTold hand.old.held result hand.new.held }
 {
     let Some(mut taken) = take(alloc, hand) else {
-        return NO_HAND;
+        return CLOSED;
     };
     let found = taken.held.format(alloc);
     give(hand, taken);
@@ -146,7 +147,7 @@ pub fn directory(
         size.new hand.new.held }
 {
     let Some(mut taken) = take(alloc, hand) else {
-        return NO_HAND;
+        return CLOSED;
     };
     let found = taken.held.directory(alloc);
     give(hand, taken);

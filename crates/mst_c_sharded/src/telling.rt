@@ -3,18 +3,17 @@ ghost use Rattle.std.specs.Prelude.{◌≡◌, None};
 ghost use Rattle.mst_c_sharded.specs.ShardedTold.{GetTold, PutTold, RemoveTold, ShardsTold, SnapshotTold, ReleaseTold, CloseTold};
 
 use crate::hand::{ShardedHand, give, take};
-use mst_c::telling::{BAD_KEY, BAD_VALUE, NO_HAND, done, tell, unwritten_code};
+use mst_c::codes::{BAD_KEY, BAD_VALUE, CLOSED};
+use mst_c::telling::{done, tell, unwritten_code};
 use mst_key::{Key, Value};
 use std::alloc::Global;
-
-pub(crate) const BAD_SPLITS: i32 = -26;
 
 /// As `mst_sharded_shards` of `mst_exports` says.
 pub fn shards(alloc: Global, hand: &mut ShardedHand) -> i32
     ensures told { ShardsTold hand.old.held result hand.new.held }
 {
     let Some(taken) = take(alloc, hand) else {
-        return NO_HAND;
+        return CLOSED;
     };
     let count = taken.held.shards();
     give(hand, taken);
@@ -26,7 +25,7 @@ pub fn get(alloc: Global, hand: &mut ShardedHand, key: &[u8], room: &mut [u8]) -
     ensures told { GetTold hand.old.held key.now room.old result room.new hand.new.held }
 {
     let Some(mut taken) = take(alloc, hand) else {
-        return NO_HAND;
+        return CLOSED;
     };
     let Ok(key) = Key::new(key) else {
         give(hand, taken);
@@ -48,7 +47,7 @@ pub fn try_put(
     ensures told { PutTold hand.old.held key.now value.now room.old result room.new hand.new.held }
 {
     let Some(mut taken) = take(alloc, hand) else {
-        return NO_HAND;
+        return CLOSED;
     };
     let Ok(key) = Key::new(key) else {
         give(hand, taken);
@@ -71,7 +70,7 @@ pub fn try_remove(alloc: Global, hand: &mut ShardedHand, key: &[u8], room: &mut 
     ensures told { RemoveTold hand.old.held key.now room.old result room.new hand.new.held }
 {
     let Some(mut taken) = take(alloc, hand) else {
-        return NO_HAND;
+        return CLOSED;
     };
     let Ok(key) = Key::new(key) else {
         give(hand, taken);
@@ -90,7 +89,7 @@ pub fn snapshot(alloc: Global, hand: &mut ShardedHand) -> i32
     ensures told { SnapshotTold hand.old.held result hand.new.held }
 {
     let Some(mut taken) = take(alloc, hand) else {
-        return NO_HAND;
+        return CLOSED;
     };
     let pinned = taken.held.snapshot();
     give(hand, taken);
@@ -102,7 +101,7 @@ pub fn release(alloc: Global, hand: &mut ShardedHand) -> i32
     ensures told { ReleaseTold hand.old.held result hand.new.held }
 {
     let Some(mut taken) = take(alloc, hand) else {
-        return NO_HAND;
+        return CLOSED;
     };
     let released = taken.held.release();
     give(hand, taken);
@@ -115,7 +114,7 @@ pub fn close(alloc: Global, hand: &mut ShardedHand) -> i32
     ensures empty { hand.new.held ≡ None }
 {
     let Some(mut taken) = take(alloc, hand) else {
-        return NO_HAND;
+        return CLOSED;
     };
     let _released = taken.held.release();
     taken.let_go();

@@ -4,7 +4,8 @@
 //! `mst_c_sharded`, and repeats its contract. `include/mst_store.h` declares them.
 #![tactic(auto)]
 
-ghost use Rattle.std.specs.Prelude.{◌≡◌, ◌≢◌, ◌↔◌, ◌⊎◌, pos, negsuc, length as count, None, IsSome};
+ghost use Rattle.std.specs.Prelude.{◌≡◌, ◌≢◌, ◌↔◌, ◌⊎◌, pos, length as count, None, IsSome};
+ghost use Rattle.mst_c.specs.Codes.{unknown_format, memory, bad_shape};
 ghost use Rattle.mst_c.specs.Batches.{ApplyTold};
 ghost use Rattle.mst_c.specs.Formats.{format_named, FormatTold, MigrateTold};
 ghost use Rattle.mst_c.specs.Knowing.{FreeRowsTold, MadeTold};
@@ -26,11 +27,11 @@ use std::alloc::Global;
 pub extern "C" fn mst_open(alloc: Global, format: u32, rows: u32, hands: &mut [PaddedHand]) -> i32
     ensures opened { result ≡ pos 0 → Opened format rows hands.new }
     ensures empty { result ≢ pos 0 → AllEmpty hands.new }
-    ensures size { result ≡ negsuc 9
+    ensures size { result ≡ bad_shape
         ↔ IsSome (format_named format) × (¬ (IsSize rows (count hands.old))) }
-    ensures format { result ≡ negsuc 2 ↔ (format_named format ≡ None) }
-    ensures range { (result ≡ pos 0) ⊎ (result ≡ negsuc 2) ⊎ (result ≡ negsuc 9)
-        ⊎ (result ≡ negsuc 8) }
+    ensures format { result ≡ unknown_format ↔ (format_named format ≡ None) }
+    ensures range { (result ≡ pos 0) ⊎ (result ≡ unknown_format) ⊎ (result ≡ bad_shape)
+        ⊎ (result ≡ memory) }
 {
     opening::open(alloc, format, rows, hands)
 }

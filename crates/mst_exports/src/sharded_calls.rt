@@ -1,6 +1,7 @@
 //! The calls of sharded maps for C. Their numbers, and the order of their tests, are those of the
 //! calls of a store.
-ghost use Rattle.std.specs.Prelude.{◌≡◌, ◌≢◌, ◌↔◌, ◌⊎◌, ℕ, List, pos, negsuc, length as count, None, IsSome};
+ghost use Rattle.std.specs.Prelude.{◌≡◌, ◌≢◌, ◌↔◌, ◌⊎◌, ℕ, List, pos, length as count, None, IsSome};
+ghost use Rattle.mst_c.specs.Codes.{unknown_format, memory, bad_shape, bad_splits};
 ghost use Rattle.mst_c.specs.Formats.{format_named};
 ghost use Rattle.mst_c.specs.Opened.{IsSize};
 ghost use Rattle.mst_c_sharded.specs.ShardedBatches.{ApplyTold};
@@ -31,14 +32,14 @@ pub extern "C" fn mst_sharded_open(
 ) -> i32
     ensures opened { result ≡ pos 0 → ShardsOpened format rows splits.now hands.new }
     ensures empty { result ≢ pos 0 → NoneHeld hands.new }
-    ensures format { result ≡ negsuc 2 ↔ (format_named format ≡ None) }
-    ensures splits { result ≡ negsuc 25
+    ensures format { result ≡ unknown_format ↔ (format_named format ≡ None) }
+    ensures splits { result ≡ bad_splits
         → IsSome (format_named format) × ((ss : List (List ℕ)) → PacksSplits splits.now ss → ⊥) }
-    ensures size { result ≡ negsuc 9 → IsSome (format_named format)
+    ensures size { result ≡ bad_shape → IsSome (format_named format)
         × ((ss : List (List ℕ)) × PacksSplits splits.now ss)
         × ¬ (IsSize rows (count hands.old)) }
-    ensures range { (result ≡ pos 0) ⊎ (result ≡ negsuc 2) ⊎ (result ≡ negsuc 25)
-        ⊎ (result ≡ negsuc 9) ⊎ (result ≡ negsuc 8) }
+    ensures range { (result ≡ pos 0) ⊎ (result ≡ unknown_format) ⊎ (result ≡ bad_splits)
+        ⊎ (result ≡ bad_shape) ⊎ (result ≡ memory) }
 {
     opening::open(alloc, format, rows, splits, hands)
 }
