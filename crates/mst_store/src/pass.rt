@@ -56,6 +56,7 @@ impl<'a, A: Allocator + Copy> Pass<'a, A> {
 
     /// Returns the value of the key in the current version, or `None` if the key has no value. It
     /// takes no memory.
+    #[inline(always)]
     pub fn get(&mut self, key: &Key) -> Option<Value>
         ensures answers { Answers (λ _ m. map_get m key.now) self.old result self.new }
         ensures once { self.new.asked ≡ self.old.asked + 1 }
