@@ -32,8 +32,8 @@
  *     (pthread_cancel with asynchronous cancellation). A thread whose cancellation is deferred may
  *     be cancelled where a call that waits sleeps: then nothing is written;
  *   - a thread has stack left for a call: 16 KiB are enough over maps of random keys. Keys that
- *     were chosen to make a tree deep, of at most 129 layers, take less than 128 KiB, a batch 144
- *     KiB, and a call then nests less than 140 functions;
+ *     were chosen to make a tree deep, of at most 129 layers, take less than 128 KiB, and a call
+ *     then nests less than 140 functions;
  *   - no call is made in a signal handler, or in the forked child of a process with threads.
  *
  * A length that is out of its limits is refused without a look at the bytes, however great it is,
@@ -136,8 +136,9 @@ typedef struct mst_pass {
 #define MST_WRONG_STATE (-8)
 
 /*
- * A growth of memory was refused. Nothing has changed, but that mst_open has closed what its hands
- * held.
+ * A growth of memory was refused. In this store nothing has changed, but that mst_open and
+ * mst_sharded_open have closed what their hands held; of a sharded batch or migration see those
+ * calls.
  */
 #define MST_MEMORY (-9)
 
@@ -145,14 +146,21 @@ typedef struct mst_pass {
 #define MST_BAD_SHAPE (-10)
 
 /*
- * Another pass has the turn: it writes, migrates or counts rows. Nothing has changed: try again.
+ * Another pass has the turn: it writes, migrates or counts rows. In this store nothing has changed:
+ * try again. Of a sharded batch or migration see those calls.
  */
 #define MST_BUSY (-21)
 
-/* The store has made all the versions that it can number. Nothing has changed. */
+/*
+ * The store has made all the versions that it can number. In it nothing has changed; of a sharded
+ * batch or migration see those calls.
+ */
 #define MST_VERSIONS_SPENT (-22)
 
-/* The write or the migration needs more rows than are free. Nothing has changed. */
+/*
+ * The write or the migration needs more rows than are free. In this store nothing has changed; of a
+ * sharded batch or migration see those calls.
+ */
 #define MST_NO_FREE_ROWS (-23)
 
 /* Some pass pins a version, so the rows are not counted. */
@@ -547,9 +555,9 @@ int32_t mst_sharded_release(mst_handle *handle);
 /*
  * Returns 32, the length of the root digest of all shards together, and its bytes stand first in
  * `root`. It depends on the content, the format and the splits alone. Returns MST_CLOSED;
- * MST_WRONG_STATE for a handle; MST_MIXED_FORMATS, MST_STRAY_KEY, MST_MEMORY; MST_VERSIONS_SPENT if
- * the handle's list of shards has changed 2^63 - 1 times; MST_SHORT_ROOM if root_length is less
- * than 32.
+ * MST_WRONG_STATE for a handle; then, in no order that is promised, MST_MIXED_FORMATS,
+ * MST_STRAY_KEY, MST_MEMORY, and MST_VERSIONS_SPENT if the handle's list of shards has changed
+ * 2^63 - 1 times; last MST_SHORT_ROOM if root_length is less than 32.
  */
 int32_t mst_sharded_root(mst_handle *handle, uint8_t *root, size_t root_length);
 
@@ -564,16 +572,16 @@ int32_t mst_sharded_prove(mst_handle *handle, const uint8_t *key, size_t key_len
                           uint8_t *room, size_t room_length, size_t *length);
 
 /*
- * As mst_next, in the map of all shards of a snapshot. Returns what mst_next returns,
- * MST_WRONG_STATE for a handle, and MST_MEMORY.
+ * As mst_next, in the map of all shards of a snapshot. Returns what mst_next returns; right after
+ * MST_BAD_KEY come MST_WRONG_STATE for a handle, and MST_MEMORY.
  */
 int32_t mst_sharded_next(mst_handle *handle, const uint8_t *key, size_t key_length,
                          uint8_t *key_room, size_t key_room_length, size_t *next_length,
                          uint8_t *room, size_t room_length);
 
 /*
- * As mst_range, in the map of all shards of a snapshot. Returns what mst_range returns, and
- * MST_WRONG_STATE for a handle.
+ * As mst_range, in the map of all shards of a snapshot. Returns what mst_range returns; right after
+ * MST_BAD_KEY comes MST_WRONG_STATE for a handle.
  */
 int32_t mst_sharded_range(mst_handle *handle, const uint8_t *from, size_t from_length,
                           const uint8_t *to, size_t to_length, uint32_t limit,
@@ -587,8 +595,8 @@ int32_t mst_sharded_version_at(mst_handle *handle, size_t shard, uint64_t *versi
 
 /*
  * Returns the format of the snapshot's versions, 1 or 2, in which its root digest and its proofs
- * are. Returns MST_CLOSED; MST_WRONG_STATE for a handle; MST_MIXED_FORMATS if they are in two, as
- * during a migration; MST_MEMORY.
+ * are. Returns MST_CLOSED; MST_WRONG_STATE for a handle; MST_MEMORY; MST_MIXED_FORMATS if they are
+ * in two, as during a migration.
  */
 int32_t mst_sharded_format(mst_handle *handle);
 
@@ -604,11 +612,12 @@ int32_t mst_sharded_directory(mst_handle *handle, uint8_t *room, size_t room_len
 
 /*
  * Turns each shard to format 1 or 2, one after the other. Meanwhile a snapshot may find shards in
- * both. Returns MST_OK. Returns MST_BUSY, MST_VERSIONS_SPENT, MST_MEMORY, MST_NO_FREE_ROWS if a
- * shard refused it: *stopped is the number of this shard, from 0. Those before it are migrated,
- * those behind it not tried: call again with the same format, since a shard in it takes no row and
- * no memory. Returns MST_CLOSED; MST_UNKNOWN_FORMAT; MST_WRONG_STATE for a snapshot; MST_MEMORY if
- * there is none for the list of the shards: nothing has changed, and *stopped is as it was.
+ * both. Returns MST_OK. Returns MST_CLOSED; MST_UNKNOWN_FORMAT; MST_WRONG_STATE for a snapshot;
+ * MST_MEMORY if there is none for the list of the shards: nothing has changed, and *stopped is as
+ * it was. Then returns MST_BUSY, MST_VERSIONS_SPENT, MST_MEMORY, MST_NO_FREE_ROWS if a shard
+ * refused it: *stopped is the number of this shard, from 0. Those before it are migrated, those
+ * behind it not tried: call again with the same format, since a shard in it takes no row and no
+ * memory.
  */
 int32_t mst_sharded_try_migrate(mst_handle *handle, uint32_t format, size_t *stopped);
 
@@ -618,15 +627,17 @@ int32_t mst_sharded_try_migrate(mst_handle *handle, uint32_t format, size_t *sto
  * the one of this number are passed over. A shard with no edits gets no version. Meanwhile a reader
  * may find the edits of some shards without those of the others.
  *
- * Returns MST_OK: all edits are made, and *shard is 0, for the next batch. Returns MST_BUSY,
- * MST_VERSIONS_SPENT, MST_MEMORY, MST_NO_FREE_ROWS if a shard refused its edits: *shard is the
- * number of this shard, from 0. Those before it have theirs, and neither it nor one behind it has
- * any. Call again with the same edits and the same *shard: it goes on there, and makes none again.
- * Or set *shard to 0 for another batch. Returns MST_CLOSED; if an edit is none, then for the first
- * such one MST_BAD_KEY, MST_BAD_VALUE or MST_BAD_BATCH, and *place is the number of that edit, from
- * 0; MST_WRONG_STATE for a snapshot; MST_ABSENT if there is no shard of the number *shard;
- * MST_MEMORY if there is none for the lists of the edits and the shards: nothing has changed, and
- * *shard is as it was. Where no edit is refused, *place is as it was.
+ * Returns MST_OK: all edits are made, and *shard is 0, for the next batch. Returns MST_CLOSED; if
+ * an edit is none, then for the first such one MST_BAD_KEY, MST_BAD_VALUE or MST_BAD_BATCH, and
+ * *place is the number of that edit, from 0; MST_WRONG_STATE for a snapshot; MST_ABSENT if there is
+ * no shard of the number *shard; MST_MEMORY if there is none for the lists of the edits and the
+ * shards: nothing has changed, and *shard is as it was. Where no edit is refused, *place is as it
+ * was.
+ *
+ * Then returns MST_BUSY, MST_VERSIONS_SPENT, MST_MEMORY, MST_NO_FREE_ROWS if a shard refused its
+ * edits: *shard is the number of this shard, from 0. Those before it have theirs, and neither it
+ * nor one behind it has any. Call again with the same edits and the same *shard: it goes on there,
+ * and makes none again. Or set *shard to 0 for another batch.
  *
  * It takes the memory of these lists before it changes a shard; and for each shard the rows and the
  * memory of mst_try_apply.
