@@ -1,11 +1,15 @@
 """A present key, an absent key and a forged proof, by the C library, from Python.
 
-A static library becomes a shared one by
+After `make -C ../bindings`:
+
+    python3 verify.py ../bindings/out/libmst_verifier.so
+
+Or a static library becomes a shared one by
 
     cc -shared -o libmst_verifier.so -Wl,--whole-archive \\
         ../crates/mst_verifier/out/libmst_verifier.a -Wl,--no-whole-archive
 
-and then: python3 verify.py libmst_verifier.so
+and then: python3 verify.py ./libmst_verifier.so
 """
 import ctypes
 import os
