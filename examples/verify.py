@@ -9,7 +9,7 @@ Or a static library becomes a shared one by
     cc -shared -o libmst_verifier.so -Wl,--whole-archive \\
         ../crates/mst_verifier/out/libmst_verifier.a -Wl,--no-whole-archive
 
-and then: python3 verify.py ./libmst_verifier.so
+and then: python3 verify.py libmst_verifier.so
 """
 import ctypes
 import os
