@@ -172,7 +172,7 @@ def expect_format_two(page, pinned):
 
 
 def expect_fields(asker, root):
-    """What can be no question is said beside its field, which gets the focus."""
+    """What can be no question is said next to its field, which gets the focus."""
     questions = {"key": ("k" * 33, root.hex()), "root": ("key", root.hex()[1:])}
     for field, question in questions.items():
         asker.send(*question)
