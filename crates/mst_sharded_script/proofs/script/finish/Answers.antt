@@ -1,4 +1,4 @@
-use Rattle.std.proofs.Common.{rules, vec_items}
+use Rattle.std.proofs.Common.{rules, vec_items, ℕ, List, sym, subst}
 use Rattle.mst_sharded_script.specs.Serving.{Serves}
 use Rattle.mst_devices.proofs.Putting.{map_ok, map_err}
 use Rattle.mst_lines.proofs.Driving.{not_both, nothing_closed, answered_not_closed}
@@ -56,7 +56,21 @@ pub returns-clause-handles : goal.returns-clause-handles
 returns-clause-handles g c = search rules
 
 pub returns-clause-ok : goal.returns-clause-ok
-returns-clause-ok g c = search rules
+returns-clause-ok g c = map_ok c.flush-2.result c.flush-2.ensures.ok (λ taken.
+    let an = c.in_ok-answer_line.ensures.ok in
+    record {
+      text = an.text;
+      rests = record {
+        empty =
+            λ e. absurd (not_both c.is_empty.result (c.is_empty.ensures.1 e) c.if-is_empty.false);
+        reply = λ _. an.reply;
+      };
+      taken =
+          subst (λ (l : List ℕ). g.W.Sink.takes c.args.sink.now l c.flush-2.new.sink)
+          (sym an.puts.rest)
+          (g.met.W.Sink.takes_more c.args.sink.now c.answer_line.new.sink c.flush-2.new.sink
+          an.puts.taken c.answer_line.new.pending an.puts.takes_them taken);
+    })
 
 pub returns-clause-steady : goal.returns-clause-steady
 returns-clause-steady g c = search rules
