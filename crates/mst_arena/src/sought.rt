@@ -84,6 +84,7 @@ fn four_words(bytes: &[u8]) -> [u64; 4]
 
 impl Sought {
     /// The key to be sought.
+    #[inline(always)]
     pub fn new(key: &Key) -> Sought
         ensures key { result ≡ key.now }
     {

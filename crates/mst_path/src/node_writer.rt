@@ -17,6 +17,7 @@ use mst_prefix::TextHasher;
 use std::alloc::Allocator;
 
 /// Takes a free row. There is one.
+#[inline(always)]
 fn take_row<A: Allocator>(desk: &mut Desk<A>) -> u32
     requires room { 0 < free_count desk.old.lives }
     ensures takes { Takes desk.old desk.new (result ∷ []) }
@@ -159,6 +160,8 @@ impl<A: Allocator> NodeWriter<A> {
         ensures beside { StaysBeside R.blank R.kept rows.old rows.new }
     {
         let Some(row) = self.next else { unreachable!() };
+        let from = replaced.unwrap_or(row);
+        self.hasher.move_kept(from, row, self.format);
         self.left -= 1;
         self.next = take_next(desk, self.left);
         let next = match self.next {
@@ -172,10 +175,9 @@ impl<A: Allocator> NodeWriter<A> {
             value: value.copy(),
         };
         rows.write(row, &entry);
-        let from = replaced.unwrap_or(row);
         let (key, value) = (key.bytes(), value.bytes());
         self.hasher
-            .copied_entry(from, row, self.format, digest_at(child), key, value);
+            .copied_entry(self.format, digest_at(child), key, value);
     }
 
     /// Writes the next entry, after the tree at `child`, as a copy of the entry in a row, which has
@@ -210,6 +212,7 @@ impl<A: Allocator> NodeWriter<A> {
         ensures beside { StaysBeside R.blank R.kept rows.old rows.new }
     {
         let Some(to) = self.next else { unreachable!() };
+        self.hasher.move_kept(from, to, self.format);
         self.left -= 1;
         self.next = take_next(desk, self.left);
         let next = match self.next {
@@ -217,9 +220,9 @@ impl<A: Allocator> NodeWriter<A> {
             None => 0,
         };
         let value = rows.copy_entry(from, to, child.link, next);
-        let (key, value) = (entry.key.bytes(), value.bytes());
+        let (key, value_bytes) = (entry.key.bytes(), value.bytes());
         self.hasher
-            .copied_entry(from, to, self.format, digest_at(child), key, value);
+            .copied_entry(self.format, digest_at(child), key, value_bytes);
     }
 
     /// Writes the head, once all entries are written, with the tree at `tail` in the last gap.

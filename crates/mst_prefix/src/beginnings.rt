@@ -74,9 +74,7 @@ pub(crate) struct Beginnings<A: Allocator> {
     front: Front,
     /// What was spelled after the front.
     piece: ArrayVec<u8, LONGEST>,
-    /// The row from which the entry is copied.
-    from: u32,
-    /// The row into which it is written.
+    /// The row into which the entry is written.
     to: u32,
 }
 
@@ -102,7 +100,6 @@ impl<A: Allocator + Copy> Beginnings<A> {
             next: 1,
             front: Front::Taken(None),
             piece: ArrayVec::new(),
-            from: 0,
             to: 0,
         })
     }
@@ -118,25 +115,17 @@ impl<A: Allocator> Beginnings<A> {
         self.piece.clear();
     }
 
-    /// The entry to come is copied from a row to another.
-    pub(crate) fn aim(&mut self, from: u32, to: u32)
-        ensures same { (hasher : Sha256) (m : List ℕ) → TakenWith hasher self.old m
-            → TakenWith hasher self.new m }
-    {
-        self.from = from;
-        self.to = to;
-    }
-
-    /// What is kept for the row from which the entry is copied, is kept for its new row from here
-    /// on. Digests are kept in format 2 alone.
+    /// The entry to come is copied from a row to another: what is kept for the one is kept for the
+    /// other from here on. Digests are kept in format 2 alone.
     #[inline(always)]
-    fn bring(&mut self, format: Format)
+    pub(crate) fn move_kept(&mut self, from: u32, to: u32, format: Format)
         ensures same { (hasher : Sha256) (m : List ℕ) → TakenWith hasher self.old m
             → TakenWith hasher self.new m }
     {
-        self.kept.swap(self.from, self.to);
+        self.to = to;
+        self.kept.swap(from, to);
         if format == Format::Two {
-            self.digests.swap(self.from, self.to);
+            self.digests.swap(from, to);
         }
     }
 
@@ -194,15 +183,25 @@ impl<A: Allocator> Beginnings<A> {
     {
         match format {
             Format::One => is_counted(text, value),
-            Format::Two => match digest_kept(&self.digests, self.to, value) {
-                Some(digest) => is_digest(text, &digest),
-                None => false,
-            },
+            Format::Two => self.is_kept_digest(text, value),
+        }
+    }
+
+    /// Whether a text is the digest of the value, which is kept. It stands apart so that format 1
+    /// prepares no room for a digest.
+    #[inline(never)]
+    fn is_kept_digest(&self, text: &[u8], value: &[u8]) -> bool
+        ensures digest { result ≡ true → text.now ≡ sha256 value.now }
+    {
+        match digest_kept(&self.digests, self.to, value) {
+            Some(digest) => is_digest(text, &digest),
+            None => false,
         }
     }
 
     /// The place of what is kept for the entry's row, if its last piece is what was spelled, and
     /// then the entry.
+    #[inline(always)]
     fn found(
         &self,
         format: Format,
@@ -270,6 +269,7 @@ impl<A: Allocator> Beginnings<A> {
 
     /// Takes an entry if what is kept for its row ends with it: if that has the same front too, it
     /// is not hashed. Otherwise it takes nothing.
+    #[inline(always)]
     pub(crate) fn goes_on(
         &mut self,
         hasher: &mut Sha256,
@@ -287,7 +287,6 @@ impl<A: Allocator> Beginnings<A> {
         ensures same { result ≡ false → (m : List ℕ)
             → TakenWith hasher.old self.old m → TakenWith hasher.new self.new m }
     {
-        self.bring(format);
         let Some(place) = self.found(format, &child, key, value) else {
             return false;
         };

@@ -41,6 +41,9 @@ fn after_words<'a>(text: &'a [u8], bytes: &[u8]) -> Option<&'a [u8]>
         rest = rests.0;
         left = rests.1;
     }
+    if left.is_empty() {
+        return Some(rest);
+    }
     rest.strip_prefix(left)
 }
 

@@ -65,13 +65,25 @@ impl<A: Allocator> TextHasher<A> {
         }
     }
 
-    /// Takes an entry, as [`TextSink::entry`] does. It is copied from a row to another, or written
-    /// anew into a row, which is then both: what is kept for the first is compared with the text up
-    /// to here, and what is kept then is kept for the second.
+    /// The entry to come is copied from a row to another, or written anew into a row, which is then
+    /// both. What is kept for the one is kept for the other from here on.
+    ///
+    /// A writer calls it before it copies the row: then little is held in registers meanwhile.
+    #[inline(always)]
+    pub fn move_kept(&mut self, from: u32, to: u32, format: Format)
+        ensures same { (m : List ℕ) → HasTaken self.old m → HasTaken self.new m }
+    {
+        if let Some(lent) = &mut self.lent {
+            lent.move_kept(from, to, format);
+        }
+    }
+
+    /// Takes an entry, as [`TextSink::entry`] does, which [`TextHasher::move_kept`] told of: what is
+    /// kept for its row is compared with the text up to here, and what is kept then is kept for the
+    /// row.
+    #[inline(always)]
     pub fn copied_entry(
         &mut self,
-        from: u32,
-        to: u32,
         format: Format,
         child: Option<[u8; 32]>,
         key: &[u8],
@@ -83,7 +95,6 @@ impl<A: Allocator> TextHasher<A> {
             → HasTaken self.new (m ++ child_text child ++ counted key.now
             ++ held_text format (held_of format value.now)) }
     {
-        self.aim(from, to);
         if self.goes_on(format, child, key, value) {
             return;
         }
@@ -91,17 +102,9 @@ impl<A: Allocator> TextHasher<A> {
         self.end_piece();
     }
 
-    /// The entry to come is copied from a row to another.
-    fn aim(&mut self, from: u32, to: u32)
-        ensures same { (m : List ℕ) → HasTaken self.old m → HasTaken self.new m }
-    {
-        if let Some(lent) = &mut self.lent {
-            lent.aim(from, to);
-        }
-    }
-
     /// Takes an entry if what is kept for its row is the text that ends with it. Otherwise it takes
     /// nothing.
+    #[inline(always)]
     fn goes_on(&mut self, format: Format, child: Option<[u8; 32]>, key: &[u8], value: &[u8]) -> bool
         requires key { length key.now ≤ 255 }
         requires value { length value.now ≤ 255 }

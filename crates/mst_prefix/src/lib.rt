@@ -8,7 +8,8 @@
 //! let mut kept = LayerBeginnings::new(alloc, 64)?;    // for a table of 64 rows
 //! let mut hasher = kept.hasher(0);                    // of the text of a node of layer 0
 //! hasher.heading(Format::One, 0, 1);                  // it has one entry
-//! hasher.copied_entry(5, 9, Format::One, None, b"apple", b"30");    // copied from row 5 to row 9
+//! hasher.move_kept(5, 9, Format::One);                // copied from row 5 to row 9 is
+//! hasher.copied_entry(Format::One, None, b"apple", b"30");          // this entry
 //! hasher.child(None);                                 // no tree behind it
 //! kept.finish(0, hasher)                              // the digest of that text
 //! ```

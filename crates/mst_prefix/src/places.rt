@@ -1,5 +1,5 @@
 //! Items that are kept for rows.
-ghost use Rattle.std.specs.Prelude.{◌≡◌, [], IfOk, IfSome, IfNone, MatchOption, slice_get, None, Some};
+ghost use Rattle.std.specs.Prelude.{◌≡◌, ◌<◌, [], length, IfOk, IfSome, IfNone, MatchOption, slice_get, None, Some};
 ghost use Rattle.mst_prefix.specs.Places.{IsPutAt};
 
 use mst_key::Memory;
@@ -17,6 +17,8 @@ pub(crate) struct Places<T, A: Allocator> {
     /// For each row the place of its item and one, or 0 for no item.
     numbers: Vec<u16, A>,
     pub(crate) items: Vec<T, A>,
+    /// The place of the item that goes first when there is no room.
+    turn: usize,
 }
 
 impl<T: Drop, A: Allocator + Copy> Places<T, A> {
@@ -30,7 +32,11 @@ impl<T: Drop, A: Allocator + Copy> Places<T, A> {
             numbers.push_reserved(0);
         }
         let items = Vec::with_capacity(alloc, most as usize)?;
-        Ok(Places { numbers, items })
+        Ok(Places {
+            numbers,
+            items,
+            turn: 0,
+        })
     }
 }
 
@@ -60,8 +66,18 @@ impl<T: Drop, A: Allocator> Places<T, A> {
         }
     }
 
-    /// Keeps an item for a row in place of the row's last one, or where there is room; otherwise it
-    /// lets it go. Returns its place.
+    /// Puts an item where another stands.
+    #[inline(always)]
+    fn put_at(&mut self, place: usize, item: T)
+        requires there { place < length self.old.items.items }
+        ensures put { IsPutAt place item self.old.items.items self.new.items.items }
+        ensures rows { self.new.numbers ≡ self.old.numbers }
+    {
+        self.items[place] = item;
+    }
+
+    /// Keeps an item for a row in place of the row's last one, or where there is room, or in place
+    /// of another row's. Returns its place; with no room at all it lets the item go.
     #[inline(always)]
     pub(crate) fn put(&mut self, row: u32, item: T) -> Option<usize>
         ensures put { IfSome result
@@ -70,25 +86,52 @@ impl<T: Drop, A: Allocator> Places<T, A> {
     {
         match self.place_of(row) {
             Some(place) if place < self.items.len() => {
-                self.items[place] = item;
+                self.put_at(place, item);
                 Some(place)
             }
             _ => self.put_new(row as usize, item),
         }
     }
 
-    /// Keeps an item for a row where there is room; otherwise it lets it go. Returns its place.
+    /// Keeps an item for a row where there is room, and otherwise in place of another row's, in
+    /// turn: so what was kept for rows that died does not keep out what is new. The other row then
+    /// finds an item there that is not its own. Returns its place; with no room at all it lets the
+    /// item go.
     fn put_new(&mut self, row: usize, item: T) -> Option<usize>
         ensures put { IfSome result
             (λ place. IsPutAt place item self.old.items.items self.new.items.items) }
         ensures none { IfNone result (self.new.items.items ≡ self.old.items.items) }
     {
-        let place = self.items.len();
-        if row >= self.numbers.len() || place >= self.items.capacity() || place >= MOST {
+        if row >= self.numbers.len() {
             return None;
         }
+        let place = self.items.len();
+        if place < self.items.capacity() && place < MOST {
+            self.numbers[row] = place as u16 + 1;
+            self.items.push_reserved(item);
+            return Some(place);
+        }
+        self.put_in_turn(row, item)
+    }
+
+    /// Keeps an item for a row in place of another row's: each place takes its turn.
+    fn put_in_turn(&mut self, row: usize, item: T) -> Option<usize>
+        requires row { row < length self.old.numbers.items }
+        ensures put { IfSome result
+            (λ place. IsPutAt place item self.old.items.items self.new.items.items) }
+        ensures none { IfNone result (self.new.items.items ≡ self.old.items.items) }
+    {
+        let place = if self.turn < self.items.len() {
+            self.turn
+        } else {
+            0
+        };
+        if place >= self.items.len() || place >= MOST {
+            return None;
+        }
+        self.turn = place + 1;
         self.numbers[row] = place as u16 + 1;
-        self.items.push_reserved(item);
+        self.put_at(place, item);
         Some(place)
     }
 }

@@ -197,9 +197,11 @@ impl<A: Allocator + Copy> Board<A> {
         }
     }
 
-    /// Sets word k of a blank row to `value`: one load, and a store only if another word stands
-    /// there, since a store costs some twenty times as much as a load.
-    fn store_word(&self, seat: &mut Token<A>, row: u32, k: usize, value: u64)
+    /// Sets word k of a blank row to `value`. If it looks first, which is one load, it stores only
+    /// if another word stands there: a store costs some twenty times as much as a load. Where
+    /// almost always another word stands, it need not look.
+    #[inline(always)]
+    fn store_word(&self, seat: &mut Token<A>, row: u32, k: usize, value: u64, looks: bool)
         requires own { seat.old.table_id ≡ self.now }
         requires wide { self.now.words ≡ table_words seat.old.me.0.rows }
         requires blank { IsTrue (is_blank seat.old.me.0 row) }
@@ -213,7 +215,9 @@ impl<A: Allocator + Copy> Board<A> {
         ) }
         ensures room { row_word row 15 < length seat.old.me.0.known_words }
     {
-        if self.word(seat, row, k) != value {
+        if !looks {
+            self.store(seat, row_word(row, k), value);
+        } else if self.word(seat, row, k) != value {
             self.store(seat, row_word(row, k), value);
         }
     }
@@ -238,7 +242,7 @@ impl<A: Allocator + Copy> Board<A> {
             seat.old.me.0.known_words seat.new.me.0.known_words }
     {
         for k in 0..N {
-            self.store_word(seat, row, k, words[k]);
+            self.store_word(seat, row, k, words[k], true);
         }
     }
 
@@ -246,7 +250,7 @@ impl<A: Allocator + Copy> Board<A> {
     /// them 0, as they are in the row that is copied. It returns the words that it copied.
     ///
     /// Each word is stored as soon as it is loaded, so no list of them is filled first and read
-    /// again. The loops have a fixed number of turns and no choice in them: so the compiler lays
+    /// again; it looks first what stands there if it is told to. The loops have a fixed number of turns and no choice in them: so the compiler lays
     /// them out without a loop.
     fn copy_part<const N: usize, const M: usize>(
         &self,
@@ -254,6 +258,7 @@ impl<A: Allocator + Copy> Board<A> {
         from: u32,
         to: u32,
         at: usize,
+        looks: bool,
     ) -> [u64; N]
         requires own { seat.old.table_id ≡ self.now }
         requires wide { self.now.words ≡ table_words seat.old.me.0.rows }
@@ -276,17 +281,17 @@ impl<A: Allocator + Copy> Board<A> {
         for k in 0..N {
             let word = self.word(seat, from, at + k);
             words[k] = word;
-            self.store_word(seat, to, at + k, word);
+            self.store_word(seat, to, at + k, word, looks);
         }
         for k in 0..M {
-            self.store_word(seat, to, at + (N + k), 0);
+            self.store_word(seat, to, at + (N + k), 0, true);
         }
         words
     }
 
     /// Copies the words of an entry's key and value into a blank row, and returns those of the
     /// value. In an entry with a key of 16 bytes and a value of 32, six of them are 0, and not
-    /// loaded.
+    /// loaded, and the others are almost always other words than those of the blank row.
     fn copy_bytes(&self, seat: &mut Token<A>, from: u32, to: u32, lengths: u64) -> [u64; 8]
         requires own { seat.old.table_id ≡ self.now }
         requires wide { self.now.words ≡ table_words seat.old.me.0.rows }
@@ -304,11 +309,13 @@ impl<A: Allocator + Copy> Board<A> {
             seat.old.me.0.known_words seat.new.me.0.known_words }
     {
         if lengths == COMMON_LENGTHS {
-            self.copy_part::<2, 2>(seat, from, to, 4);
-            let [a, b, c, d] = self.copy_part::<4, 4>(seat, from, to, 8);
+            self.copy_part::<2, 2>(seat, from, to, 4, false);
+            let [a, b, c, d] = self.copy_part::<4, 4>(seat, from, to, 8, false);
             [a, b, c, d, 0, 0, 0, 0]
         } else {
-            let [_, _, _, _, a, b, c, d, e, f, g, h] = self.copy_part::<12, 0>(seat, from, to, 4);
+            let [_, _, _, _, a, b, c, d, e, f, g, h] = self.copy_part::<12, 0>(
+                seat, from, to, 4, true,
+            );
             [a, b, c, d, e, f, g, h]
         }
     }

@@ -109,6 +109,7 @@ impl<'a, A: Allocator + Copy> Rows for PassSeat<'a, A> {
         self.store_words(row, &words);
     }
 
+    #[inline(always)]
     fn copy_entry(&mut self, from: u32, to: u32, child: u32, next: u32) -> Value {
         let (lengths, words) = self.copy_words(from, to, child, next);
         match Row::read_value(lengths, &words) {

@@ -91,6 +91,7 @@ impl<A: Allocator + Copy> Board<A> {
     }
 
     // The order of a key and that of an entry: mostly the first word decides, by one load.
+    #[inline(always)]
     fn order(&self, seat: &mut Token<A>, link: usize, key: &Sought) -> Ordering
         requires own { seat.old.table_id ≡ self.now }
         requires wide { self.now.words ≡ table_words seat.old.me.0.rows }

@@ -47,7 +47,7 @@ returns-clause-written g c format es p r v next has_value w root has out =
     (subst (λ (n : ℕ). AllByRecursion (λ x. x ≢ n) ns) (sym row) (out_flip r ns o)) in
     let here : new r ≡ Some (Entry (link_of p) (link_to c.take_next-self.result) k v) =
     ap new (sym row) ∙ writes.here ∙ same_entry _ _ _ _ k v root.link link in
-    let fed = c.copied_entry.ensures.entry _ w.fed in
+    let fed = c.copied_entry.ensures.entry _ (c.move_kept.ensures.same _ w.fed) in
     record {
       format_is = w.format_is;
       counted = omega (arith, w.counted, length-append es (e ∷ []), c.requires.some);
@@ -56,7 +56,7 @@ returns-clause-written g c format es p r v next has_value w root has out =
           (rw (
             c.digest_at.ensures.digest format p root,
             c.bytes-key.ensures.bytes,
-            c.bytes-value.ensures.bytes,
+            c.bytes-value_bytes.ensures.bytes,
             read,
             w.format_is,
           ) at fed);
@@ -114,7 +114,11 @@ returns-clause-writer g c =
       few = writer.few;
       small = grind (arith, elements);
       reserved = c.take_next-self.ensures.ahead;
-      hashes = (_, c.copied_entry.ensures.entry writer.hashes.0 writer.hashes.1);
+      hashes = (
+        _,
+        c.copied_entry.ensures.entry writer.hashes.0
+            (c.move_kept.ensures.same writer.hashes.0 writer.hashes.1),
+      );
     }
 
 pub returns-clause-node : goal.returns-clause-node

@@ -41,7 +41,7 @@ returns-clause-written g c format es p r next w root has out =
     let here : new r ≡ Some (Entry (link_of p) (link_to c.take_next-self.result) k v) =
     ap new (sym row) ∙ c.write.ensures.writes.here ∙ same_entry _ _ _ _ _ _ _ _ root.link link
     c.copy.ensures.same c.copy-2.ensures.same in
-    let fed = c.copied_entry.ensures.entry _ w.fed in
+    let fed = c.copied_entry.ensures.entry _ (c.move_kept.ensures.same _ w.fed) in
     record {
       format_is = w.format_is;
       counted = omega (arith, w.counted, length-append es (e ∷ []), c.requires.some);
@@ -92,7 +92,11 @@ returns-clause-writer g c =
       few = writer.few;
       small = grind (arith, elements);
       reserved = c.take_next-self.ensures.ahead;
-      hashes = (_, c.copied_entry.ensures.entry writer.hashes.0 writer.hashes.1);
+      hashes = (
+        _,
+        c.copied_entry.ensures.entry writer.hashes.0
+            (c.move_kept.ensures.same writer.hashes.0 writer.hashes.1),
+      );
     }
 
 pub returns-clause-node : goal.returns-clause-node

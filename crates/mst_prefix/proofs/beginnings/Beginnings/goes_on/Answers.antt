@@ -7,7 +7,6 @@ use Rattle.mst_prefix.proofs.beginnings.Beginnings.goes_on.Goals as goal
 
 pub returns-then-not-follows-clause-entry : goal.returns-then-not-follows-clause-entry
 returns-then-not-follows-clause-entry g c = λ yes m before.
-    let taken = c.bring.ensures.same c.args.hasher.now m before in
     let found = c.in-Some.ensures.found in
     let child = child_text c.args.child in
     let key = counted c.args.key.now in
@@ -15,24 +14,23 @@ returns-then-not-follows-clause-entry g c = λ yes m before.
     subst (λ t. TakenWith c.renew_at.new.hasher c.renew_at.new.self t)
     (sym (grouped m child key held))
     (c.renew_at.ensures.entry yes m (child ++ key ++ held) found.0 found.1
-    (found.2 ∙ grouped c.bring.new.self.piece.items child key held) taken)
+    (found.2 ∙ grouped c.args.self.now.piece.items child key held) before)
 
 pub returns-clause-entry : goal.returns-clause-entry
 returns-clause-entry g c = λ yes m before.
-    let taken = c.bring.ensures.same c.args.hasher.now m before in
-    let kept = taken.1 in
+    let kept = before.1 in
     let found = c.in-Some.ensures.found in
     let follows : c.follows.result ≡ true = search rules in
-    let named = c.follows.ensures.follows follows taken.0 c.args.hasher.now taken.2 found.0 kept
-    taken.3 found.1 in
-    let whole : List ℕ = taken.2 ++ found.0.piece.items in (
-      taken.0,
+    let named = c.follows.ensures.follows follows before.0 c.args.hasher.now before.2 found.0 kept
+    before.3 found.1 in
+    let whole : List ℕ = before.2 ++ found.0.piece.items in (
+      before.0,
       record { some = kept.some; empty = kept.empty; beginnings = kept.beginnings },
       whole,
       (found.0, found.1, named),
-      after_front m taken.2 c.bring.new.self.piece.items (child_text c.args.child)
+      after_front m before.2 c.args.self.now.piece.items (child_text c.args.child)
           (counted c.args.key.now)
           (held_text c.args.format (held_of c.args.format c.args.value.now))
-          found.0.piece.items taken.4 found.2
+          found.0.piece.items before.4 found.2
           ∙ sym (append-nil whole) ∙ ap (λ (xs : List ℕ). whole ++ xs) (sym c.clear.ensures),
     )

@@ -13,8 +13,15 @@ word-requires-clause-readable g c = blank_may c.args.seat.now.me.0 c.args.row c.
 
 pub store-requires-clause-writable : goal.store-requires-clause-writable
 store-requires-clause-writable g c =
-    subst (λ (i : ℕ). IsWritable (stored c.word.new.seat.me.0.format) c.word.new.seat.me.0 i)
+    subst (λ (i : ℕ). IsWritable (stored c.args.seat.now.me.0.format) c.args.seat.now.me.0 i)
     (sym c.row_word.ensures.place)
+    (writable c.args.seat.now.me.0 c.args.row c.args.k c.requires.blank c.requires.there)
+
+pub store-requires-then-word-value-clause-writable :
+    goal.store-requires-then-word-value-clause-writable
+store-requires-then-word-value-clause-writable g c =
+    subst (λ (i : ℕ). IsWritable (stored c.word.new.seat.me.0.format) c.word.new.seat.me.0 i)
+    (sym c.row_word-then-word-value.ensures.place)
     (subst (λ (z : Me (Option lives.State) View). IsWritable (stored z.0.format) z.0
     (row_word c.args.row c.args.k))
     (sym c.word.ensures.same.2)
