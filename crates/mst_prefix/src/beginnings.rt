@@ -89,14 +89,19 @@ fn copy_of(hash: &Sha256) -> Sha256
 }
 
 impl<A: Allocator + Copy> Beginnings<A> {
-    /// Room for `most` beginnings and `most` digests of values in this many rows. Returns `Memory`
-    /// if a growth was refused; no later call takes memory.
-    pub(crate) fn new(alloc: A, rows: u32, most: u16) -> Result<Beginnings<A>, Memory>
+    /// Room for `texts` beginnings and `digests` digests of values in this many rows. Returns
+    /// `Memory` if a growth was refused; no later call takes memory.
+    pub(crate) fn new(
+        alloc: A,
+        rows: u32,
+        texts: u16,
+        digests: u16,
+    ) -> Result<Beginnings<A>, Memory>
         ensures sound { IfOk result (λ b. (texts : ℕ → List ℕ) × AreKept texts b) }
     {
         Ok(Beginnings {
-            kept: Places::new(alloc, rows, most)?,
-            digests: Places::new(alloc, rows, most)?,
+            kept: Places::new(alloc, rows, texts)?,
+            digests: Places::new(alloc, rows, digests)?,
             next: 1,
             front: Front::Taken(None),
             piece: ArrayVec::new(),

@@ -36,31 +36,41 @@ impl<A: Allocator> Model for LayerBeginnings<A> {
         × AreSound b.higher };
 }
 
-/// Room for beginnings, a number of sixteenths of the rows.
+/// A number of 32nds of the rows.
+fn part_of(rows: u32, parts: u32) -> u16
+    requires part { parts ≤ 32 }
+{
+    (rows.min(MOST_ROWS) * parts / 32) as u16
+}
+
+/// Room for a layer's beginnings and digests of values, each a number of 32nds of the rows.
 fn room<A: Allocator + Copy>(
     alloc: A,
     rows: u32,
-    sixteenths: u32,
+    texts: u32,
+    digests: u32,
 ) -> Result<Option<Box<Beginnings<A>, A>>, Memory>
-    requires part { sixteenths ≤ 16 }
+    requires texts { texts ≤ 32 }
+    requires digests { digests ≤ 32 }
     ensures sound { IfOk result (λ b. AreSound b) }
 {
-    let most = (rows.min(MOST_ROWS) / 16 * sixteenths) as u16;
-    Ok(Some(Box::new(alloc, Beginnings::new(alloc, rows, most)?)?))
+    let texts = part_of(rows, texts);
+    let digests = part_of(rows, digests);
+    Ok(Some(Box::new(alloc, Beginnings::new(alloc, rows, texts, digests)?)?))
 }
 
 impl<A: Allocator + Copy> LayerBeginnings<A> {
     /// Nothing kept yet, for so many rows. Returns `Memory` if a growth was refused; no later call
     /// takes memory.
     ///
-    /// Three in four keys of a map are of the lowest layer in format 2, and more in format 1, so
-    /// that layer has most of the room.
+    /// With most rows there is room for all entries of 30,000 keys: 15 in 16 keys of a map are of
+    /// the lowest layer in format 1, and three in four in format 2, which alone keeps digests.
     pub fn new(alloc: A, rows: u32) -> Result<LayerBeginnings<A>, Memory> {
         Ok(LayerBeginnings {
-            lowest: room(alloc, rows, 8)?,
-            second: room(alloc, rows, 2)?,
-            third: room(alloc, rows, 1)?,
-            higher: room(alloc, rows, 1)?,
+            lowest: room(alloc, rows, 14, 11)?,
+            second: room(alloc, rows, 3, 3)?,
+            third: room(alloc, rows, 1, 1)?,
+            higher: room(alloc, rows, 1, 1)?,
         })
     }
 }
