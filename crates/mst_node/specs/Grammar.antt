@@ -6,7 +6,7 @@ use Rattle.mst_key.specs.declared.format.Format.TheVariants.{One, Two}
 use Rattle.mst_key.specs.Bytes.{IsBytes, IsKey, IsValue}
 use Rattle.mst_key.specs.Layer.{layer_in}
 use Rattle.mst_key.specs.Map.{Pair, IsAscending}
-use Rattle.mst_node.specs.Text.{FlatEntry, FlatNode, spelling}
+use Rattle.mst_node.specs.Text.{FlatEntry, FlatNode, spelling, highest_count}
 
 -- a digest has 32 bytes
 pub record IsDigest (d : List ℕ) : Type 0 where
@@ -37,7 +37,7 @@ pub record KeysFit (n : FlatNode) : Type 0 where
 -- a flat node that has a text in the grammar
 pub record IsFlatNode (n : FlatNode) : Type 0 where
   pub some : 0 < length n.entries
-  pub few : length n.entries ≤ 65535
+  pub few : length n.entries ≤ highest_count
   pub entries : AllByRecursion (IsFlatEntry n.format) n.entries
   pub tail : IfSome n.tail IsDigest
   pub keys : KeysFit n

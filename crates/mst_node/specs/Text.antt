@@ -54,6 +54,10 @@ told_text (Some digest) value = digest
 abbrev pub entry_text : Format → FlatEntry → List ℕ
 entry_text format e = child_text e.child ++ counted e.key ++ held_text format e.held
 
+-- the highest count in two bytes: no text gives a node more entries
+abbrev pub highest_count : ℕ
+highest_count = 65535
+
 -- what stands in front of the entries: the version, the layer, and the number of entries in two
 -- bytes, the high one first
 abbrev pub heading : Format → ℕ → ℕ → List ℕ

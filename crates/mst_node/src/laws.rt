@@ -9,7 +9,7 @@ ghost use Rattle.mst_node.specs.Collision.{HasCollision};
 ghost use Rattle.mst_node.specs.Reading.{node_at};
 ghost use Rattle.mst_node.specs.Tree.{Tree, empty, node, Entries, layers, greatest, entries_of, tree, pairs, nodes_below, IsMst};
 ghost use Rattle.mst_node.specs.Gaps.{LayersFall, LiesBetween};
-ghost use Rattle.mst_node.specs.Text.{FlatNode, spelling, text, digest_of};
+ghost use Rattle.mst_node.specs.Text.{FlatNode, spelling, text, digest_of, highest_count};
 ghost use Rattle.mst_node.specs.Grammar.{IsFlatNode, InGrammar, KeysFit};
 ghost use Rattle.mst_node.specs.Cost.{subtrees};
 ghost use Rattle.mst_node.specs.Stays.{held};
@@ -53,7 +53,7 @@ pub fn one_text()
     // Every subtree of a map's tree is such a tree.
     ensures in_grammar { (format : Format) (t : Tree) → IsMst format t → IsMap (pairs t)
         → AllByRecursion (λ p. IsBytes p.0 × IsBytes p.1) (pairs t) → 0 < length (pairs t)
-        → length (pairs t) ≤ 65535 → InGrammar format (text t) }
+        → length (pairs t) ≤ highest_count → InGrammar format (text t) }
 {}
 
 /// A text is read as the flat node that it spells, if its keys fit, and as none exactly if it is

@@ -5,7 +5,7 @@ ghost use Rattle.mst_key.specs.declared.format.Format.TheVariants.{One};
 ghost use Rattle.mst_key.specs.Layer.{layer_in};
 ghost use Rattle.mst_key.specs.Map.{Pair};
 ghost use Rattle.mst_node.specs.Tree.{tree};
-ghost use Rattle.mst_node.specs.Text.{digest, child_digest as digest_of_child, root as root_digest};
+ghost use Rattle.mst_node.specs.Text.{digest, child_digest as digest_of_child, root as root_digest, highest_count};
 ghost use Rattle.mst_node.specs.Top.{IsTop};
 
 use crate::hashing::empty_digest;
@@ -30,7 +30,7 @@ impl Top {
 
     /// Of the same pairs and one more, whose key has this layer.
     fn with(self, layer: u8) -> Top
-        requires few { self.count < 65535 }
+        requires few { self.count < highest_count }
         ensures top { (format : Format) (m : List Pair) (p : Pair) → IsTop format m self
             → layer_in format p.0 ≡ layer
             → IsTop format (m ++ p ∷ []) result }
@@ -49,7 +49,7 @@ impl Top {
 
     /// Of these pairs.
     fn of(format: Format, pairs: &[(Key, Value)]) -> Top
-        requires few { length pairs.now ≤ 65535 }
+        requires few { length pairs.now ≤ highest_count }
         ensures top { IsTop format pairs.now result }
     {
         let mut top = Top::none();
@@ -63,7 +63,7 @@ impl Top {
 /// The digest of the tree of a gap's pairs, whose top is known, if there are any.
 #[cycle(root)]
 fn gap_digest(format: Format, pairs: &[(Key, Value)], top: Top) -> Option<[u8; 32]>
-    requires few { length pairs.now ≤ 65535 }
+    requires few { length pairs.now ≤ highest_count }
     requires top { IsTop format pairs.now top }
     ensures digest { result ≡ digest_of_child (tree format pairs.now) }
 {
@@ -79,7 +79,7 @@ fn gap_digest(format: Format, pairs: &[(Key, Value)], top: Top) -> Option<[u8; 3
 #[cycle(root)]
 fn digest_of(format: Format, pairs: &[(Key, Value)], top: Top) -> [u8; 32]
     requires some { 0 < length pairs.now }
-    requires few { length pairs.now ≤ 65535 }
+    requires few { length pairs.now ≤ highest_count }
     requires top { IsTop format pairs.now top }
     ensures digest { result ≡ digest (tree format pairs.now) }
 {
@@ -109,7 +109,7 @@ fn digest_of(format: Format, pairs: &[(Key, Value)], top: Top) -> [u8; 32]
 /// key is hashed once to find the top node, and once for each node in whose span it lies; nothing
 /// is fed twice. Calls nest no deeper than the layers, at most 65.
 pub fn root_of(pairs: &[(Key, Value)]) -> [u8; 32]
-    requires few { length pairs.now ≤ 65535 }
+    requires few { length pairs.now ≤ highest_count }
     ensures root { result ≡ root_digest One pairs.now }
 {
     root_of_in(Format::One, pairs)
@@ -118,7 +118,7 @@ pub fn root_of(pairs: &[(Key, Value)]) -> [u8; 32]
 /// The root digest of the map of these pairs in a format, as `root_of` is in format 1. Calls nest
 /// no deeper than the layers, at most 129 in format 2.
 pub fn root_of_in(format: Format, pairs: &[(Key, Value)]) -> [u8; 32]
-    requires few { length pairs.now ≤ 65535 }
+    requires few { length pairs.now ≤ highest_count }
     ensures root { result ≡ root_digest format pairs.now }
 {
     match gap_digest(format, pairs, Top::of(format, pairs)) {

@@ -3,7 +3,7 @@ ghost use Rattle.std.specs.Prelude.{◌≡◌, ◌≤◌, length, IfOk};
 ghost use Rattle.mst_key.specs.declared.format.Format.TheVariants.{One};
 ghost use Rattle.mst_node.specs.Tree.{pairs};
 ghost use Rattle.mst_node.specs.Shape.{tree_of, tree_of_child};
-ghost use Rattle.mst_node.specs.Text.{child_digest as digest_of_child};
+ghost use Rattle.mst_node.specs.Text.{child_digest as digest_of_child, highest_count};
 ghost use Rattle.mst_node.specs.Text as spec;
 
 use crate::node::Node;
@@ -15,7 +15,7 @@ use std::alloc::Allocator;
 /// The digest of a child, if it is there.
 #[cycle(digest)]
 fn child_digest<A: Allocator>(format: Format, child: &Option<Box<Node<A>, A>>) -> Option<[u8; 32]>
-    requires few { length (pairs (tree_of_child format child.now)) ≤ 65535 }
+    requires few { length (pairs (tree_of_child format child.now)) ≤ highest_count }
     ensures digest { result ≡ digest_of_child (tree_of_child format child.now) }
 {
     match child {
@@ -27,7 +27,7 @@ fn child_digest<A: Allocator>(format: Format, child: &Option<Box<Node<A>, A>>) -
 /// The digest of a node's text, which is fed piece by piece and takes no memory.
 #[cycle(digest)]
 fn node_digest<A: Allocator>(format: Format, node: &Node<A>) -> [u8; 32]
-    requires few { length (pairs (tree_of format node.now)) ≤ 65535 }
+    requires few { length (pairs (tree_of format node.now)) ≤ highest_count }
     ensures digest { result ≡ spec.digest (tree_of format node.now) }
 {
     let mut hasher = Sha256::new();
@@ -51,7 +51,7 @@ fn node_digest<A: Allocator>(format: Format, node: &Node<A>) -> [u8; 32]
 /// The node is one of a tree of at most 65,535 pairs. Returns `Memory` only if a growth was
 /// refused. The work is linear in the pairs below the node.
 pub fn text<A: Allocator>(alloc: A, node: &Node<A>) -> Result<Vec<u8, A>, Memory>
-    requires few { length (pairs (tree_of One node.now)) ≤ 65535 }
+    requires few { length (pairs (tree_of One node.now)) ≤ highest_count }
     ensures text { IfOk result (λ t. t.items ≡ spec.text (tree_of One node.now)) }
 {
     text_in(alloc, Format::One, node)
@@ -63,7 +63,7 @@ pub fn text<A: Allocator>(alloc: A, node: &Node<A>) -> Result<Vec<u8, A>, Memory
 /// The node is one of a tree of at most 65,535 pairs. Returns `Memory` only if a growth was
 /// refused. The work is linear in the pairs below the node.
 pub fn text_in<A: Allocator>(alloc: A, format: Format, node: &Node<A>) -> Result<Vec<u8, A>, Memory>
-    requires few { length (pairs (tree_of format node.now)) ≤ 65535 }
+    requires few { length (pairs (tree_of format node.now)) ≤ highest_count }
     ensures text { IfOk result (λ t. t.items ≡ spec.text (tree_of format node.now)) }
 {
     let mut out = TextBuffer::new(alloc);
