@@ -2,6 +2,7 @@
 use Rattle.std.specs.Prelude.{◌≡◌, ◌≢◌, ◌≤◌, ◌<◌, ◌+◌, ◌*◌, ◌/◌, ◌%◌, ℕ, Bool, eqb, List, length, map, count_by, slice_index}
 use Rattle.std.specs.Int.{bit_at}
 use Rattle.std.specs.List.{range_with_len}
+use Rattle.mst_arena.specs.Limits.{most_rows}
 
 -- bit i of words, 64 a word, the lowest of each word first; a bit past the end is 0
 abbrev pub bit : List ℕ → ℕ → ℕ
@@ -30,10 +31,10 @@ pub record Sums (words summary : List ℕ) : Type 0 where
 -- what a set of rows keeps
 pub record IsSet (rows count at : ℕ) (words summary : List ℕ) (words_cap summary_cap : ℕ) : Type 0
   where
-    pub few : rows ≤ 65535
+    pub few : rows ≤ most_rows
     pub room : rows ≤ 64 * length words
-    pub few_words : length words ≤ 65535
-    pub few_sums : length summary ≤ 65535
+    pub few_words : length words ≤ most_rows
+    pub few_sums : length summary ≤ most_rows
     pub cursor : at < length words
     pub beyond : (r : ℕ) → rows ≤ r → bit words r ≡ 0
     pub sums : Sums words summary

@@ -1,3 +1,4 @@
+pub mod Limits
 pub mod Row
 pub mod Words
 pub mod Ways

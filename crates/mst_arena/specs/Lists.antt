@@ -3,6 +3,7 @@ use Rattle.std.specs.Prelude.{◌≡◌, ◌≤◌, ◌<◌, ◌+◌, ◌^◌, �
 use Rattle.std.specs.List.{list_any}
 use Rattle.mst_arena.specs.declared.life.Life.{Life}
 use Rattle.mst_arena.specs.declared.life.Life.TheVariants.{Free, Born, Dead}
+use Rattle.mst_arena.specs.Limits.{most_rows}
 use Rattle.mst_arena.specs.Lives.{is_free, reaches_life, swept_life}
 
 abbrev pub is_dead : Life → Bool
@@ -60,7 +61,7 @@ pub record IsDesk (current : ℕ) (versions : List ℕ) (lives : List Life) (fre
     (dead held last : List ℕ) (versions_cap lives_cap dead_cap held_cap last_cap : ℕ) : Type 0 where
   pub there : current < length versions
   pub small : slice_index versions current < 2 ^ 63
-  pub few : length lives ≤ 65535
+  pub few : length lives ≤ most_rows
   pub free_rows : free ≡ map is_free lives
   pub dead_rows : Lists is_dead lives (dead ++ held)
   pub reached : AllReached last lives held

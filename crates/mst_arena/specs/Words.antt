@@ -2,6 +2,7 @@
 use Rattle.std.specs.Prelude.{ℕ, ◌+◌, ◌*◌, ◌/◌, ◌%◌, Bool, ◌==◌, nat_le, nat_lt, ◌&&◌, if◌then◌else◌, List, [], ◌∷◌, length, take, flat_map, slice_index, slice_range, Option, Some, None, option_and_then}
 use Rattle.std.specs.Int.{w64, from_be_bytes, to_be_bytes}
 use Rattle.std.specs.Str.{bytes_eq as same_words}
+use Rattle.mst_arena.specs.Limits.{highest_link, most_entries}
 use Rattle.mst_arena.specs.declared.row.Root.{Root}
 use Rattle.mst_arena.specs.declared.row.Row.{Row}
 use Rattle.mst_arena.specs.declared.row.Row.TheVariants.{Entry, Head}
@@ -65,11 +66,12 @@ candidate words = if slice_index words 0 == 1 then entry_in words else head_in w
 -- of a digest
 abbrev pub has_limits : Row → Bool
 has_limits (Entry child next key value) =
-    nat_le child 65535 && nat_le next 65535
+    nat_le child highest_link && nat_le next highest_link
     && nat_lt 0 (length key) && nat_le (length key) 32 && nat_le (length value) 64
 has_limits (Head layer count first tail digest) =
-    nat_le layer 128 && nat_lt 0 count && nat_le count 65534
-    && nat_lt 0 first && nat_le first 65535 && nat_le tail 65535 && length digest == 32
+    nat_le layer 128 && nat_lt 0 count && nat_le count most_entries
+    && nat_lt 0 first && nat_le first highest_link && nat_le tail highest_link
+    && length digest == 32
 
 -- the row that sixteen words spell: the only one that they may be of, if it is within its limits
 -- and has exactly these words

@@ -1,5 +1,6 @@
 //! The desk: births and deaths of rows, and the version of each record.
 ghost use Rattle.std.specs.Prelude.{◌≡◌, ◌≢◌, ◌≤◌, ◌<◌, ◌+◌, ℕ, List, [], length, map, replicate, vec_capacity, IfOk, IfSome, IfNone, MatchResult, Some, slice_get, slice_set, slice_index};
+ghost use Rattle.mst_arena.specs.Limits.{most_rows};
 ghost use Rattle.mst_arena.specs.Lives.{State, version, next, last_version, free_count, swept_life, ended_life, with_life};
 ghost use Rattle.sha2.specs.Sha256.{sha256};
 ghost use Rattle.mst_prefix.specs.Kept.{HasTaken};
@@ -91,7 +92,7 @@ impl<A: Allocator + Copy> Desk<A> {
     /// Returns `Memory` if a growth was refused. No later call takes memory.
     pub fn new(alloc: A, rows: u32, records: u32, first: u64) -> Result<Desk<A>, Memory>
         requires some_rows { 0 < rows }
-        requires few_rows { rows ≤ 65535 }
+        requires few_rows { rows ≤ most_rows }
         requires some_records { 2 ≤ records }
         requires few_records { records ≤ 34 }
         requires first { first ≤ last_version }
@@ -157,7 +158,7 @@ impl<A: Allocator> Desk<A> {
     /// How many rows are free. A desk has at most 65,535 rows.
     pub fn free(&self) -> u32
         ensures count { result ≡ free_count self.now.lives }
-        ensures few { length self.now.lives ≤ 65535 }
+        ensures few { length self.now.lives ≤ most_rows }
     {
         self.free.count()
     }

@@ -1,6 +1,7 @@
 //! The free rows: a bitmap of two levels, from which rows are handed out upwards.
 ghost use Rattle.std.specs.Prelude.{◌≡◌, ◌≤◌, ◌<◌, vec_capacity, true, false, Some, replicate, slice_get, slice_set, IfOk, IfSome, IfNone};
 ghost use Rattle.mst_arena.specs.Bits.{count_true};
+ghost use Rattle.mst_arena.specs.Limits.{most_rows};
 
 use crate::bits::{bit_in_use, put_bit, take_bit};
 use mst_key::Memory;
@@ -48,7 +49,7 @@ impl<A: Allocator + Copy> FreeRows<A> {
     /// All of so many rows.
     pub fn new(alloc: A, rows: u32) -> Result<FreeRows<A>, Memory>
         requires some { 0 < rows }
-        requires few { rows ≤ 65535 }
+        requires few { rows ≤ most_rows }
         ensures ok { IfOk result (λ s. s ≡ replicate rows true) }
     {
         let count = (rows as usize).div_ceil(64);

@@ -41,6 +41,6 @@ pub use desk::{Desk, VersionsSpent};
 pub use laws::{life_laws, standing_laws, words_laws};
 pub use life::Life;
 pub use plain::PlainRows;
-pub use row::{EntryLinks, HeadLinks, Links, Root, Row};
+pub use row::{EntryLinks, HIGHEST_LINK, HeadLinks, Links, MOST_ENTRIES, MOST_ROWS, Root, Row};
 pub use rows::Rows;
 pub use sought::{Sought, Stop, Way};

@@ -1,5 +1,6 @@
 //! Rows in the memory of one thread.
 ghost use Rattle.std.specs.Prelude.{◌≡◌, ◌≤◌, ◌<◌, None, IfOk, replicate};
+ghost use Rattle.mst_arena.specs.Limits.{most_rows};
 
 use crate::row::{EntryLinks, HeadLinks, Row};
 use crate::rows::Rows;
@@ -34,7 +35,7 @@ impl<A: Allocator> PlainRows<A> {
     /// Returns `Memory` if a growth was refused.
     pub fn new(alloc: A, rows: u32) -> Result<PlainRows<A>, Memory>
         requires some { 0 < rows }
-        requires few { rows ≤ 65535 }
+        requires few { rows ≤ most_rows }
         ensures ok { IfOk result (λ p. p ≡ replicate rows None) }
     {
         let mut places = Vec::with_capacity(alloc, rows as usize)?;

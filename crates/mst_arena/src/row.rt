@@ -4,6 +4,15 @@ ghost use Rattle.mst_arena.specs.Row.{IsRow};
 
 use mst_key::{Key, Value};
 
+/// The most rows of an arena: the link to a row, its number plus 1, has 16 bits.
+pub const MOST_ROWS: u32 = 65_535;
+
+/// The highest link: that to the last of the most rows.
+pub const HIGHEST_LINK: u32 = MOST_ROWS;
+
+/// The most entries of a node: each takes a row, and the head of the node one more.
+pub const MOST_ENTRIES: u32 = 65_534;
+
 /// A row: an entry of a node, or the head of a node.
 ///
 /// A link is a row number plus 1, and 0 is none. Links are at most 65,535.
@@ -106,7 +115,7 @@ impl Row {
         ensures limits { result ≡ true ↔ IsRow self.now }
     {
         match self {
-            Row::Entry { child, next, .. } => *child <= 65_535 && *next <= 65_535,
+            Row::Entry { child, next, .. } => *child <= HIGHEST_LINK && *next <= HIGHEST_LINK,
             Row::Head {
                 layer,
                 count,
@@ -115,9 +124,9 @@ impl Row {
                 ..
             } => {
                 *layer <= 128
-                    && (1..=65_534).contains(count)
-                    && (1..=65_535).contains(first)
-                    && *tail <= 65_535
+                    && (1..=MOST_ENTRIES).contains(count)
+                    && (1..=HIGHEST_LINK).contains(first)
+                    && *tail <= HIGHEST_LINK
             }
         }
     }

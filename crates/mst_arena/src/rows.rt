@@ -1,6 +1,7 @@
 //! Rows that a holder may read and write.
 ghost use Rattle.std.specs.Prelude.{◌≡◌, ◌≤◌, ◌<◌, ◌++◌, ◌∷◌, [], IsTrue, IsSome, IfSome, Some, length, vec_capacity};
 ghost use Rattle.mst_key.specs.Map.{Pair};
+ghost use Rattle.mst_arena.specs.Limits.{highest_link};
 ghost use Rattle.mst_arena.specs.Row.{IsRow, IsHead, head_links, head_digest, entry_links, entry_ends, entry_pair, entry_value};
 ghost use Rattle.mst_arena.specs.Content.{part_at, Writes, relinked};
 ghost use Rattle.mst_arena.specs.Ways.{entry_way, stop_from};
@@ -51,8 +52,8 @@ pub trait Rows {
     fn copy_entry(&mut self, from: u32, to: u32, child: u32, next: u32) -> Value
         requires there { IsSome (part_at entry_links (content self.old) from) }
         requires blank { IsTrue (blank self.old to) }
-        requires child { child ≤ 65535 }
-        requires next { next ≤ 65535 }
+        requires child { child ≤ highest_link }
+        requires next { next ≤ highest_link }
         ensures writes { IfSome (content self.old from)
             (λ entry. Writes (content self.old) (content self.new) to (relinked child next entry)) }
         ensures value { part_at entry_value (content self.old) from ≡ Some result }

@@ -1,6 +1,7 @@
 //! The sixteen words of a row.
 ghost use Rattle.std.specs.Prelude.{[], ◌∷◌, ◌≡◌, ◌≢◌, ◌<◌, ◌≤◌, ◌+◌, ◌*◌, length, slice_index, Some, IsSome, IfSome, IfNone};
 ghost use Rattle.mst_arena.specs.declared.row.Row.{Row};
+ghost use Rattle.mst_arena.specs.Limits.{highest_link};
 ghost use Rattle.mst_arena.specs.Row.{IsRow, HasBytes};
 ghost use Rattle.mst_arena.specs.Words.{word_from, words_of, bytes_in, row_in, root_in};
 
@@ -248,7 +249,7 @@ impl Root {
 
     /// The root of five words, of which the first is a link, at most 65,535.
     pub fn read(words: &[u64; 5]) -> Root
-        requires link { slice_index words.now 0 ≤ 65535 }
+        requires link { slice_index words.now 0 ≤ highest_link }
         ensures root { result ≡ root_in words.now }
     {
         let [link, first, second, third, last] = *words;
