@@ -19,6 +19,22 @@ eight_from bytes i =
 unfoldable pub word_from : List ℕ → ℕ → ℕ
 word_from bytes i = from_be_bytes w64 (eight_from bytes i)
 
+-- the word of an entry that has the lengths of its key and of its value
+abbrev pub lengths_word : ℕ
+lengths_word = 3
+
+-- the first of the four words of an entry's key
+abbrev pub first_key_word : ℕ
+first_key_word = 4
+
+-- the first of the eight words of an entry's value
+abbrev pub first_value_word : ℕ
+first_value_word = 8
+
+-- the first of the four words of a head's digest
+abbrev pub first_digest_word : ℕ
+first_digest_word = 5
+
 -- the sixteen words of a row: bytes are packed eight a word, and words that are not needed are 0
 abbrev pub words_of : Row → List ℕ
 words_of (Entry child next key value) =
@@ -46,8 +62,9 @@ abbrev pub entry_in : List ℕ → Row
 entry_in words = Entry
     (slice_index words 1)
     (slice_index words 2)
-    (take (slice_index words 3 % 256) (bytes_in (slice_range words 4 8)))
-    (take (slice_index words 3 / 256) (bytes_in (slice_range words 8 16)))
+    (take (slice_index words lengths_word % 256)
+    (bytes_in (slice_range words first_key_word first_value_word)))
+    (take (slice_index words lengths_word / 256) (bytes_in (slice_range words first_value_word 16)))
 
 -- the head whose parts stand in these words
 abbrev pub head_in : List ℕ → Row
@@ -56,7 +73,7 @@ head_in words = Head
     (slice_index words 2)
     (slice_index words 3)
     (slice_index words 4)
-    (bytes_in (slice_range words 5 9))
+    (bytes_in (slice_range words first_digest_word (first_digest_word + 4)))
 
 -- the only row that words may be of: an entry if the first of them is 1, and otherwise a head
 abbrev pub candidate : List ℕ → Row

@@ -1,9 +1,9 @@
 //! The parts of a row, each from the words that it stands in. The sixteen words are counted from 0.
-ghost use Rattle.std.specs.Prelude.{◌≡◌, ◌≤◌, ◌<◌, ◌/◌, ◌%◌, ◌^◌, ◌↔◌, ℕ, List, map, take, slice_index, slice_range, Some, IsSome, IfSome, IsOk, IfOk};
+ghost use Rattle.std.specs.Prelude.{◌≡◌, ◌≤◌, ◌<◌, ◌+◌, ◌/◌, ◌%◌, ◌^◌, ◌↔◌, ℕ, List, map, take, slice_index, slice_range, Some, IsSome, IfSome, IsOk, IfOk};
 ghost use Rattle.mst_key.specs.Bytes.{IsKey, IsValue};
 ghost use Rattle.std.specs.List.{range_with_len};
 ghost use Rattle.mst_arena.specs.Row.{head_links, head_digest, entry_links, entry_pair, entry_value};
-ghost use Rattle.mst_arena.specs.Words.{byte_of_words, bytes_in, part_in};
+ghost use Rattle.mst_arena.specs.Words.{byte_of_words, bytes_in, part_in, lengths_word, first_key_word, first_value_word, first_digest_word};
 
 use crate::row::{EntryLinks, HeadLinks, Row};
 use mst_key::{Key, KeySize, Value, ValueSize};
@@ -139,7 +139,8 @@ impl Row {
     /// The digest of a head, from words 5 to 8 of its sixteen: all their bytes.
     pub fn read_digest(words: &[u64; 4]) -> [u8; 32]
         ensures bytes { result ≡ bytes_in words.now }
-        ensures part { (all : List ℕ) → words.now ≡ slice_range all 5 9
+        ensures part { (all : List ℕ)
+            → words.now ≡ slice_range all first_digest_word (first_digest_word + 4)
             → IsSome (part_in head_digest all) → part_in head_digest all ≡ Some result }
     {
         bytes_of_four(words)
@@ -152,8 +153,8 @@ impl Row {
     pub fn read_value(lengths: u64, words: &[u64; 8]) -> Option<Value>
         ensures some { IfSome result (λ value. value ≡ take (lengths / 256) (bytes_in words.now)) }
         ensures when { IsSome result ↔ (lengths / 256 ≤ 64) }
-        ensures part { (all : List ℕ) → lengths ≡ slice_index all 3
-            → words.now ≡ slice_range all 8 16
+        ensures part { (all : List ℕ) → lengths ≡ slice_index all lengths_word
+            → words.now ≡ slice_range all first_value_word 16
             → IsSome (part_in entry_value all) → part_in entry_value all ≡ result }
     {
         let len = lengths / 256;
@@ -170,8 +171,9 @@ impl Row {
     /// compiled code makes both with no test of them.
     #[inline(always)]
     pub fn read_pair(lengths: u64, key: &[u64; 4], value: &[u64; 8]) -> Option<(Key, Value)>
-        ensures part { (all : List ℕ) → lengths ≡ slice_index all 3
-            → key.now ≡ slice_range all 4 8 → value.now ≡ slice_range all 8 16
+        ensures part { (all : List ℕ) → lengths ≡ slice_index all lengths_word
+            → key.now ≡ slice_range all first_key_word first_value_word
+            → value.now ≡ slice_range all first_value_word 16
             → IsSome (part_in entry_links all) → part_in entry_pair all ≡ result }
     {
         let len = lengths % 256;
