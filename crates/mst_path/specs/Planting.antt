@@ -3,6 +3,7 @@ use Rattle.mst_key.specs.declared.format.Format.{Format}
 use Rattle.std.specs.Prelude.{◌≡◌, ◌≤◌, ◌+◌, ℕ, List, length, Option, Some, None}
 use Rattle.mst_key.specs.Map.{Pair}
 use Rattle.mst_node.specs.Tree.{Tree, empty, node, Entries, last, entry, tree, pairs}
+use Rattle.mst_node.specs.Text.{highest_count}
 use Rattle.mst_node.specs.Shape.{tree_of as tree_of_node}
 use Rattle.mst_node.specs.declared.node.Node.{Node}
 use Rattle.mst_arena.specs.Content.{Content}
@@ -33,7 +34,7 @@ tree_at format (Some n) = tree_of_node format n
 
 -- the tree is that of these pairs, of which there are at most 65,535
 pub record IsTreeOf (format : Format) (t : Tree) (m : List Pair) : Type 0 where
-  pub few : length m ≤ 65535
+  pub few : length m ≤ highest_count
   pub is : t ≡ tree format m
 
 -- the tree was written into rows that were taken for it, and no other row was touched

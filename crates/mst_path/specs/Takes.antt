@@ -1,6 +1,7 @@
 -- Rows that a write takes, and the rows that it leaves alone.
 use Rattle.std.specs.Prelude.{◌≡◌, ◌≢◌, ◌≤◌, ℕ, Bool, IsTrue, List, [], ◌∷◌, length, slice_get, slice_set, Some}
 use Rattle.std.specs.List.{AllByRecursion}
+use Rattle.mst_arena.specs.Limits.{most_rows}
 use Rattle.mst_arena.specs.Content.{Content}
 use Rattle.mst_arena.specs.Lives.{State, next}
 use Rattle.mst_arena.specs.Standing.{IsDistinct}
@@ -33,7 +34,7 @@ FreeIsBlank lives blank = (k : ℕ) → slice_get lives k ≡ Some Free → IsTr
 
 -- so few rows that the link to each, its number and one, fits into 16 bits
 abbrev pub FewRows : List Life → Type 0
-FewRows lives = length lives ≤ 65535
+FewRows lives = length lives ≤ most_rows
 
 -- Rows may be taken and written: each has a link, and the free ones are blank.
 pub record IsWritable (lives : List Life) (blank : ℕ → Bool) : Type 0 where

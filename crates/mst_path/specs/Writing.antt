@@ -5,6 +5,7 @@ use Rattle.std.specs.Int.{w16, to_be_bytes}
 use Rattle.std.specs.List.{AllByRecursion, flat_map}
 use Rattle.mst_prefix.specs.Kept.{HasTaken}
 use Rattle.mst_node.specs.Text.{FlatEntry, entry_text, child_digest, held_of, version, digest as digest_of}
+use Rattle.mst_arena.specs.Limits.{most_rows, most_entries}
 use Rattle.mst_arena.specs.Content.{Content}
 use Rattle.mst_arena.specs.declared.row.Root.{Root}
 use Rattle.mst_arena.specs.declared.row.Row.{Row}
@@ -84,8 +85,8 @@ IsAhead (Some r) left = 0 < left
 pub record IsWriter {A : Type 0} (w : NodeWriter A) : Type 0 where
   pub low : w.layer ≤ 128
   pub some : 0 < w.count
-  pub few : w.count ≤ 65534
-  pub small : AllByRecursion (λ r. r < 65535) (w.head ∷ w.first ∷ ahead w.next)
+  pub few : w.count ≤ most_entries
+  pub small : AllByRecursion (λ r. r < most_rows) (w.head ∷ w.first ∷ ahead w.next)
   pub reserved : IsAhead w.next w.left
   pub hashes : (m : List ℕ) × HasTaken w.hasher m
 

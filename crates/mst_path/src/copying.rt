@@ -1,6 +1,7 @@
 //! Entries of a node, copied into a node that is being written.
 ghost use Rattle.std.specs.Prelude.{◌≡◌, ◌≤◌, ◌<◌, ◌+◌, ℕ, List, [], ◌∷◌, ◌++◌, Some};
 ghost use Rattle.mst_key.specs.declared.format.Format.{Format};
+ghost use Rattle.mst_arena.specs.Limits.{highest_link};
 ghost use Rattle.mst_arena.specs.Lives.{free_count};
 ghost use Rattle.mst_arena.specs.Content.{part_at};
 ghost use Rattle.mst_arena.specs.Row.{entry_links, entry_value};
@@ -51,7 +52,7 @@ pub(crate) fn move_entry<R: Rows, A: Allocator>(
     requires room { 1 < writer.old.left → 0 < free_count desk.old.lives }
     requires few { FewRows desk.old.lives }
     requires blank { IsNextBlank writer.old.next (R.blank rows.old) }
-    requires child { child.now.link ≤ 65535 }
+    requires child { child.now.link ≤ highest_link }
     requires entry { part_at entry_links (R.content rows.old) row ≡ Some entry.now }
     requires old { IsOld desk.old row }
     ensures writer { IsWriter writer.new }

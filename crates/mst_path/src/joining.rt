@@ -2,6 +2,7 @@
 //! round the gap in which it meets the other tree.
 ghost use Rattle.std.specs.Prelude.{◌≡◌, ◌≤◌, ◌<◌, ◌+◌};
 ghost use Rattle.mst_key.specs.declared.format.Format.{Format};
+ghost use Rattle.mst_arena.specs.Limits.{most_rows};
 ghost use Rattle.mst_arena.specs.Lives.{State, free_count};
 ghost use Rattle.mst_path.specs.Takes.{IsWritable, StaysBeside};
 ghost use Rattle.mst_path.specs.Making.{Grown};
@@ -58,7 +59,7 @@ pub(crate) fn join<R: Rows, A: Allocator>(
 pub(crate) fn join_cost<R: Rows>(rows: &mut R, left: u32, right: u32) -> u32
     requires trees { (format : Format) × (s : State) × (t : TwoTrees format
         (R.content rows.old) s left right)
-        × (both_rows format t ≤ 65535) }
+        × (both_rows format t ≤ most_rows) }
     ensures cost { (format : Format) (s : State) (t : TwoTrees format
         (R.content rows.old) s left right)
         → result ≡ both_rows format t }

@@ -7,6 +7,7 @@ ghost use Rattle.mst_key.specs.declared.history.Event.{Event};
 ghost use Rattle.mst_key.specs.Map.{Pair};
 ghost use Rattle.mst_node.specs.Cost.{cost, same_format};
 ghost use Rattle.mst_node.specs.Stays.{held};
+ghost use Rattle.mst_node.specs.Text.{highest_count};
 ghost use Rattle.mst_node.specs.Tree.{node, tree, pairs};
 ghost use Rattle.mst_arena.specs.Content.{Content};
 ghost use Rattle.mst_arena.specs.Lives.{State, version, next, reaches, SameReach, free_count};
@@ -200,7 +201,8 @@ pub fn room_laws()
 /// What the calls and the laws require can be met.
 pub fn premises_can_be_met()
     // each map of at most 65,535 pairs has its tree, which may be planted
-    ensures tree { (f : Format) (m : List Pair) → length m ≤ 65535 → IsTreeOf f (tree f m) m }
+    ensures tree { (f : Format) (m : List Pair) → length m ≤ highest_count
+        → IsTreeOf f (tree f m) m }
     // if no write is under way, the map of the current version stands and may be changed
     ensures stands { (f : Format) (content : Content) (s : State) (at : Root) (m : List Pair)
         → IsSettled s → HasMap f content s.lives (version s) at m → MapStands f content s at }

@@ -3,6 +3,7 @@ ghost use Rattle.std.specs.Prelude.{◌≡◌, ◌≤◌, ◌<◌, ◌+◌, ℕ,
 ghost use Rattle.mst_node.specs.Text.{child_digest};
 ghost use Rattle.mst_key.specs.declared.format.Format.{Format};
 ghost use Rattle.mst_prefix.specs.Kept.{HasTaken};
+ghost use Rattle.mst_arena.specs.Limits.{highest_link, most_entries};
 ghost use Rattle.mst_arena.specs.Lives.{free_count};
 ghost use Rattle.mst_arena.specs.Content.{Content, part_at};
 ghost use Rattle.mst_arena.specs.Row.{entry_links, entry_value};
@@ -102,7 +103,7 @@ impl<A: Allocator> NodeWriter<A> {
     ) -> NodeWriter<A>
         requires low { layer ≤ 128 }
         requires some { 0 < count }
-        requires few { count ≤ 65534 }
+        requires few { count ≤ most_entries }
         requires room { 2 ≤ free_count desk.old.lives }
         requires rows { FewRows desk.old.lives }
         ensures writer { IsWriter result }
@@ -143,7 +144,7 @@ impl<A: Allocator> NodeWriter<A> {
         requires room { 1 < self.old.left → 0 < free_count desk.old.lives }
         requires few { FewRows desk.old.lives }
         requires blank { IsNextBlank self.old.next (R.blank rows.old) }
-        requires child { child.now.link ≤ 65535 }
+        requires child { child.now.link ≤ highest_link }
         ensures writer { IsWriter self.new }
         // after the entries that are written stands the new one, if the row that was taken for it
         // is none of theirs and none of its child's
@@ -195,7 +196,7 @@ impl<A: Allocator> NodeWriter<A> {
         requires room { 1 < self.old.left → 0 < free_count desk.old.lives }
         requires few { FewRows desk.old.lives }
         requires blank { IsNextBlank self.old.next (R.blank rows.old) }
-        requires child { child.now.link ≤ 65535 }
+        requires child { child.now.link ≤ highest_link }
         requires entry { part_at entry_links (R.content rows.old) from ≡ Some entry.now }
         ensures writer { IsWriter self.new }
         ensures written { (format : Format) (es : List PlacedEntry) (p : Placed) (r : ℕ)
@@ -231,7 +232,7 @@ impl<A: Allocator> NodeWriter<A> {
         requires writer { IsWriter self }
         requires all { self.left ≡ 0 }
         requires blank { IsTrue (R.blank rows.old self.head) }
-        requires tail { tail.now.link ≤ 65535 }
+        requires tail { tail.now.link ≤ highest_link }
         ensures root { (format : Format) (es : List PlacedEntry) (p : Placed)
             → IsWritten format self (R.content rows.old) es → IsRootOf format p tail.now
             → IsRootOf format (head self.head self.layer (chain_of es p)) result }

@@ -3,6 +3,7 @@
 ghost use Rattle.std.specs.Prelude.{◌≡◌, ◌≤◌, ◌<◌, ◌+◌, List, length};
 ghost use Rattle.std.specs.Bool.{MatchBool};
 ghost use Rattle.mst_key.specs.declared.format.Format.{Format};
+ghost use Rattle.mst_arena.specs.Limits.{most_rows};
 ghost use Rattle.mst_arena.specs.Lives.{State, free_count};
 ghost use Rattle.mst_arena.specs.Standing.{Placed, link_of, HasRows};
 ghost use Rattle.mst_path.specs.Cutting.{IsRunOf, gap_before};
@@ -157,7 +158,7 @@ pub(crate) fn remove_at<R: Rows, A: Allocator>(
 pub(crate) fn remove_cost<R: Rows>(rows: &mut R, link: u32, key: &Sought) -> u32
     requires tree { (format : Format) × (s : State) × (t : SearchTree format
         (R.content rows.old) s link)
-        × (without_rows format t key.now ≤ 65535) }
+        × (without_rows format t key.now ≤ most_rows) }
     ensures cost { (format : Format) (s : State) (t : SearchTree format (R.content rows.old) s link)
         → result ≡ without_rows format t key.now }
     ensures same { rows.new ≡ rows.old }

@@ -3,6 +3,7 @@ ghost use Rattle.std.specs.Prelude.{◌≡◌, ◌≤◌, ◌<◌, ◌+◌, List
 ghost use Rattle.mst_key.specs.Map.{Pair, IsMap};
 ghost use Rattle.mst_key.specs.declared.format.Format.{Format};
 ghost use Rattle.mst_node.specs.Tree.{pairs, tree as tree_of_map, IsMst};
+ghost use Rattle.mst_node.specs.Text.{highest_count};
 ghost use Rattle.mst_node.specs.Shape.{tree_of, tree_of_child};
 ghost use Rattle.mst_arena.specs.Lives.{free_count};
 ghost use Rattle.mst_arena.specs.Standing.{Stands, numbers};
@@ -20,7 +21,7 @@ use std::alloc::Allocator;
 #[cycle(count)]
 fn rows_of_child<B: Allocator>(child: &Option<Box<Node<B>, B>>) -> u32
     requires tree { (format : Format) × IsMst format (tree_of_child format child.now)
-        × (length (pairs (tree_of_child format child.now)) ≤ 65535) }
+        × (length (pairs (tree_of_child format child.now)) ≤ highest_count) }
     ensures rows { (format : Format) → result ≡ rows_needed (tree_of_child format child.now) }
 {
     match child {
@@ -33,7 +34,7 @@ fn rows_of_child<B: Allocator>(child: &Option<Box<Node<B>, B>>) -> u32
 #[cycle(count)]
 fn rows_of_node<B: Allocator>(node: &Node<B>) -> u32
     requires tree { (format : Format) × IsMst format (tree_of format node.now)
-        × (length (pairs (tree_of format node.now)) ≤ 65535) }
+        × (length (pairs (tree_of format node.now)) ≤ highest_count) }
     ensures rows { (format : Format) → result ≡ rows_needed (tree_of format node.now) }
 {
     let mut rows = 1;
