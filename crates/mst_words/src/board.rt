@@ -1,6 +1,7 @@
 //! The table, and the steps of the turn.
 ghost use Rattle.std.specs.Prelude.{◌≡◌, ◌∷◌, ◌<◌, ◌≤◌, [], true, false, IfOk, Option, Some, None};
 ghost use Rattle.mst_words.specs.Stored.{stored, fresh_desk};
+ghost use Rattle.mst_arena.specs.Limits.{most_rows};
 ghost use Rattle.mst_arena.specs.Lives.{State};
 ghost use Rattle.mst_words.specs.Layout.{most_passes, table_words};
 ghost use Rattle.mst_words.specs.Steps.{IsFree, IsDealer, IsGiving, Takes, Misses, Gives};
@@ -59,7 +60,7 @@ impl<A: Allocator + Copy> Board<A> {
     /// refused.
     pub fn open(alloc: A, shape: Shape, desk: Desk<A>) -> Result<(Board<A>, Token<A>), Memory>
         requires some_rows { 0 < shape.rows }
-        requires few_rows { shape.rows ≤ 65535 }
+        requires few_rows { shape.rows ≤ most_rows }
         requires some_passes { 0 < shape.passes }
         requires few_passes { shape.passes ≤ most_passes }
         requires fresh { desk ≡ fresh_desk shape.rows shape.passes }

@@ -1,6 +1,7 @@
 //! The words of a new table.
 ghost use Rattle.std.specs.Prelude.{◌≡◌, ◌<◌, ◌≤◌, ℕ, [], ◌∷◌, length, replicate, slice_index, IfOk};
 ghost use Rattle.mst_node.specs.Text.{digest_of};
+ghost use Rattle.mst_arena.specs.Limits.{most_rows};
 ghost use Rattle.mst_arena.specs.Words.{bytes_in};
 ghost use Rattle.mst_key.specs.declared.format.Format.{Format};
 ghost use Rattle.mst_words.specs.Layout.{record_word, table_words};
@@ -61,7 +62,7 @@ fn zeros<A: Allocator>(alloc: A, count: usize) -> Result<Vec<u64, A>, Memory>
 /// The words of a new table: all of them 0, but for the digest in record 0, which is that of the
 /// empty text, and the number of its format. Returns `Memory` if the growth was refused.
 pub(crate) fn first_words<A: Allocator>(alloc: A, shape: Shape) -> Result<Vec<u64, A>, Memory>
-    requires few { shape.rows ≤ 65535 }
+    requires few { shape.rows ≤ most_rows }
     ensures long { IfOk result (λ v. length v.items ≡ table_words shape.rows) }
     ensures front { IfOk result (λ v. (i : ℕ) → i < record_word 0 2 → slice_index v.items i ≡ 0) }
     ensures digest { IfOk result
