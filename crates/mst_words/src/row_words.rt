@@ -10,6 +10,7 @@ ghost use Rattle.mst_words.specs.Records as records;
 ghost use Rattle.mst_words.specs.Access.{may_read, content_of, is_blank, RowStored, PartStored, HasEnds, relinked_list};
 ghost use Rattle.mst_arena.specs.Content.{part_at};
 ghost use Rattle.mst_arena.specs.Row.{entry_links, entry_ends, entry_pair, entry_value};
+ghost use Rattle.mst_arena.specs.Words.{lengths_word, first_key_word, first_value_word};
 
 use crate::board::{Board, Token};
 use crate::layout::{FIRST_ROW, ROW_WORDS, row_word};
@@ -98,9 +99,9 @@ impl<A: Allocator + Copy> Board<A> {
         requires own { seat.old.table_id ≡ self.now }
         requires wide { self.now.words ≡ table_words seat.old.me.0.rows }
         requires there { IsSome (part_at entry_links (content_of seat.old.me.0) row) }
-        requires lengths { lengths ≡ records.row seat.old.me.0.known_words row 3 }
+        requires lengths { lengths ≡ records.row seat.old.me.0.known_words row lengths_word }
         ensures words { result
-            ≡ map (records.row seat.old.me.0.known_words row) (range_with_len 4 4) }
+            ≡ map (records.row seat.old.me.0.known_words row) (range_with_len first_key_word 4) }
         ensures same { (seat.new.table_id ≡ seat.old.table_id) × (seat.new.id ≡ seat.old.id)
             × (seat.new.me ≡ seat.old.me) }
     {
@@ -118,9 +119,9 @@ impl<A: Allocator + Copy> Board<A> {
         requires own { seat.old.table_id ≡ self.now }
         requires wide { self.now.words ≡ table_words seat.old.me.0.rows }
         requires there { IsSome (part_at entry_value (content_of seat.old.me.0) row) }
-        requires lengths { lengths ≡ records.row seat.old.me.0.known_words row 3 }
+        requires lengths { lengths ≡ records.row seat.old.me.0.known_words row lengths_word }
         ensures words { result
-            ≡ map (records.row seat.old.me.0.known_words row) (range_with_len 8 8) }
+            ≡ map (records.row seat.old.me.0.known_words row) (range_with_len first_value_word 8) }
         ensures same { (seat.new.table_id ≡ seat.old.table_id) × (seat.new.id ≡ seat.old.id)
             × (seat.new.me ≡ seat.old.me) }
     {
@@ -138,7 +139,7 @@ impl<A: Allocator + Copy> Board<A> {
         requires own { seat.old.table_id ≡ self.now }
         requires wide { self.now.words ≡ table_words seat.old.me.0.rows }
         requires there { IsSome (part_at entry_links (content_of seat.old.me.0) row) }
-        requires lengths { lengths ≡ records.row seat.old.me.0.known_words row 3 }
+        requires lengths { lengths ≡ records.row seat.old.me.0.known_words row lengths_word }
         ensures pair { part_at entry_pair (content_of seat.old.me.0) row ≡ Some result }
         ensures same { (seat.new.table_id ≡ seat.old.table_id) × (seat.new.id ≡ seat.old.id)
             × (seat.new.me ≡ seat.old.me) }
@@ -299,13 +300,14 @@ impl<A: Allocator + Copy> Board<A> {
         requires blank { IsTrue (is_blank seat.old.me.0 to) }
         requires ends { HasEnds lengths (records.row seat.old.me.0.known_words from) }
         ensures value { result
-            ≡ map (records.row seat.old.me.0.known_words from) (range_with_len 8 8) }
+            ≡ map (records.row seat.old.me.0.known_words from) (range_with_len first_value_word 8) }
         ensures same { (seat.new.table_id ≡ seat.old.table_id) × (seat.new.id ≡ seat.old.id)
             × (seat.new.me ≡ (
               record seat.old.me.0 { known_words = seat.new.me.0.known_words },
               seat.old.me.1,
             )) }
-        ensures stored { PartStored to 4 12 (records.row seat.old.me.0.known_words from)
+        ensures stored { PartStored to first_key_word 12
+            (records.row seat.old.me.0.known_words from)
             seat.old.me.0.known_words seat.new.me.0.known_words }
     {
         if lengths == COMMON_LENGTHS {
@@ -335,11 +337,11 @@ impl<A: Allocator + Copy> Board<A> {
         requires readable { may_read seat.old.me.0 from ≡ true }
         requires blank { IsTrue (is_blank seat.old.me.0 to) }
         requires kind { records.row seat.old.me.0.known_words from 0 ≡ 1 }
-        requires ends { HasEnds (records.row seat.old.me.0.known_words from 3)
+        requires ends { HasEnds (records.row seat.old.me.0.known_words from lengths_word)
             (records.row seat.old.me.0.known_words from) }
-        ensures lengths { result.0 ≡ records.row seat.old.me.0.known_words from 3 }
+        ensures lengths { result.0 ≡ records.row seat.old.me.0.known_words from lengths_word }
         ensures value { result.1
-            ≡ map (records.row seat.old.me.0.known_words from) (range_with_len 8 8) }
+            ≡ map (records.row seat.old.me.0.known_words from) (range_with_len first_value_word 8) }
         ensures same { (seat.new.table_id ≡ seat.old.table_id) × (seat.new.id ≡ seat.old.id)
             × (seat.new.me ≡ (
               record seat.old.me.0 { known_words = seat.new.me.0.known_words },

@@ -3,7 +3,7 @@ ghost use Rattle.std.specs.Prelude.{◌≡◌, ◌+◌, ◌<◌, ◌≤◌, map,
 ghost use Rattle.std.specs.List.{range_with_len};
 ghost use Rattle.mst_arena.specs.Content.{Writes, part_at};
 ghost use Rattle.mst_arena.specs.Row.{entry_links, entry_value};
-ghost use Rattle.mst_arena.specs.Words.{row_in};
+ghost use Rattle.mst_arena.specs.Words.{row_in, lengths_word, first_value_word};
 ghost use Rattle.mst_arena.specs.declared.row.Row.{Row};
 ghost use Rattle.mst_words.specs.Layout.{row_words};
 ghost use Rattle.mst_words.specs.Records as records;
@@ -71,9 +71,9 @@ impl<'a, A: Allocator + Copy> PassSeat<'a, A> {
     fn copy_words(&mut self, from: u32, to: u32, child: u32, next: u32) -> (u64, [u64; 8])
         requires there { IsSome (part_at entry_links (content_of self.old.me.0) from) }
         requires blank { IsTrue (is_blank self.old.me.0 to) }
-        ensures lengths { result.0 ≡ records.row self.old.me.0.known_words from 3 }
+        ensures lengths { result.0 ≡ records.row self.old.me.0.known_words from lengths_word }
         ensures value { result.1
-            ≡ map (records.row self.old.me.0.known_words from) (range_with_len 8 8) }
+            ≡ map (records.row self.old.me.0.known_words from) (range_with_len first_value_word 8) }
         ensures writes { (value : Row)
             → row_in (relinked_list (records.row self.old.me.0.known_words from) child next)
             ≡ Some value
