@@ -5,6 +5,8 @@ pub mod Finding
 pub mod Knowing
 pub mod ProofTops
 pub mod Calling
+pub mod Settling
 pub mod Serving
+pub mod Ends
 pub mod Scripts
 pub mod Told

@@ -8,7 +8,7 @@ use Rattle.mst_script.specs.Machine.{Machine, Line, with_no_pins}
 use Rattle.mst_script.specs.Serving.{Gathers, Roster, Shows, Serves, Released}
 use Rattle.mst_script.specs.Scripts.{RanScript, StoppedScript}
 use Rattle.mst_script.proofs.Gathering.{nobody}
-use Rattle.mst_script.proofs.Serving.{first_shown, first_gathers, last_saw}
+use Rattle.mst_script.proofs.Ends.{first_shown, first_gathers, last_saw}
 use Rattle.mst_script.proofs.AllOf.{none_done}
 
 machine_replies : (store : StoreId) (lines : List (List ℕ)) (r s : Roster) (m : Machine)

@@ -1,16 +1,14 @@
 -- What one pass did, and then all settled: a step of the machine.
-use Rattle.std.proofs.Common.{◌≡◌, ℕ, ◌<◌, true, false, List, [], ◌∷◌, ◌++◌, length, take, set, get_or, map, sym, refl, ap, ◌∙◌, subst, append-nil, Option, Some, None}
+use Rattle.std.proofs.Common.{◌≡◌, ℕ, ◌<◌, true, false, List, [], ◌∷◌, ◌++◌, length, take, set, get_or, sym, refl, ap, ◌∙◌, subst, append-nil, Option, Some, None}
 use Rattle.std.specs.Prelude.{Result, Ok, codes}
-use Rattle.std.specs.List.{All, Contains, swap_remove}
+use Rattle.std.specs.List.{swap_remove}
 use Rattle.std.specs.List.Sorted.{IsPermutation}
 use Rattle.std.proofs.lemmas.Bool.{false≢true}
 use Rattle.std.proofs.Math.Seq.{take-append_seam}
-use Rattle.std.proofs.lemmas.List.Elements.{All-append, All-map}
 use Rattle.std.proofs.lemmas.List.Sorted.{IsPermutation-refl, IsPermutation-sym, IsPermutation-trans, IsPermutation-append_left, IsPermutation-swap_remove}
-use Rattle.mst_key.specs.History.{History, after, format_after, events_of, IsPrefix}
-use Rattle.mst_key.proofs.HistoryLaws.{IsPrefix-itself}
-use Rattle.mst_store.specs.Passes.{StoreId, Known, having_asked}
-use Rattle.mst_store.specs.Settling.{having_seen, AreAllPasses, Settled}
+use Rattle.mst_key.specs.History.{History, after, format_after, IsPrefix}
+use Rattle.mst_store.specs.Passes.{StoreId, Known}
+use Rattle.mst_store.specs.Settling.{Settled}
 use Rattle.mst_requests.specs.declared.request.Fault.{Fault}
 use Rattle.mst_requests.specs.declared.request.Command.{Command}
 use Rattle.mst_requests.specs.declared.request.Command.TheVariants.{Put, Remove, Migrate, Batch, Get, Next, Range, Root, Node, Prove, Pin, Unpin, Rows}
@@ -18,65 +16,13 @@ use Rattle.mst_requests.specs.declared.request.Command.TheVariants as ask
 use Rattle.mst_requests.specs.declared.request.Request.{Request}
 use Rattle.mst_requests.specs.Grammar.{asked}
 use Rattle.mst_requests.specs.Texts.{line_of, pinned_words}
-use Rattle.mst_script.specs.Machine.{Machine, with_no_pins, with_pin, Acts, FreeStep, Recalls, PinnedStep, StepOf, Step, AnswersRequest}
-use Rattle.mst_script.specs.Serving.{AreAllOf, Gathers, AllSaw, Roster, everyone, SawItself, IsNowhere, KnowsPins, Shows, is_pin, is_unpin, Serves, Does, IsPlace, AsksFree, AsksPinned, Pins, Unpins, AllFreed, Released}
+use Rattle.mst_script.specs.Machine.{Machine, with_pin, Acts, FreeStep, Recalls, PinnedStep, StepOf, Step, AnswersRequest}
+use Rattle.mst_script.specs.Serving.{AreAllOf, Roster, everyone, IsNowhere, KnowsPins, Shows, is_pin, is_unpin, Serves, Does, IsPlace, AsksFree, AsksPinned, Pins, Unpins}
 use Rattle.mst_script.proofs.Lines.{front_of, back_of, others_at, moved_back, now_back, moved_front, now_front}
-use Rattle.mst_script.proofs.AllOf.{settled_numbers, all_passes, all_moved, all_changed, all_settled, all_free}
-use Rattle.mst_script.proofs.Gathering.{gathers_moved, one_history, turned, looked}
-use Rattle.mst_script.proofs.Knowing.{knows_none, knows_asked, knows_pin, knows_unpin}
-
--- ---- they settled
-
-settled_gathers : (s t : Roster) → (st : Settled s.free s.held t.free t.held)
-    → Gathers st.log (everyone s)
-settled_gathers s t st = record { later = st.later; own = st.own; alone = st.alone }
-
--- each pass that settled has seen it, and keeps its number and its events
-gathers_settled : (s t : Roster) → (st : Settled s.free s.held t.free t.held)
-    → Gathers st.log (everyone t)
-gathers_settled s t st = record {
-  later = All-append (λ (p : Known). IsPrefix p.seen st.log) t.free t.held
-      (subst (All (λ p. IsPrefix p.seen st.log)) (sym st.now)
-      (All-map (λ (p : Known). IsPrefix p.seen st.log) (having_seen st.log) s.free
-      (λ k d l. IsPrefix-itself st.log)))
-      (subst (All (λ p. IsPrefix p.seen st.log)) (sym st.still)
-      (All-map (λ (p : Known). IsPrefix p.seen st.log) (having_asked 3) s.held
-      (back_of (λ (p : Known). IsPrefix p.seen st.log) s.free s.held st.later)));
-  own = All-append (λ (p : Known). events_of p.number st.log ≡ p.mine) t.free t.held
-      (subst (All (λ p. events_of p.number st.log ≡ p.mine)) (sym st.now)
-      (All-map (λ (p : Known). events_of p.number st.log ≡ p.mine) (having_seen st.log) s.free
-      (front_of (λ (p : Known). events_of p.number st.log ≡ p.mine) s.free s.held st.own)))
-      (subst (All (λ p. events_of p.number st.log ≡ p.mine)) (sym st.still)
-      (All-map (λ (p : Known). events_of p.number st.log ≡ p.mine) (having_asked 3) s.held
-      (back_of (λ (p : Known). events_of p.number st.log ≡ p.mine) s.free s.held st.own)));
-  alone = λ k d l. subst (λ (ns : List ℕ). Contains ns (get_or st.log k d).pass)
-      (sym (settled_numbers s.free s.held t.free t.held st)) (st.alone k d l);
-}
-
-shows_settled : (m : Machine) (s t : Roster) → (st : Settled s.free s.held t.free t.held)
-    → st.log ≡ m.history → KnowsPins m.pinned s.held → Shows m t
-shows_settled m s t st is k = record {
-  seen = subst (All (λ p. p.seen ≡ m.history)) (sym st.now)
-      (All-map (λ (p : Known). p.seen ≡ m.history) (having_seen st.log) s.free (λ i d l. is));
-  gathered = subst (λ (h : History). Gathers h (everyone t)) is (gathers_settled s t st);
-  pins = knows_asked m.pinned s.held t.held st.still k;
-}
-
--- each pass has seen its own events
-all_itself : (m : Machine) (r : Roster) → Shows m r → All SawItself (everyone r)
-all_itself m r shows = All-append SawItself r.free r.held
-    (λ k d l. ap (events_of (get_or r.free k d).number) (shows.seen k d l)
-    ∙ front_of (λ (p : Known). events_of p.number m.history ≡ p.mine) r.free r.held
-    shows.gathered.own k d l)
-    shows.pins.own
-
--- nobody made an event: the history stays
-still_there : (m : Machine) (r s t : Roster) → Shows m r → IsPermutation (everyone r) (everyone s)
-    → (st : Settled s.free s.held t.free t.held) → st.log ≡ m.history
-still_there m r s t shows moved st =
-    one_history (everyone r) st.log m.history (all_itself m r shows)
-    (gathers_moved st.log (everyone s) (everyone r)
-    (IsPermutation-sym (everyone r) (everyone s) moved) (settled_gathers s t st)) shows.gathered
+use Rattle.mst_script.proofs.AllOf.{all_moved, all_changed}
+use Rattle.mst_script.proofs.Gathering.{gathers_moved, turned, looked}
+use Rattle.mst_script.proofs.Knowing.{knows_pin, knows_unpin}
+use Rattle.mst_script.proofs.Settling.{settled_gathers, shows_settled, still_there}
 
 -- ---- a free pass did what it was asked for
 
@@ -374,55 +320,3 @@ line_served store n r s t line text asks request count by is does st = λ m show
       subst (λ (x : Result Request Fault). AnswersRequest store x m text d.0) (sym same) d.1,
       d.2,
     )
-
--- ---- the beginning and the end of a script
-
--- they settled, and none of them pins a version
-pub first_shown : (s t : Roster) → s.held ≡ [] → (st : Settled s.free s.held t.free t.held)
-    → Shows (with_no_pins st.log) t
-first_shown s t none st = shows_settled (with_no_pins st.log) s t st refl (knows_none s.held none)
-
-pub first_gathers : (s t : Roster) → s.held ≡ [] → (st : Settled s.free s.held t.free t.held)
-    → Gathers st.log s.free
-first_gathers s t none st =
-    subst (Gathers st.log) (ap (λ (l : List Known). s.free ++ l) none ∙ append-nil s.free)
-    (settled_gathers s t st)
-
-pub all_freed : (store : StoreId) (r s : Roster) → AllFreed r s → AreAllOf store (everyone r)
-    → AreAllOf store (everyone s)
-all_freed store r s a all =
-    subst (AreAllOf store) (sym (ap (λ (l : List Known). s.free ++ l) a.none ∙ append-nil s.free))
-    (all_moved store (everyone r) s.free a.same all)
-
--- all pins were ended, and then all settled
-pub last_saw : (m : Machine) (r s t : Roster) → Shows m r → AllFreed r s
-    → (st : Settled s.free s.held t.free t.held) → AllSaw m.history t.free
-last_saw m r s t shows a st =
-    let free : everyone s ≡ s.free = ap (λ (l : List Known). s.free ++ l) a.none ∙ append-nil s.free
-    in
-    let moved : IsPermutation (everyone r) (everyone s) =
-    subst (IsPermutation (everyone r)) (sym free) a.same in
-    let is : st.log ≡ m.history = still_there m r s t shows moved st in
-    let none : everyone t ≡ t.free =
-    ap (λ (l : List Known). t.free ++ l) (st.still ∙ ap (map (having_asked 3)) a.none)
-    ∙ append-nil t.free in
-    let g : Gathers m.history t.free =
-    subst (Gathers m.history) none
-    (subst (λ (h : History). Gathers h (everyone t)) is (gathers_settled s t st)) in record {
-      seen = subst (All (λ p. p.seen ≡ m.history)) (sym st.now)
-          (All-map (λ (p : Known). p.seen ≡ m.history) (having_seen st.log) s.free (λ i d l. is));
-      own = g.own;
-      alone = g.alone;
-    }
-
-pub passes_freed : (r s : Roster) → AllFreed r s → AreAllPasses (everyone r)
-    → AreAllPasses (everyone s)
-passes_freed r s a w =
-    all_passes w.store s
-    (all_freed w.store r s a (record { of_one = w.of_one; complete = w.complete }))
-
-pub all_released : (store : StoreId) (r t : Roster) → Released r t → AreAllOf store (everyone r)
-    → AreAllOf store t.free
-all_released store r t end all =
-    all_free store t (end.settled.still ∙ ap (map (having_asked 3)) end.freed.none)
-    (all_settled store end.s t end.settled (all_freed store r end.s end.freed all))

@@ -1,7 +1,7 @@
 use Rattle.std.proofs.Common.{rules}
 use Rattle.mst_devices.proofs.Putting.{map_ok, map_err}
 use Rattle.mst_script.proofs.AllOf.{all_passes, all_settled, all_free_again}
-use Rattle.mst_script.proofs.Serving.{all_released}
+use Rattle.mst_script.proofs.Ends.{all_released}
 use Rattle.mst_script.proofs.Scripts.{ran_script, stopped_script}
 use Rattle.mst_script.proofs.script.settle_and_drive.Goals as goal
 

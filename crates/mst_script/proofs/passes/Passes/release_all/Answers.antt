@@ -1,4 +1,4 @@
-use Rattle.mst_script.proofs.Serving.{passes_freed}
+use Rattle.mst_script.proofs.Ends.{passes_freed}
 use Rattle.mst_script.proofs.passes.Passes.release_all.Goals as goal
 
 pub settle-requires : goal.settle-requires
