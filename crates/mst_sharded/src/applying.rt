@@ -10,6 +10,7 @@ ghost use Rattle.mst_sharded.specs.Applying.{edits_behind, picked, AppliesPart, 
 use crate::faults::{SpreadFault, StoppedMigration};
 use crate::handle::Handle;
 use crate::place::place_of;
+use crate::rooms::list_with_room;
 use mst_key::{Edit, Format, Key, Memory};
 use mst_store::{ApplyFault, Pass};
 use std::alloc::Allocator;
@@ -41,14 +42,6 @@ fn places_of<C: Allocator>(
     Ok(places)
 }
 
-// An empty list with room for so many edits.
-fn room_for_edits<C: Allocator>(alloc: C, count: usize) -> Result<Vec<Edit, C>, Memory>
-    ensures empty { IfOk result (λ list. list.items ≡ []) }
-    ensures room { IfOk result (λ list. count ≤ vec_capacity list) }
-{
-    Ok(Vec::with_capacity(alloc, count)?)
-}
-
 // Adds a copy of an edit to those that are left, if its place is this one or one behind it.
 fn keep_one<C: Allocator>(left: &mut Vec<Edit, C>, edit: &Edit, place: usize, from: usize)
     requires room { vec_len left.old < vec_capacity left.old }
@@ -72,7 +65,7 @@ pub(crate) fn left_from<C: Allocator>(
     requires rising { AreSplits least splits.now }
     ensures left { IfOk result (λ left. left.items ≡ edits_behind splits.now edits.now from) }
 {
-    let mut left = room_for_edits(alloc, edits.len())?;
+    let mut left = list_with_room(alloc, edits.len())?;
     for edit in edits {
         keep_one(&mut left, edit, place_of(splits, edit.key()), from);
     }
@@ -188,7 +181,7 @@ fn prepare<C: Allocator + Copy>(
     ensures room { IfOk result (λ lists. length edits.now ≤ vec_capacity lists.1) }
 {
     let places = places_of(alloc, splits, edits)?;
-    let part = room_for_edits(alloc, edits.len())?;
+    let part = list_with_room(alloc, edits.len())?;
     Ok((places, part))
 }
 

@@ -1,5 +1,5 @@
 //! The dealing of the handles of a sharded map.
-ghost use Rattle.std.specs.Prelude.{◌≡◌, ◌<◌, ◌≤◌, ◌+◌, ◌++◌, ◌∷◌, ℕ, [], List, None, map, length, get_or, slice_index_or, vec_len, vec_capacity, IfOk, OnOk};
+ghost use Rattle.std.specs.Prelude.{◌≡◌, ◌<◌, ◌≤◌, ◌+◌, ◌++◌, ◌∷◌, ℕ, [], List, None, map, length, get_or, slice_index_or, vec_len, IfOk, OnOk};
 ghost use Rattle.std.specs.List.{AllByRecursion};
 ghost use Rattle.mst_store.specs.Passes.{Known, new_passes};
 ghost use Rattle.mst_sharded.specs.Sharding.{sharding, IsSplits};
@@ -7,9 +7,10 @@ ghost use Rattle.mst_sharded.specs.Opening.{Dealt, dealt, dealt_from, dealt_more
 
 use crate::directory::Directory;
 use crate::handle::Handle;
+use crate::rooms::list_with_room;
 use crate::sharded::{AllSeats, Sharded};
 use mst_key::{Key, Memory};
-use mst_store::{Pass, Pinned, Seats, Store};
+use mst_store::{Pass, Seats, Store};
 use std::alloc::Allocator;
 use std::marker::Model;
 
@@ -164,17 +165,6 @@ pub(crate) fn all_rows<'a, A: Allocator + Copy, B: Allocator + Copy>(
     Ok(rows)
 }
 
-// Room for a pin of each shard.
-fn room_for_pins<'a, A: Allocator + Copy, B: Allocator>(
-    alloc: B,
-    count: usize,
-) -> Result<Vec<Pinned<'a, A>, B>, Memory>
-    ensures empty { IfOk result (λ room. room.items ≡ []) }
-    ensures room { IfOk result (λ room. count ≤ vec_capacity room) }
-{
-    Ok(Vec::with_capacity(alloc, count)?)
-}
-
 // Makes a handle of a row.
 fn handle_of<'a, A: Allocator + Copy, B: Allocator + Copy>(
     alloc: B,
@@ -186,7 +176,7 @@ fn handle_of<'a, A: Allocator + Copy, B: Allocator + Copy>(
     ensures handle { IfOk result (λ handle. handle ≡ sharding splits.now row.entry.passes) }
 {
     let Row { passes, directory } = row;
-    let room = room_for_pins(alloc, passes.len())?;
+    let room = list_with_room(alloc, passes.len())?;
     Ok(Handle {
         splits,
         passes,

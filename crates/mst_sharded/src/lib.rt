@@ -32,6 +32,7 @@ mod moving;
 mod place;
 mod proving;
 mod ranging;
+mod rooms;
 mod sharded;
 mod shared;
 mod shared_handle;

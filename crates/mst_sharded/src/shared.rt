@@ -9,6 +9,7 @@ ghost use Rattle.mst_sharded.specs.Opening.{IsWhole, seats_of, new_handles};
 use crate::deal::{Row, all_rows};
 use crate::directory::Directory;
 use crate::moving::lay_all;
+use crate::rooms::list_with_room;
 use crate::sharded::{AllSeats, Sharded};
 use mst_key::Memory;
 use mst_store::{Laid, LaidPinned, Store};
@@ -128,25 +129,6 @@ impl<A: Allocator + Copy> Model for SharedSnapshot<A> {
 
 // ---- dealing
 
-// An empty list with room for so many laid passes.
-fn room_for_laid<A: Allocator + Copy>(alloc: A, count: usize) -> Result<Vec<Laid<A>, A>, Memory>
-    ensures empty { IfOk result (λ room. room.items ≡ []) }
-    ensures room { IfOk result (λ room. count ≤ vec_capacity room) }
-{
-    Ok(Vec::with_capacity(alloc, count)?)
-}
-
-// The same for pinned ones.
-fn room_for_laid_pins<A: Allocator + Copy>(
-    alloc: A,
-    count: usize,
-) -> Result<Vec<LaidPinned<A>, A>, Memory>
-    ensures empty { IfOk result (λ room. room.items ≡ []) }
-    ensures room { IfOk result (λ room. count ≤ vec_capacity room) }
-{
-    Ok(Vec::with_capacity(alloc, count)?)
-}
-
 // Makes a handle of what was dealt to it.
 fn share_row<A: Allocator + Copy>(
     alloc: A,
@@ -160,8 +142,8 @@ fn share_row<A: Allocator + Copy>(
         (λ handle. handle ≡ sharding (arc_value map.now).splits row.entry.passes) }
 {
     let Row { passes, directory } = row;
-    let space = room_for_laid(alloc, passes.len())?;
-    let room = room_for_laid_pins(alloc, passes.len())?;
+    let space = list_with_room(alloc, passes.len())?;
+    let room = list_with_room(alloc, passes.len())?;
     let map = Arc::try_clone(map)?;
     Ok(SharedHandle {
         map,

@@ -1,5 +1,5 @@
 //! The calls of a handle beside a share of its map. Each has the contract of the handle's own.
-ghost use Rattle.std.specs.Prelude.{◌≡◌, ◌+◌, ◌≤◌, [], length, vec_capacity, IfOk, IfErr, OnOk};
+ghost use Rattle.std.specs.Prelude.{◌≡◌, ◌+◌, ◌≤◌, length, IfOk, IfErr, OnOk};
 ghost use Rattle.mst_key.specs.declared.history.Change.TheVariants.{Put, Remove};
 ghost use Rattle.mst_key.specs.History.{had};
 ghost use Rattle.mst_key.specs.Map.{map_get};
@@ -12,22 +12,12 @@ use crate::applying::{left_from, migrate_all, spread};
 use crate::faults::{MoveFault, SpreadFault};
 use crate::moving::{lay_all, lay_at, lift_all, lift_at, pin_laid};
 use crate::place::place_of;
+use crate::rooms::list_with_room;
 use crate::shared::{SharedHandle, SharedSnapshot};
-use mst_key::{Edit, Format, Key, Memory, Value};
-use mst_store::{Pass, WriteFault};
+use mst_key::{Edit, Format, Key, Value};
+use mst_store::WriteFault;
 use std::alloc::Allocator;
 use std::mem::replace;
-
-// An empty list with room for so many passes.
-fn room_for_passes<'a, A: Allocator + Copy>(
-    alloc: A,
-    count: usize,
-) -> Result<Vec<Pass<'a, A>, A>, Memory>
-    ensures empty { IfOk result (λ room. room.items ≡ []) }
-    ensures room { IfOk result (λ room. count ≤ vec_capacity room) }
-{
-    Ok(Vec::with_capacity(alloc, count)?)
-}
 
 impl<A: Allocator + Copy> SharedHandle<A> {
     /// How many shards there are.
@@ -85,7 +75,7 @@ impl<A: Allocator + Copy> SharedHandle<A> {
         ensures ok { OnOk result (MigratesAll to self.old self.new) }
         ensures err { IfErr result (λ fault. RefusesMoves fault to self.old self.new) }
     {
-        let room = match room_for_passes(alloc, self.passes.len()) {
+        let room = match list_with_room(alloc, self.passes.len()) {
             Ok(room) => room,
             Err(refused) => return Err(MoveFault::Memory(refused)),
         };
@@ -122,7 +112,7 @@ impl<A: Allocator + Copy> SharedHandle<A> {
             Ok(left) => left,
             Err(refused) => return (self, Err(SpreadFault::Memory(refused))),
         };
-        let space = match room_for_passes(alloc, self.passes.len()) {
+        let space = match list_with_room(alloc, self.passes.len()) {
             Ok(space) => space,
             Err(refused) => return (self, Err(SpreadFault::Memory(refused))),
         };

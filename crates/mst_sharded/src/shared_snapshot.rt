@@ -1,5 +1,5 @@
 //! The calls of a snapshot beside a share of its map. Each has the contract of the snapshot's own.
-ghost use Rattle.std.specs.Prelude.{◌≡◌, ◌≤◌, [], ℕ, length, option_map, slice_get, vec_capacity, IfOk, IfErr, IfNone, IfSome};
+ghost use Rattle.std.specs.Prelude.{◌≡◌, ◌≤◌, ℕ, length, option_map, slice_get, IfOk, IfErr, IfNone, IfSome};
 ghost use Rattle.std.specs.Option.{option_copied};
 ghost use Rattle.mst_key.specs.declared.format.Format.{Format};
 ghost use Rattle.mst_key.specs.Map.{map_get, map_next, map_range};
@@ -15,22 +15,11 @@ use crate::moving::{lay_pin_at, lay_pins, lift_pin_at, lift_pins, unpin_laid};
 use crate::place::place_of;
 use crate::proving::{pairs_in, proof_in, root_in};
 use crate::ranging::{next_among, range_among};
+use crate::rooms::list_with_room;
 use crate::shared::{LaidDirectory, SharedHandle, SharedSnapshot};
 use mst_key::{Format, Key, Memory, Value};
-use mst_store::Pinned;
 use std::alloc::Allocator;
 use std::mem::replace;
-
-// An empty list with room for so many pinned passes.
-fn room_for_pins<'a, A: Allocator + Copy>(
-    alloc: A,
-    count: usize,
-) -> Result<Vec<Pinned<'a, A>, A>, Memory>
-    ensures empty { IfOk result (λ room. room.items ≡ []) }
-    ensures room { IfOk result (λ room. count ≤ vec_capacity room) }
-{
-    Ok(Vec::with_capacity(alloc, count)?)
-}
 
 impl<A: Allocator + Copy> SharedSnapshot<A> {
     /// How many shards there are.
@@ -75,7 +64,7 @@ impl<A: Allocator + Copy> SharedSnapshot<A> {
             (λ found. found ≡ map_next (map_of self.old) (option_copied after.entry)) }
         ensures same { self.new ≡ self.old }
     {
-        let room = room_for_pins(alloc, self.pinned.len())?;
+        let room = list_with_room(alloc, self.pinned.len())?;
         let laid = replace(&mut self.pinned, Vec::new(alloc));
         let (mut pinned, space) = lift_pins(self.map.shard_stores(), laid, room);
         let found = next_among(pinned.as_mut_slice(), self.map.split_keys(), after);
@@ -97,7 +86,7 @@ impl<A: Allocator + Copy> SharedSnapshot<A> {
             (option_copied to.entry) limit) }
         ensures same { self.new ≡ self.old }
     {
-        let room = room_for_pins(alloc, self.pinned.len())?;
+        let room = list_with_room(alloc, self.pinned.len())?;
         let laid = replace(&mut self.pinned, Vec::new(alloc));
         let (mut pinned, space) = lift_pins(self.map.shard_stores(), laid, room);
         let found = range_among(
@@ -120,7 +109,7 @@ impl<A: Allocator + Copy> SharedSnapshot<A> {
             ((format : Format) → AllIn format self.old → ⊥)) }
         ensures same { self.new ≡ self.old }
     {
-        let room = room_for_pins(alloc, self.pinned.len())?;
+        let room = list_with_room(alloc, self.pinned.len())?;
         let laid = replace(&mut self.pinned, Vec::new(alloc));
         let (mut pinned, space) = lift_pins(self.map.shard_stores(), laid, room);
         let format = one_format(pinned.as_mut_slice());
@@ -136,7 +125,7 @@ impl<A: Allocator + Copy> SharedSnapshot<A> {
         ensures err { IfErr result.1 (λ fault. LacksDirectory fault self) }
         ensures same { result.0 ≡ self }
     {
-        let room = match room_for_pins(alloc, self.pinned.len()) {
+        let room = match list_with_room(alloc, self.pinned.len()) {
             Ok(room) => room,
             Err(refused) => return (self, Err(DirectoryFault::Memory(refused))),
         };
@@ -176,7 +165,7 @@ impl<A: Allocator + Copy> SharedSnapshot<A> {
         ensures err { IfErr result.1 (λ fault. LacksDirectory fault self) }
         ensures same { result.0 ≡ self }
     {
-        let room = match room_for_pins(alloc, self.pinned.len()) {
+        let room = match list_with_room(alloc, self.pinned.len()) {
             Ok(room) => room,
             Err(refused) => return (self, Err(DirectoryFault::Memory(refused))),
         };
@@ -219,7 +208,7 @@ impl<A: Allocator + Copy> SharedSnapshot<A> {
         ensures err { IfErr result.1 (λ fault. LacksDirectory fault self) }
         ensures same { result.0 ≡ self }
     {
-        let room = match room_for_pins(alloc, self.pinned.len()) {
+        let room = match list_with_room(alloc, self.pinned.len()) {
             Ok(room) => room,
             Err(refused) => return (self, Err(DirectoryFault::Memory(refused))),
         };
