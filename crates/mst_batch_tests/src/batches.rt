@@ -137,7 +137,7 @@ fn worked_batches(rt: HostRuntime) {
     }
 }
 
-/// Whether the pairs after a batch are made in a heap of so many bytes. Ends the test if they are
+/// Whether the pairs after a batch are made in a heap of this many bytes. Ends the test if they are
 /// wrong, or if the heap keeps anything of them.
 fn is_made(rt: &impl Abort, alloc: Global, batch: &Worked, bytes: usize) -> bool {
     let edits = edits_of(rt, alloc, batch.edits);

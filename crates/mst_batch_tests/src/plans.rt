@@ -72,7 +72,7 @@ struct Carried {
     free: u32,
 }
 
-/// Puts a pair into the empty map by its plan, in so many rows.
+/// Puts a pair into the empty map by its plan, in this many rows.
 fn put_by_plan(
     alloc: Global,
     format: Format,

@@ -52,7 +52,7 @@ fn put_batch(
     }
 }
 
-/// Puts so many values, other than the current ones, at keys that the map has, `size` of them in
+/// Puts `calls` values, other than the current ones, at keys that the map has, `size` of them in
 /// each batch. Returns true if each batch went through.
 pub fn put(alloc: Global, pass: &mut Pass<'_, Global>, keys: &[Key], calls: u32, size: u32) -> bool
     requires some { 0 < length keys.now }
@@ -85,7 +85,7 @@ fn load_one(rt: &HostRuntime, edits: &[Edit], format: Format) -> io::Result<()> 
     tell(rt, "load", edits.len(), 1, done)
 }
 
-/// Puts all keys by one batch into an empty store, so many times, each in a store of its own.
+/// Puts all keys by one batch into an empty store, `calls` times, each in a store of its own.
 pub fn load(rt: &HostRuntime, keys: &[Key], calls: u32, format: Format) -> io::Result<()> {
     let edits = edits_of_all(rt.alloc(), keys)?;
     for _ in 0..calls {

@@ -31,7 +31,7 @@ pub fn picked(keys: &[Key], call: u32) -> &Key
     &keys[call as usize * STRIDE % keys.len()]
 }
 
-/// Puts so many values, numbered from `first` on and other than the current ones, at keys that the
+/// Puts `calls` values, numbered from `first` on and other than the current ones, at keys that the
 /// map has. Returns true if each call went through.
 pub fn put(pass: &mut Pass<'_, Global>, keys: &[Key], calls: u32, first: u64) -> bool
     requires some { 0 < length keys.now }
@@ -46,7 +46,7 @@ pub fn put(pass: &mut Pass<'_, Global>, keys: &[Key], calls: u32, first: u64) ->
     true
 }
 
-/// Removes so many keys, and puts each back before the next is removed. Returns true if each call
+/// Removes `calls` keys, and puts each back before the next is removed. Returns true if each call
 /// went through.
 pub fn remove_and_put_back(pass: &mut Pass<'_, Global>, keys: &[Key], calls: u32) -> bool
     requires some { 0 < length keys.now }
@@ -63,7 +63,7 @@ pub fn remove_and_put_back(pass: &mut Pass<'_, Global>, keys: &[Key], calls: u32
     true
 }
 
-/// Makes so many migrations, each to the format that is not the current one. Returns true if each
+/// Makes `calls` migrations, each to the format that is not the current one. Returns true if each
 /// call went through.
 pub fn migrate(alloc: Global, pass: &mut Pass<'_, Global>, calls: u32) -> bool {
     for _ in 0..calls {

@@ -47,7 +47,7 @@ pub fn keys(alloc: Global, count: u32) -> Result<Vec<Key>, AllocError> {
     Ok(keys)
 }
 
-// The key of this number among so many: its first four bytes say where it lies.
+// The key of this number among `count`: its first four bytes say where it lies.
 fn rising_key(number: u32, count: u32) -> Key {
     let mut bytes: [u8; KEY_BYTES] = bytes_of(u64::from(number) * 64);
     let place = (u64::from(number) << 32) / u64::from(count.max(1));
@@ -59,7 +59,7 @@ fn rising_key(number: u32, count: u32) -> Key {
     key
 }
 
-/// So many keys that rise, spread evenly over all.
+/// `count` keys that rise, spread evenly over all.
 pub fn rising(alloc: Global, count: u32) -> Result<Vec<Key>, AllocError> {
     let mut keys = Vec::with_capacity(alloc, count as usize)?;
     for number in 0..count {

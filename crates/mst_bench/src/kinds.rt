@@ -10,7 +10,7 @@ use std::alloc::Global;
 #[derive(Clone, Copy)]
 pub enum Kind {
     Put,
-    /// Puts, so many in each batch.
+    /// Puts, this many in each batch.
     PutInBatches(u32),
     RemoveAndPutBack,
     Version,
@@ -61,7 +61,7 @@ fn get_pinned<'a>(pass: Pass<'a, Global>, keys: &[Key], calls: u32) -> (Pass<'a,
     (pinned.unpin(), done)
 }
 
-// Makes so many calls of a kind that leaves the pass where it is. Returns true if each went
+// Makes this many calls of a kind that leaves the pass where it is. Returns true if each went
 // through.
 fn make_in_place(
     alloc: Global,
@@ -86,7 +86,7 @@ fn make_in_place(
     }
 }
 
-/// Makes so many calls of a kind. Returns the pass, and whether each call went through.
+/// Makes this many calls of a kind. Returns the pass, and whether each call went through.
 pub fn make<'a>(
     alloc: Global,
     mut pass: Pass<'a, Global>,

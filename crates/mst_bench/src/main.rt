@@ -1,7 +1,7 @@
 //! Makes calls of a store, so that their instructions can be counted.
 //!
-//! `mst_bench KIND KEYS CALLS [1|2]` puts so many keys of 16 bytes with values of 32 into a store
-//! of format 1 or 2, makes so many calls of one kind, and prints a line: the kind, the number of
+//! `mst_bench KIND KEYS CALLS [1|2]` puts KEYS keys of 16 bytes with values of 32 into a store
+//! of format 1 or 2, makes CALLS calls of one kind, and prints a line: the kind, the number of
 //! keys and that of calls. `mst_bench load KEYS CALLS [1|2]` makes loads, each in a store of its
 //! own. Some kinds are of a map of 32 shards. With other words it says how it is called. Keys,
 //! values and their order are the same in each run: `tools/counts` counts the instructions of one

@@ -13,7 +13,7 @@ const RANGE: usize = 100;
 /// How many proofs there are for the calls that verify.
 const PROOFS: u32 = 64;
 
-/// Gets so many keys, each with a pin of its own. Returns true if each has a value.
+/// Gets `calls` keys, each with a pin of its own. Returns true if each has a value.
 pub fn get(pass: &mut Pass<'_, Global>, keys: &[Key], calls: u32) -> bool
     requires some { 0 < length keys.now }
 {
@@ -25,7 +25,7 @@ pub fn get(pass: &mut Pass<'_, Global>, keys: &[Key], calls: u32) -> bool
     true
 }
 
-/// Gets so many keys of a version that stays pinned. Returns true if each has a value.
+/// Gets `calls` keys of a version that stays pinned. Returns true if each has a value.
 pub fn get_pinned(pinned: &mut Pinned<'_, Global>, keys: &[Key], calls: u32) -> bool
     requires some { 0 < length keys.now }
 {
@@ -37,7 +37,7 @@ pub fn get_pinned(pinned: &mut Pinned<'_, Global>, keys: &[Key], calls: u32) -> 
     true
 }
 
-/// Proves the answers for so many keys, each with a pin of its own. Returns true if memory
+/// Proves the answers for `calls` keys, each with a pin of its own. Returns true if memory
 /// sufficed.
 pub fn prove(alloc: Global, pass: &mut Pass<'_, Global>, keys: &[Key], calls: u32) -> bool
     requires some { 0 < length keys.now }
@@ -50,7 +50,7 @@ pub fn prove(alloc: Global, pass: &mut Pass<'_, Global>, keys: &[Key], calls: u3
     true
 }
 
-/// Asks so many times for the number of the current version: a pin and its end. Returns true if
+/// Asks `calls` times for the number of the current version: a pin and its end. Returns true if
 /// each call went through, which each does.
 pub fn version(pass: &mut Pass<'_, Global>, calls: u32) -> bool {
     let first = pass.version();
@@ -62,7 +62,7 @@ pub fn version(pass: &mut Pass<'_, Global>, calls: u32) -> bool {
     true
 }
 
-/// Asks so many times for the pair after a key. Returns true if some key has one.
+/// Asks `calls` times for the pair after a key. Returns true if some key has one.
 pub fn next(pass: &mut Pass<'_, Global>, keys: &[Key], calls: u32) -> bool
     requires some { 0 < length keys.now }
 {
@@ -73,7 +73,7 @@ pub fn next(pass: &mut Pass<'_, Global>, keys: &[Key], calls: u32) -> bool
     found
 }
 
-/// Asks so many times for the pairs from a key on, at most a hundred. Returns true if memory
+/// Asks `calls` times for the pairs from a key on, at most a hundred. Returns true if memory
 /// sufficed.
 pub fn range(alloc: Global, pass: &mut Pass<'_, Global>, keys: &[Key], calls: u32) -> bool
     requires some { 0 < length keys.now }
@@ -106,7 +106,7 @@ fn proofs(
     Ok(proofs)
 }
 
-/// Verifies so many proofs, which are made before. Returns true if each shows a value.
+/// Verifies `calls` proofs, which are made before. Returns true if each shows a value.
 pub fn verify(alloc: Global, pass: &mut Pass<'_, Global>, keys: &[Key], calls: u32) -> bool
     requires some { 0 < length keys.now }
 {

@@ -1,5 +1,5 @@
-//! Calls of a handle of a sharded map; and beside them gets of the same keys in single stores, and
-//! puts into a store with the pairs of a directory.
+//! Calls of a handle of a sharded map; and in addition to them gets of the same keys in single
+//! stores, and puts into a store with the pairs of a directory.
 ghost use Rattle.std.specs.Prelude.{◌≡◌, ◌<◌, ◌≤◌, IfOk, length};
 ghost use Rattle.mst_sharded.specs.Opening.{seats_of};
 
@@ -17,7 +17,7 @@ use std::io;
 /// How many shards the map has.
 const SHARDS: usize = 32;
 
-/// Rows of a shard for each of its keys, and for the paths of puts beside pinned versions.
+/// Rows of a shard for each of its keys, and for the paths of puts while versions are pinned.
 const ROWS_OF_KEY: u32 = 3;
 
 const SPARE_ROWS: u32 = 512;
@@ -34,7 +34,7 @@ pub enum Kind {
     Snapshots(Each),
 }
 
-/// What is done beside each snapshot.
+/// What is done with each snapshot.
 #[derive(Clone, Copy)]
 pub struct Each {
     /// Whether a value is put before it.
@@ -145,7 +145,7 @@ fn fill(handle: &mut Handle<'_, Global, Global>, keys: &[Key]) -> bool {
     true
 }
 
-// Gets so many keys. Returns true if each has a value.
+// Gets `calls` keys. Returns true if each has a value.
 fn get(handle: &mut Handle<'_, Global, Global>, keys: &[Key], calls: u32) -> bool
     requires some { 0 < length keys.now }
 {
@@ -193,7 +193,7 @@ fn change_and_snapshot<'a>(
     (handle, changed && told)
 }
 
-// Takes so many snapshots. Returns true if each call went through.
+// Takes `calls` snapshots. Returns true if each call went through.
 fn snapshots(
     alloc: Global,
     mut handle: Handle<'_, Global, Global>,
@@ -212,7 +212,7 @@ fn snapshots(
     all_done
 }
 
-// Makes so many calls of a kind. Returns true if each went through.
+// Makes this many calls of a kind. Returns true if each went through.
 fn make(
     alloc: Global,
     mut handle: Handle<'_, Global, Global>,
@@ -300,7 +300,7 @@ fn fill_listings(pass: &mut Pass<'_, Global>, bounds: &[Key]) -> bool {
     true
 }
 
-// Puts so many other listings. Returns true if each call went through.
+// Puts `calls` other listings. Returns true if each call went through.
 fn put_listings(pass: &mut Pass<'_, Global>, bounds: &[Key], calls: u32) -> bool
     requires some { 0 < length bounds.now }
 {

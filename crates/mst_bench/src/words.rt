@@ -17,7 +17,7 @@ pub enum Task {
     Help,
 }
 
-/// Calls of one kind at a map of so many keys, in a store of a format.
+/// Calls of one kind at a map of this many keys, in a store of a format.
 #[derive(Clone, Copy)]
 pub struct Calls {
     pub kind: Kind,
@@ -27,7 +27,7 @@ pub struct Calls {
     pub format: Format,
 }
 
-/// Loads of so many keys, each into a store of its own of a format.
+/// Loads of this many keys, each into a store of its own of a format.
 #[derive(Clone, Copy)]
 pub struct Loads {
     pub keys: u32,
@@ -35,7 +35,7 @@ pub struct Loads {
     pub format: Format,
 }
 
-/// Calls of one kind at a sharded map of so many keys, whose shards are of a format.
+/// Calls of one kind at a sharded map of this many keys, whose shards are of a format.
 #[derive(Clone, Copy)]
 pub struct ShardedCalls {
     pub kind: shards::Kind,

@@ -83,7 +83,7 @@ abbrev pub placed : {A : Type 0} → ℕ → Result A EditFault → (A → Resul
 placed place (Ok x) more = more x
 placed place (Err fault) more = Err (record { place = place; fault = fault })
 
--- the edits before and those of the bytes, in at most so many steps
+-- the edits before and those of the bytes, in at most this many steps
 unfoldable pub edits_from : ℕ → List Edit → List ℕ → Result (List Edit) BadEdit
 edits_from zero before bytes = Ok before
 edits_from (suc n) before [] = Ok before

@@ -10,7 +10,7 @@ use Rattle.mst_c.specs.declared.held.State.TheVariants.{Away, Free, Pinned}
 use Rattle.mst_c.specs.declared.held.Uncounted.{Uncounted}
 use Rattle.mst_c.specs.declared.held.Uncounted.TheVariants.{Pins, Busy}
 
--- The rows that are free are counted by a free pass where no other pass writes, beside pinned
+-- The rows that are free are counted by a free pass where no other pass writes, with pinned
 -- versions too, in as many steps as the pass's contract says
 abbrev pub CountsFree : State → Result ℕ Uncounted → State → Type 0
 CountsFree Away result s = ⊥

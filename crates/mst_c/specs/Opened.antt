@@ -6,7 +6,7 @@ use Rattle.mst_c.specs.declared.hand.PaddedHand.{PaddedHand}
 use Rattle.mst_c.specs.Formats.{format_named}
 
 -- each hand has a free pass that has seen nothing, all of one store in the format that has this
--- number, with so many rows and as many passes as hands, and their numbers are 1, 2 and so on
+-- number, with this many rows and as many passes as hands, and their numbers are 1, 2 and so on
 abbrev pub Opened : ℕ → ℕ → List PaddedHand → Type 0
 Opened format rows hands = (s : StoreId) × (format_named format ≡ Some s.format)
     × (s.rows ≡ rows) × (s.passes ≡ length hands)

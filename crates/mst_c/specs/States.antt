@@ -4,7 +4,7 @@ use Rattle.mst_store.specs.Passes.{StoreId}
 use Rattle.mst_c.specs.declared.held.State.{State}
 use Rattle.mst_c.specs.declared.held.State.TheVariants.{Away, Free, Pinned}
 
--- between calls a hand's pass is there, and of the store beside it
+-- between calls a hand's pass is there, and of the store next to it
 abbrev pub IsOf : StoreId → State → Type 0
 IsOf store Away = ⊥
 IsOf store (Free p) = p.store ≡ store

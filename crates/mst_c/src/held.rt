@@ -1,4 +1,4 @@
-//! What a hand holds: a pass, free or pinned, that is laid down beside a share of its store.
+//! What a hand holds: a pass, free or pinned, that is laid down together with a share of its store.
 ghost use Rattle.std.specs.Prelude.{◌≡◌, ◌≤◌, true, length, Some, None, IfOk, OnErr};
 ghost use Rattle.std.specs.Arc.{arc_value};
 ghost use Rattle.mst_key.specs.Map.{map_next, map_range};
@@ -33,8 +33,8 @@ pub enum State {
 /// What no call writes at the end of a box.
 const PADDING: [u64; 16] = [0; 16];
 
-/// A pass beside a share of its store. Each call moves the pass out and back, so the box ends with
-/// padding: then no other box has its pass in these cache lines.
+/// A pass together with a share of its store. Each call moves the pass out and back, so the box
+/// ends with padding: then no other box has its pass in these cache lines.
 #[derive(Drop)]
 pub struct Held {
     store: Arc<Store<Global>, Global>,
@@ -90,8 +90,8 @@ pub(crate) enum Uncounted {
     Busy,
 }
 
-/// A pass of the store, beside a share of it, goes into an empty hand. Nothing else makes a `Held`,
-/// so no other body has one to put in the place of a pass that it took out of a hand.
+/// A pass of the store, together with a share of it, goes into an empty hand. Nothing else makes a
+/// `Held`, so no other body has one to put in the place of a pass that it took out of a hand.
 pub(crate) fn hand_out(
     alloc: Global,
     store: &Arc<Store<Global>, Global>,

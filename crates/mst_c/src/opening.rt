@@ -89,7 +89,7 @@ fn hand_passes(
     MEMORY
 }
 
-/// Hands all passes of a new store out, each beside a share of it.
+/// Hands all passes of a new store out, each together with a share of it.
 fn hand_store(
     alloc: Global,
     store: Store<Global>,

@@ -109,7 +109,7 @@ fn count_edits(packed: &[u8]) -> Result<usize, BadEdit>
     Ok(count)
 }
 
-/// The edits of a buffer that has so many.
+/// The edits of a buffer that has `count` of them.
 fn list_edits(alloc: Global, packed: &[u8], count: usize) -> Result<Vec<Edit, Global>, Memory>
     requires edits { (es : List Edit) × (edits_in packed.now ≡ Ok es) × (count ≡ length es) }
     ensures ok { IfOk result (λ list. edits_in packed.now ≡ Ok list.items) }

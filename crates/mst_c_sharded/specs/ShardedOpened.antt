@@ -25,7 +25,7 @@ pub record HandsOpened (splits : List (List ℕ)) (shape : Shape) (hands : List 
     pub handles : (k : ℕ) (h : PaddedShardedHand) → k < length hands
         → (get_or hands k h).hand.held ≡ Some (Handle (new_handle map (k + 1)))
 
--- the same, where the bytes pack the splits, the format has this number, and a shard has so many
+-- the same, where the bytes pack the splits, the format has this number, and a shard has this many
 -- rows and as many passes as there are hands
 pub record ShardsOpened (format rows : ℕ) (bytes : List ℕ) (hands : List PaddedShardedHand) : Type 0
   where

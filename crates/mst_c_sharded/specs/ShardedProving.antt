@@ -31,7 +31,7 @@ Lists Says (Snapshot h) (Ok answer) s =
 Lists Says (Snapshot h) (Err (Directory fault)) s = (s ≡ Snapshot h) × LacksDirectory fault h
 Lists Says (Snapshot h) (Err PinsNone) s = ⊥
 
--- the answers beside the root digest: the proof of a key, and the directory
+-- the answers other than the root digest: the proof of a key, and the directory
 abbrev pub Proof : List ℕ → Format → List Pair → List (List ℕ) → List ℕ → Type 0
 Proof key format m splits bytes = bytes ≡ sharded_proof format m splits key
 

@@ -1,4 +1,4 @@
-//! What a hand of a sharded map holds: a handle or a snapshot, beside a share of its map.
+//! What a hand of a sharded map holds: a handle or a snapshot, together with a share of its map.
 ghost use Rattle.std.specs.Prelude.{◌≡◌, ◌≤◌, true, length, Some, None, Ok, Err, IfOk, IfErr};
 ghost use Rattle.std.specs.Option.{option_copied};
 ghost use Rattle.mst_key.specs.declared.history.Change.TheVariants.{Put, Remove};

@@ -1,4 +1,4 @@
--- What the words after a command say by their options, and what they say beside them.
+-- What the words after a command say by their options, and what they say apart from them.
 use Rattle.std.specs.Prelude.{◌≡◌, ℕ, ◌==◌, ◌<◌, ◌^◌, ◌-◌, ◌&&◌, ◌||◌, Bool, true, false, not, nat_lt, is_none, is_some, if◌then◌else◌, List, [], ◌∷◌, length, get_or, map, Option, Some, None, codes, pos}
 use Rattle.std.specs.List.{before_first, after_first, position_or_len}
 use Rattle.std.specs.Str.{bytes_eq}
@@ -159,7 +159,7 @@ abbrev pub is_new_switch : Subcommand → List ℕ → List (Bor (List ℕ)) →
 is_new_switch command word words = is_switch command word && not (has_switch word words)
 
 -- The words are switches and options of the command, each of them once, options with their values,
--- and so many operands, after a `--` operands alone. Where `is_value`, the first word is the value
+-- and `count` operands, after a `--` operands alone. Where `is_value`, the first word is the value
 -- of an option.
 abbrev pub are_words : Subcommand → Bool → ℕ → List (Bor (List ℕ)) → Bool
 are_words command is_value count [] = not is_value && (count == 0)

@@ -2,7 +2,7 @@
 use Rattle.std.specs.Prelude.{◌≡◌, ℕ, ◌+◌, ◌<◌, ◌≤◌, List, length}
 use Rattle.mst_devices.specs.Device.{Flow}
 
--- the source gave these bytes, up to its end, and no more than so many
+-- the source gave these bytes, up to its end, and no more than `most`
 pub record GaveAll {S : Type 0}
     (gives : Flow S) (left : S → ℕ) (most : ℕ)
     (s : S) (bytes : List ℕ) (t : S) : Type 0 where
@@ -14,7 +14,7 @@ pub record GaveAll {S : Type 0}
 abbrev pub piece : ℕ
 piece = 4096
 
--- the source gave more bytes than so many, by one piece at most
+-- the source gave more bytes than `most`, by one piece at most
 pub record GaveMore {S : Type 0} (gives : Flow S) (most : ℕ) (s t : S) : Type 0 where
   pub bytes : List ℕ
   pub given : gives s bytes t

@@ -1,4 +1,4 @@
-//! What the words after a command say by their options, and what they say beside them.
+//! What the words after a command say by their options, and what they say apart from them.
 ghost use Rattle.std.specs.Prelude.{◌≡◌, [], ◌||◌, get_or, map, false};
 ghost use Rattle.std.specs.Option.{option_map};
 ghost use Rattle.mst_command.specs.declared.task.Subcommand.TheVariants.{Run};
@@ -241,7 +241,7 @@ fn is_new_switch(command: Subcommand, word: &str, words: &[&str]) -> bool
 }
 
 // Whether the words are switches and options of the command, each of them once and an option with
-// its value, and so many operands. If `is_value`, the first word is the value of an option.
+// its value, and `count` operands. If `is_value`, the first word is the value of an option.
 fn are_words(command: Subcommand, is_value: bool, count: usize, words: &[&str]) -> bool
     ensures { result ≡ are_all command is_value count words.now }
 {

@@ -33,7 +33,7 @@ fn edits_of(alloc: Global, changes: &[Change]) -> Result<Vec<Edit>> {
     Ok(edits)
 }
 
-// Prints which version a block of so many edits made, and how many keys there are.
+// Prints which version a block of this many edits made, and how many keys there are.
 fn tell(rt: &HostRuntime, pass: &mut Pass<'_, Global>, edits: usize) -> Result<()> {
     let version = pass.version();
     let keys = pass.range(rt.alloc(), None, None, 100)?.len();

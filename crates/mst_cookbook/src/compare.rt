@@ -82,7 +82,7 @@ fn show(rt: &HostRuntime, mut ours: Pass<'_, Global>, mut theirs: Pass<'_, Globa
     compare_twice(rt, ours.pin(), theirs.pin())
 }
 
-// Opens theirs beside ours.
+// Opens theirs next to ours.
 fn run_beside(rt: &HostRuntime, ours: Pass<'_, Global>) -> Result<()> {
     let (store, seats) = Store::open(rt.alloc(), SHAPE)?;
     let theirs = one_pass(rt.alloc(), &store, seats)?;

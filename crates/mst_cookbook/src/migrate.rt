@@ -1,4 +1,4 @@
-//! Turns a store to format 2, beside a reader that pins the version before.
+//! Turns a store to format 2, while a reader pins the version before.
 use crate::sharing::two_passes;
 use anyhow::Result;
 use mst_key::{Format, Key, Value};

@@ -83,7 +83,7 @@ fn change_twice<T: Wait>(rt: &HostRuntime, waits: &T, writer: &mut Pass<'_, Glob
     change(rt, waits, writer, "one more", "35")
 }
 
-// Puts three keys, and changes one of them twice beside a pinned version.
+// Puts three keys, and changes one of them twice while a version is pinned.
 fn show<T: Wait>(
     rt: &HostRuntime,
     waits: &T,

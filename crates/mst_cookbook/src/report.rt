@@ -46,7 +46,7 @@ fn report_both(rt: &HostRuntime, mut pinned: Pinned<'_, Global>) -> Result<()> {
     report(rt, &mut pinned)
 }
 
-// Writes, and goes on writing beside a pinned version.
+// Writes, and goes on writing while a version is pinned.
 fn show(rt: &HostRuntime, mut writer: Pass<'_, Global>, reader: Pass<'_, Global>) -> Result<()> {
     put_each(&mut writer, BEFORE)?;
     let pinned = reader.pin();

@@ -81,7 +81,7 @@ impl<A: Allocator> Model for BytesSink<A> {
 }
 
 impl<A: Allocator> BytesSink<A> {
-    /// An empty sink with room for so many bytes. All its memory is taken here.
+    /// An empty sink with room for this many bytes. All its memory is taken here.
     pub fn new(alloc: A, room: usize) -> Result<BytesSink<A>, AllocError>
         ensures { IfOk result (λ s. s ≡ record { bytes = []; room = room; failures = 0 }) }
     {

@@ -21,8 +21,8 @@ use std::alloc::Global;
 
 /// Opens a store of the empty map in format 1 or 2, with `rows` rows, and puts a pass into each of
 /// the hands. What a hand held before is closed. Returns 0; -3 for another format; -10 if a store
-/// cannot have so many rows or passes; -9 if a growth was refused; and no other number. If it does
-/// not return 0, all hands are empty.
+/// cannot have that many rows or passes; -9 if a growth was refused; and no other number. If it
+/// does not return 0, all hands are empty.
 #[unsafe(no_mangle)]
 pub extern "C" fn mst_open(alloc: Global, format: u32, rows: u32, hands: &mut [PaddedHand]) -> i32
     ensures opened { result ≡ pos 0 → Opened format rows hands.new }
@@ -175,7 +175,7 @@ pub extern "C" fn mst_rows(alloc: Global, hand: &mut Hand, count: &mut u32) -> i
     telling::rows(alloc, hand, count)
 }
 
-/// Sets `count` to the number of rows that are free to the next write, beside pinned versions too.
+/// Sets `count` to the number of rows that are free to the next write, with pinned versions too.
 /// Returns 0; or -7, -8 for a pinned pass, -21, and then the count stays.
 #[unsafe(no_mangle)]
 pub extern "C" fn mst_free_rows(alloc: Global, hand: &mut Hand, count: &mut u32) -> i32

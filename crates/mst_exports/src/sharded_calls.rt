@@ -20,7 +20,7 @@ use std::alloc::Global;
 /// handle into each of the hands. What a hand held before is closed. The splits stand in a buffer:
 /// each is a byte for its length, and its bytes. Returns 0; -3 for another format; -26 if the
 /// buffer has bytes that are no keys, or keys that do not rise strictly from above that of one zero
-/// byte, or more than 1,023 of them; -10 if a store cannot have so many rows or passes; -9 if a
+/// byte, or more than 1,023 of them; -10 if a store cannot have that many rows or passes; -9 if a
 /// growth was refused; and no other number. If it does not return 0, all hands are empty.
 #[unsafe(no_mangle)]
 pub extern "C" fn mst_sharded_open(

@@ -23,13 +23,14 @@ change_of writer call = Put (key_of writer call) (value_of call)
 abbrev pub event_of : ℕ → ℕ → Event
 event_of writer call = record { pass = writer; change = change_of writer call }
 
--- the first so many calls of a writer, in their order
+-- this many first calls of a writer, in their order
 abbrev pub calls_of : ℕ → ℕ → History
 calls_of writer zero = []
 calls_of writer (suc n) = calls_of writer n ++ event_of writer (suc n) ∷ []
 
--- so many calls of each of the first so many writers, one writer after another: each has keys of
--- its own, so that any order of the writers' calls leaves the same map
+-- this many calls (the second number) of each of this many first writers (the first number), one
+-- writer after another: each has keys of its own, so that any order of the writers' calls leaves
+-- the same map
 abbrev pub all_calls : ℕ → ℕ → History
 all_calls zero calls = []
 all_calls (suc w) calls = all_calls w calls ++ calls_of (suc w) calls
@@ -38,7 +39,7 @@ all_calls (suc w) calls = all_calls w calls ++ calls_of (suc w) calls
 unfoldable pub map_left : ℕ → ℕ → List Pair
 map_left writers calls = after (all_calls writers calls)
 
--- the last of so many calls at this place in the round, where there is one
+-- the last of this many calls at this place in the round, where there is one
 abbrev pub last : ℕ → ℕ → Option ℕ
 last place zero = None
 last place (suc n) = if suc n % 32 == place then Some (suc n) else last place n
@@ -48,7 +49,7 @@ abbrev pub pair_left : ℕ → Option ℕ → List Pair
 pair_left writer None = []
 pair_left writer (Some call) = (key_of writer call, value_of call) ∷ []
 
--- the pairs that so many calls of a writer leave at its first so many places
+-- the pairs that `calls` calls of a writer leave at its first places, this many of them
 abbrev pub round_left : ℕ → ℕ → ℕ → List Pair
 round_left writer calls zero = []
 round_left writer calls (suc place) =

@@ -34,7 +34,7 @@ pub record HasAsked (call : ℕ) (a : Heard) (p q : Known) (b : Heard) : Type 0 
   pub once : q.asked ≡ p.asked + 1
   pub heard : b ≡ (if call % 2 == 1 then having_read q a else having_fetched q a)
 
--- the reader made its first so many calls, in their order, and no others, and has heard this
+-- the reader made its first calls, this many, in their order, and no others, and has heard this
 abbrev pub MadeReads : ℕ → Known → Known → Heard → Type 0
 MadeReads zero p q heard = (q ≡ p) × (heard ≡ nothing_heard)
 MadeReads (suc n) p q heard =

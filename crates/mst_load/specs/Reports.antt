@@ -25,7 +25,7 @@ pub record IsSettled (passes : List Known) (events : ℕ) (root : List ℕ) : Ty
   pub root_is : root ≡ text.root One (after log)
 
 -- The same of all passes of one store of 32,768 rows, opened in format 1, when each has made all
--- calls of its worker. They are so many, in the order of their numbers from 1
+-- calls of its worker. There are `count` of them, in the order of their numbers from 1
 pub record HasSettled (count writers calls events : ℕ) (root : List ℕ) : Type 0 where
   pub passes : List Known
   pub all : AreAllPasses passes
@@ -36,9 +36,9 @@ pub record HasSettled (count writers calls events : ℕ) (root : List ℕ) : Typ
   pub worked : All (HasAllCalls writers calls) passes
   pub settled : IsSettled passes events root
 
--- The report of a load with so many writers, each of which makes so many calls. No version fell,
--- there are as many events as calls of writers, and the root digest is that of the map which these
--- calls leave. That digest is built a second time from the map's pairs
+-- The report of a load with this many writers, each of which makes this many calls. No version
+-- fell, there are as many events as calls of writers, and the root digest is that of the map which
+-- these calls leave. That digest is built a second time from the map's pairs
 pub record IsReportOf (writers calls : ℕ) (report : Report) : Type 0 where
   pub never : report.falls ≡ 0
   pub version : IsOneVersion report.events report.root

@@ -13,20 +13,20 @@ HasPut call p q =
     ((answered : Reply) × WroteAfter (event_of p.number call) p answered q)
     ⊎ ((fault : ChangeFault) × RefusesAfter fault (change_of p.number call) p q)
 
--- The writer made its first so many calls, in their order, and no others. Each counts its steps, so
--- that none was left out: a put that was made one for each pass and three more, one refused at
+-- The writer made its first calls, this many, in their order, and no others. Each counts its steps,
+-- so that none was left out: a put that was made one for each pass and three more, one refused at
 -- least one
 abbrev pub MadePuts : ℕ → Known → Known → Type 0
 MadePuts zero p q = q ≡ p
 MadePuts (suc n) p q = (r : Known) × MadePuts n p r × HasPut (suc n) r q
 
--- a writer has made so many calls
+-- a writer has made this many calls
 pub record HasWritten (calls : ℕ) (p q : Known) : Type 0 where
   pub same : IsSamePass p q
   pub puts : MadePuts calls p q
 
--- A reader made so many calls, each by one step whose answer depends on others, and none of them an
--- event. It has now seen no fewer events
+-- A reader made this many calls, each by one step whose answer depends on others, and none of them
+-- an event. It has now seen no fewer events
 pub record HasRead (calls : ℕ) (p q : Known) : Type 0 where
   pub same : IsSamePass p q
   pub mine : q.mine ≡ p.mine

@@ -29,7 +29,7 @@ pub(crate) fn value(call: u32) -> Value
     value
 }
 
-// The last of so many calls that has this place in the round, if there is one.
+// The last of this many calls that has this place in the round, if there is one.
 #[tactic(auto, using(crate::proofs::Left::last_some, crate::proofs::Left::last_none))]
 fn last_call(place: u32, calls: u32) -> Option<u32>
     requires { place < 32 }
@@ -61,7 +61,7 @@ fn append_pair<A: Allocator>(
     Ok(())
 }
 
-// Appends the pairs that so many calls of the writer leave.
+// Appends the pairs that this many calls of the writer leave.
 #[tactic(auto, using(crate::proofs::Left::none_yet, crate::proofs::Left::one_more))]
 fn append<A: Allocator>(
     pairs: &mut Vec<(Key, Value), A>,
@@ -78,7 +78,7 @@ fn append<A: Allocator>(
     Ok(())
 }
 
-/// The map that so many calls of so many writers leave, in the order of its keys.
+/// The map that this many calls of this many writers leave, in the order of its keys.
 #[tactic(auto, using(crate::proofs::Left::all_writers))]
 pub(crate) fn left_by<A: Allocator>(
     alloc: A,

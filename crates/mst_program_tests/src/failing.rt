@@ -1,8 +1,8 @@
-//! Devices that fail after so many calls, and give or take so many bytes at a time.
+//! Devices that fail after a number of calls, and give or take a number of bytes at a time.
 use std::alloc::Global;
 use std::io::{self, Read, Write};
 
-/// Reads at most so many bytes at a time, and fails after so many reads.
+/// Reads at most `most` bytes at a time, and fails after `reads` reads.
 #[derive(Drop)]
 pub struct Reader<'a> {
     pub rest: &'a [u8],
@@ -24,7 +24,7 @@ impl<'a> Read for Reader<'a> {
     }
 }
 
-/// Writes at most so many bytes at a time, and fails after so many writes: by a write of 0 or an
+/// Writes at most `most` bytes at a time, and fails after `writes` writes: by a write of 0 or an
 /// error.
 #[derive(Drop)]
 pub struct Writer {

@@ -1,4 +1,4 @@
--- A proof beside the tree of the map.
+-- A proof together with the tree of the map.
 use Rattle.mst_key.specs.declared.format.Format.{Format}
 use Rattle.std.specs.Prelude.{◌≡◌, ◌≤◌, ◌⊎◌, ℕ, List, [], ◌∷◌, ◌++◌, Option, Some, None, length, map, Contains}
 use Rattle.mst_key.specs.declared.format.Format.TheVariants.{One, Two}
@@ -58,7 +58,8 @@ ShowsNoOther format t k proof =
 abbrev pub looked : Format → List Pair → List ℕ → Option (List ℕ)
 looked format m k = held_answer format (map_get m k)
 
--- so do these texts with this claim, whatever is expected of the first text beside that digest
+-- so do these texts with this claim, whatever is expected of the first text in addition to that
+-- digest
 abbrev pub NoOther : (format : Format) → Claim → Tree → List ℕ → List (List ℕ) → Type 0
 NoOther format claim t k ts = (x : Expected) (answer : Option (List ℕ)) → x.digest ≡ digest t
     → (followed format k x ts >> settled format claim) ≡ Ok answer → answer ≡ map_get (pairs t) k

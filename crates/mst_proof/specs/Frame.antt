@@ -27,12 +27,12 @@ text_at (a ∷ b ∷ []) = None
 text_at (a ∷ b ∷ c ∷ []) = None
 text_at (a ∷ b ∷ c ∷ d ∷ bytes) = part_at (from_be_bytes w32 (a ∷ b ∷ c ∷ d ∷ [])) bytes
 
--- so many texts, and the bytes after them
+-- this many texts, and the bytes after them
 unfoldable pub texts_at : ℕ → List ℕ → Option (List (List ℕ) × List ℕ)
 texts_at zero bytes = Some ([], bytes)
 texts_at (suc n) bytes = text_at bytes >>= λ t. texts_at n t.1 >>= λ ts. Some (t.0 ∷ ts.0, ts.1)
 
--- the bytes after so many texts
+-- the bytes after this many texts
 unfoldable pub rest_at : ℕ → List ℕ → Option (List ℕ)
 rest_at zero bytes = Some bytes
 rest_at (suc n) bytes = text_at bytes >>= λ t. rest_at n t.1

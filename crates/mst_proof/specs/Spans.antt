@@ -4,7 +4,7 @@ use Rattle.mst_node.specs.Tree.{Tree, empty, node, Entries, last, entry}
 use Rattle.mst_node.specs.declared.place.Span.{Span}
 use Rattle.mst_proof.specs.Verdict.{is_inside}
 
--- each node before those below it; a node in a gap stands between the keys beside the gap
+-- each node before those below it; a node in a gap stands between the keys next to the gap
 abbrev mutual
   pub spans : Option (List ℕ) → Option (List ℕ) → Tree → List (Span × Tree)
   spans low high empty = []

@@ -21,7 +21,7 @@ ghost use Rattle.mst_proof.specs.declared.fault.ProofFault.{ProofFault};
 
 /// The trail of a key, whose texts a proof is made of, is the nodes of the map's tree in whose span
 /// the key falls, from the top down to the one that decides. The span of a node lies between the
-/// keys beside the gap in which it stands.
+/// keys next to the gap in which it stands.
 pub fn trail_by_spans()
     ensures trail { (format : Format) (m : List Pair) (k : List ℕ) → IsAscending m
         → trail format m k ≡ nodes_around k (tree format m) }

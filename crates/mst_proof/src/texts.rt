@@ -50,7 +50,7 @@ fn text_of(bytes: &[u8]) -> Option<(&[u8], &[u8])>
     }
 }
 
-/// The bytes after so many texts.
+/// The bytes after this many texts.
 #[tactic(auto, unfolding(crate::specs::Frame::rest_at))]
 fn behind(bytes: &[u8], count: u8) -> Option<&[u8]>
     ensures reading { Gives (λ x. x.now) result (rest_at count bytes.now) }

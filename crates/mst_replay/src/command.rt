@@ -8,7 +8,7 @@ use crate::number::{number, number_after};
 use crate::rows::row_set;
 use mst_pin::Event;
 
-/// What a line asks for: a new core of so many passes, or an event of the core.
+/// What a line asks for: a new core of this many passes, or an event of the core.
 #[derive(Clone, Copy, Debug, PartialEq, Eq)]
 pub enum Command {
     Open(u8),

@@ -7,7 +7,7 @@ use mst_pin::Answer;
 
 #[derive(Clone, Copy, Debug, PartialEq, Eq)]
 pub enum Reply {
-    /// A new core, with so many version records.
+    /// A new core, with this many version records.
     Records(u8),
     /// The record that was pinned.
     Record(u8),

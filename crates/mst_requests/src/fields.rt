@@ -99,7 +99,7 @@ fn number_of(digits: &[u8], most: u32) -> Option<u32>
     Some(number as u32)
 }
 
-/// Returns the pass that a field names, if so many are dealt: decimal digits without a leading
+/// Returns the pass that a field names, if this many are dealt: decimal digits without a leading
 /// zero.
 pub fn pass_of(field: &[u8], passes: u32) -> Option<u32>
     ensures { result ≡ pass_in passes field.now }

@@ -40,7 +40,7 @@ pub enum Command<'l> {
     Get(Key),
     /// For the pair of the least key above a bound.
     Next(Option<Key>),
-    /// For the first pairs of the keys from a bound on and below another, at most so many.
+    /// For the first pairs of the keys from a bound on and below another, at most this many.
     Range(Option<Key>, Option<Key>, u32),
     /// For the root digest.
     Root,

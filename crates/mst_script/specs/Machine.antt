@@ -25,7 +25,7 @@ use Rattle.mst_requests.specs.declared.request.Request.{Request}
 use Rattle.mst_requests.specs.Grammar.{asked}
 use Rattle.mst_requests.specs.Texts.{line_of, fault_words, value_words, found_words, count_words, pair_lines, pinned_words, rows_words, format_words, reply_words}
 
--- The history so far, and which version each pass pins, if it pins one: the version is that of so
+-- The history so far, and which version each pass pins, if it pins one: the version is that of this
 -- many first events.
 pub record Machine : Type 0 where
   pub history : History

@@ -91,7 +91,7 @@ abbrev pub Becomes : Format → List Pair → Known → Known → Type 0
 Becomes format m p q =
     IsOnly q × (q.store ≡ p.store) × (format_seen q ≡ format) × (after q.seen ≡ m)
 
--- there are rows for the map and for another one beside it
+-- there are rows for the map and for another one next to it
 abbrev pub HasRowsBeside : List Pair → Known → Type 0
 HasRowsBeside m p = 2 * (length (after p.seen) + length m) ≤ p.store.rows
 

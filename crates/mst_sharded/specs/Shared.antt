@@ -1,4 +1,4 @@
--- Handles beside a share of their map: of which stores their passes are.
+-- Handles with a share of their map: of which stores their passes are.
 use Rattle.std.specs.Prelude.{◌≡◌, ℕ, suc, List, [], ◌∷◌, Some, map, slice_get}
 use Rattle.mst_store.specs.Passes.{Known, StoreId}
 use Rattle.mst_key.specs.declared.format.Format.{Format}

@@ -1,4 +1,4 @@
-//! Passes that are laid down beside the stores of the shards, and lifted again: one at a place, or
+//! Passes that are laid down next to the stores of the shards, and lifted again: one at a place, or
 //! all of a list. Lists keep their room, so that none of it takes memory.
 ghost use Rattle.std.specs.Prelude.{◌≡◌, ◌<◌, ◌≤◌, ◌+◌, ◌++◌, ◌∷◌, [], length, slice_index_or, vec_len, vec_capacity};
 ghost use Rattle.std.specs.List.{AllByRecursion, swap_remove, SwappedAt};

@@ -124,7 +124,7 @@ fn is_shape(shape: Shape) -> bool
     (4..=65_535).contains(&shape.rows) && (1..=32).contains(&shape.passes)
 }
 
-// The shape of the store of a directory of so many shards.
+// The shape of the store of a directory of this many shards.
 fn directory_shape(shards: usize, format: Format) -> Shape
     requires few { shards ≤ 1024 }
     ensures shape { result ≡ shape_of_directory shards format }
@@ -159,7 +159,7 @@ fn open_one<A: Allocator + Copy>(
     Ok(())
 }
 
-// Opens so many stores of a shape.
+// Opens this many stores of a shape.
 fn open_all<A: Allocator + Copy>(
     alloc: A,
     count: usize,

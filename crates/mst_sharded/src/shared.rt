@@ -1,4 +1,4 @@
-//! Handles beside a share of their map. They name no lifetime, so code that is not Rattle can keep
+//! Handles with a share of their map. They name no lifetime, so code that is not Rattle can keep
 //! one: between calls each pass is laid down.
 ghost use Rattle.std.specs.Prelude.{◌≡◌, ◌≤◌, ◌++◌, ◌∷◌, [], Some, slice_get, vec_len, vec_capacity, IfOk, OnOk};
 ghost use Rattle.std.specs.Arc.{arc_value};
@@ -58,7 +58,7 @@ impl<A: Allocator + Copy> LaidDirectory<A> {
     }
 }
 
-/// A handle beside a share of its map. It may be moved to another thread, and each of its calls
+/// A handle with a share of its map. It may be moved to another thread, and each of its calls
 /// runs in one thread.
 #[derive(Drop)]
 pub struct SharedHandle<A: Allocator + Copy> {
@@ -90,7 +90,7 @@ impl<A: Allocator + Copy> Model for SharedHandle<A> {
         × (h.room.items ≡ []) × (vec_len h.passes ≤ vec_capacity h.room) };
 }
 
-/// A snapshot beside a share of its map. One that is dropped holds the rows of its versions for
+/// A snapshot with a share of its map. One that is dropped holds the rows of its versions for
 /// good: [`SharedSnapshot::release`] ends the pins.
 #[derive(Drop)]
 pub struct SharedSnapshot<A: Allocator + Copy> {
@@ -201,7 +201,7 @@ fn rows_of_map<'a, A: Allocator + Copy>(
 }
 
 impl<A: Allocator + Copy> Sharded<A> {
-    /// Returns the handles of the map, as [`Sharded::deal`] does, each beside a share of it.
+    /// Returns the handles of the map, as [`Sharded::deal`] does, each with a share of it.
     ///
     /// The seats must be those that were opened with this map. Returns `Memory` if a growth was
     /// refused, or if there are more shares than can be counted. The seats are gone then.

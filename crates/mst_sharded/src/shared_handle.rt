@@ -1,4 +1,4 @@
-//! The calls of a handle beside a share of its map. Each has the contract of the handle's own.
+//! The calls of a handle with a share of its map. Each has the contract of the handle's own.
 ghost use Rattle.std.specs.Prelude.{◌≡◌, ◌+◌, ◌≤◌, length, IfOk, IfErr, OnOk};
 ghost use Rattle.mst_key.specs.declared.history.Change.TheVariants.{Put, Remove};
 ghost use Rattle.mst_key.specs.History.{had};

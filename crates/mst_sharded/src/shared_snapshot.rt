@@ -1,4 +1,4 @@
-//! The calls of a snapshot beside a share of its map. Each has the contract of the snapshot's own.
+//! The calls of a snapshot with a share of its map. Each has the contract of the snapshot's own.
 ghost use Rattle.std.specs.Prelude.{◌≡◌, ◌≤◌, ℕ, length, option_map, slice_get, IfOk, IfErr, IfNone, IfSome};
 ghost use Rattle.std.specs.Option.{option_copied};
 ghost use Rattle.mst_key.specs.declared.format.Format.{Format};

@@ -34,7 +34,7 @@ pub record IsDirectory (format : Format) (root : List ℕ) (pairs : List Pair)
   pub listed : AreListed (shards splits) pairs
   pub has_root : root ≡ root_of format pairs
 
--- ---- one listing beside the next
+-- ---- one listing and the next
 
 -- a listing has a digest, and the next one begins above its lower bound
 abbrev pub Rises : Pair → List Pair → Type 0

@@ -21,7 +21,7 @@ abbrev pub ◌then◌ : Result (Unit {0}) AuditFault → Result (Unit {0}) Audit
 (Err f) then r = Err f
 (Ok u) then r = r
 
--- the fault of an upper bound beside the next pair; no bytes are no bound
+-- the fault of an upper bound compared with the next pair; no bytes are no bound
 abbrev pub unmet : List ℕ → Option Pair → Option ListingFault
 unmet [] None = None
 unmet [] (Some q) = Some Overlap
@@ -33,7 +33,7 @@ abbrev pub rises : List ℕ → Option Pair → Bool
 rises k None = true
 rises k (Some q) = is_lt (key_cmp k q.0)
 
--- the fault of a pair as the listing of a shard beside the next pair
+-- the fault of a pair as the listing of a shard, compared with the next pair
 abbrev pub listing_fault : Pair → Option Pair → Option ListingFault
 listing_fault p next =
     if nat_lt (length p.1) 32 then Some NoDigest

@@ -55,7 +55,7 @@ pub enum AuditFault {
     OtherRoot,
 }
 
-/// The fault of an upper bound beside the next pair, if it has one.
+/// The fault of an upper bound compared with the next pair, if it has one.
 fn unmet(high: &[u8], next: Option<&(Key, Value)>) -> Option<ListingFault>
     ensures unmet { result ≡ unmet_by high.now (option_copied next.entry) }
 {
@@ -85,7 +85,7 @@ fn rises(key: &Key, next: Option<&(Key, Value)>) -> bool
     }
 }
 
-/// The fault of a pair as the listing of a shard beside the next pair, if it has one.
+/// The fault of a pair as the listing of a shard, compared with the next pair, if it has one.
 fn listing_fault(pair: &(Key, Value), next: Option<&(Key, Value)>) -> Option<ListingFault>
     ensures fault { result ≡ fault_by pair.now (option_copied next.entry) }
 {

@@ -19,7 +19,7 @@ use std::alloc::Allocator;
 /// of the directory of a map with some splits, and of the shard of the key.
 ///
 /// If `verify_sharded` returns another answer than the map's for the key and the directory's
-/// digest, there is such a pair, and it is found: first beside the directory's tree, then beside
+/// digest, there is such a pair, and it is found: first with the directory's tree, then with
 /// the shard's. `None` is returned only if the proof shows no other answer. Returns `Memory` only
 /// if a growth was refused, and never if the frame of the proof or those of both parts are broken.
 pub fn collide_sharded<A: Allocator + Copy>(
@@ -40,8 +40,8 @@ pub fn collide_sharded<A: Allocator + Copy>(
         proof.now (top_of format (option_copied directory.entry))
         (top_of format (option_copied shard.entry))) p.one.items p.other.items)) }
     ensures memory { OnErr result (IsOk (parts_at format proof.now)) }
-    // Memory is refused to the search beside the directory, and then the frame of its proof is
-    // whole; or to that beside the shard, and then the frame of its proof is, and only the pair
+    // Memory is refused to the search with the directory, and then the frame of its proof is
+    // whole; or to that with the shard, and then the frame of its proof is, and only the pair
     // itself takes memory if the shard has no tree.
     ensures memory_of_pair { OnErr result (IfOk (parts_at format proof.now) (λ p.
         IsOk (frame_at format p.directory) ⊎ (IsOk (frame_at format p.shard)

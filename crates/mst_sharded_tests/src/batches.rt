@@ -1,4 +1,4 @@
-//! Batches of edits in a map of one shard, beside a plain list. Transcripts show those of more
+//! Batches of edits in a map of one shard, next to a plain list. Transcripts show those of more
 //! shards (`tests/transcripts/sharded.py`).
 use crate::confirming::confirm;
 use crate::maps::{SHAPE, one_dealt, opened};

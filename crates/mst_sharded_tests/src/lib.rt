@@ -1,8 +1,8 @@
 //! Tests of what Rattle alone sees of sharded maps: maps of one shard, directories and versions of
-//! snapshots, handles that wait, on threads beside snapshots, and what takes no memory. All else
-//! is tested of handles by transcripts (`tests/transcripts/sharded.py`) and with memory that is
-//! refused to the program (`tests/devices`), and of openings, and of handles beside a share of
-//! their map, from C and Python (`tests/store`).
+//! snapshots, handles that wait, on threads at the same time as snapshots, and what takes no
+//! memory. All else is tested of handles by transcripts (`tests/transcripts/sharded.py`) and with
+//! memory that is refused to the program (`tests/devices`), and of openings, and of handles with a
+//! share of their map, from C and Python (`tests/store`).
 #![tactic(auto)]
 
 #[cfg(test)]

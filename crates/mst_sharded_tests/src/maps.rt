@@ -16,7 +16,7 @@ pub(crate) const SHAPE: Shape = Shape {
     format: Format::One,
 };
 
-/// A heap of so many bytes.
+/// A heap of this many bytes.
 pub(crate) fn heap_of(rt: &(impl Abort + AllocGlobal), bytes: usize) -> LocalHeap {
     let Ok(heap) = LocalHeap::new(rt.alloc(), bytes) else {
         panic!(rt; "no memory")
@@ -39,7 +39,7 @@ pub(crate) fn numbered(rt: &impl Abort, number: usize) -> Key {
     key(rt, &[(number / 16 % 16 + 1) as u8, (number % 16) as u8])
 }
 
-/// Splits into so many shards, each at one of the keys.
+/// Splits into this many shards, each at one of the keys.
 pub(crate) fn splits_of(rt: &(impl Abort + AllocGlobal), shards: usize) -> Vec<Key> {
     let mut splits = Vec::new(rt.alloc());
     for shard in 1..shards {

@@ -61,7 +61,7 @@ fn edit_of(rt: &impl Abort, write: Write) -> Edit {
     }
 }
 
-/// The edits of the writes of so many numbers.
+/// The edits of the writes of this many numbers.
 pub(crate) fn edits_of(rt: &(impl Abort + AllocGlobal), from: u32, count: u32) -> Vec<Edit> {
     let mut edits = Vec::new(rt.alloc());
     for offset in 0..count {

@@ -1,4 +1,4 @@
-//! A batch by a handle beside a share of its map that begins behind the last shard, which no call
+//! A batch by a handle with a share of its map that begins behind the last shard, which no call
 //! for C does. All else that such handles and their snapshots do is tested from C and Python.
 use crate::maps::{SHAPE, opened};
 use crate::plain::edits_of;
@@ -7,7 +7,7 @@ use std::alloc::Global;
 use std::process::Abort;
 use std::sync::Arc;
 
-// The one handle of a new map, beside a share of it. No other share is left.
+// The one handle of a new map, with a share of it. No other share is left.
 fn one_shared(rt: &(impl Abort + AllocGlobal), shards: usize) -> SharedHandle<Global> {
     let (sharded, seats) = opened(rt, shards, SHAPE);
     let Ok(map) = Arc::new(rt.alloc(), sharded) else {

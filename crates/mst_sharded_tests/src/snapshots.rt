@@ -45,7 +45,7 @@ fn audits(
     pairs.len() == snapshot.shards() && audit_directory(format, root, pairs.as_slice()) == Ok(())
 }
 
-// Whether a snapshot of the handle is of this map, in this format, and so many changes old.
+// Whether a snapshot of the handle is of this map, in this format, and this many changes old.
 fn looks<'a>(
     rt: &(impl Abort + AllocGlobal),
     handle: Handle<'a, Global, Global>,

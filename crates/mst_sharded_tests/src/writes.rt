@@ -1,5 +1,5 @@
-//! Reads and writes of single keys of a map of one shard, beside a store. Transcripts show those of
-//! more shards (`tests/transcripts/sharded.py`).
+//! Reads and writes of single keys of a map of one shard, next to a store. Transcripts show those
+//! of more shards (`tests/transcripts/sharded.py`).
 ghost use Rattle.std.specs.Prelude.{◌≡◌};
 
 use crate::confirming::confirm;

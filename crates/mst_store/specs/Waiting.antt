@@ -16,12 +16,12 @@ use Rattle.mst_store.specs.declared.faults.BatchFault.TheVariants as batch
 use Rattle.mst_versions.specs.Applying.{RefusesBatch}
 use Rattle.mst_store.specs.Passes.{Known, having_missed, Wrote, Refuses}
 
--- so many tries at which another pass had the turn: in a store of one pass there are none
+-- this many tries at which another pass had the turn: in a store of one pass there are none
 abbrev pub InVain : ℕ → Known → Type 0
 InVain tries p = p.store.passes ≡ 1 → tries ≡ 0
 
--- nothing about the pass has changed but that it tried the turn so many times, and another pass had
--- it
+-- nothing about the pass has changed but that it tried the turn this many times, and another pass
+-- had it
 pub record HasTried (p q : Known) : Type 0 where
   pub tries : ℕ
   pub vain : InVain tries p

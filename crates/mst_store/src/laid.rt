@@ -1,5 +1,5 @@
-//! A pass that is laid down: all of it but the reference to its store. So it can be kept beside a
-//! share of the store, as code that is not Rattle has to keep it.
+//! A pass that is laid down: all of it but the reference to its store. So it can be kept together
+//! with a share of the store, as code that is not Rattle has to keep it.
 ghost use Rattle.std.specs.Prelude.{◌≡◌};
 
 use crate::pass::Pass;

@@ -59,8 +59,8 @@ pub fn room_laws()
 {}
 
 /// How many rows are free decides whether the next write finds room, if it finds the history and
-/// the pinned versions that were found when they were counted. A change that needs at most so many
-/// is not refused for room, and one that needs more is not made.
+/// the pinned versions that were found when they were counted. A change that needs at most that
+/// many is not refused for room, and one that needs more is not made.
 pub fn free_rows_laws()
     ensures enough { (free : ℕ) (change : Change) (p q : Known) → AreFree free p
         → rows_needed p.store.format p.seen change ≤ free

@@ -189,9 +189,9 @@ impl<'a, A: Allocator + Copy> Pass<'a, A> {
     /// Returns how many rows are free to the next write: all rows but those that the current
     /// version and the versions found pinned hold together. It takes no memory.
     ///
-    /// As long as no pass writes and none begins or ends a pin, a write that takes at most so many
-    /// rows is not refused with `NoRoom`, and one that takes more is ([`free_rows_laws`]). What a
-    /// write takes stands at [`Pass::try_put`].
+    /// As long as no pass writes and none begins or ends a pin, a write that takes at most that
+    /// many rows is not refused with `NoRoom`, and one that takes more is ([`free_rows_laws`]).
+    /// What a write takes stands at [`Pass::try_put`].
     ///
     /// Returns `Busy` only if another pass has the turn.
     ///
@@ -285,8 +285,9 @@ impl<'a, A: Allocator + Copy> Pass<'a, A> {
     /// version reads and proves in that version's format.
     ///
     /// A migration to another format takes a row for each pair and each node of the new tree,
-    /// beside those of the old one, and memory for the list of the pairs and for the tree, which is
-    /// given back before the call returns. A migration to the current format takes neither.
+    /// in addition to those of the old one, and memory for the list of the pairs and for the tree,
+    /// which is given back before the call returns. A migration to the current format takes
+    /// neither.
     ///
     /// Returns `Busy` only if another pass has the turn; otherwise `VersionsSpent` exactly if the
     /// current version has the last number; otherwise `Memory` if a growth was refused; otherwise

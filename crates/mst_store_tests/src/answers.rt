@@ -24,13 +24,13 @@ pub(crate) fn has_version<A: Allocator + Copy>(pass: &mut Pass<A>, version: u64)
     pass.version() == version
 }
 
-/// Whether the map takes so many rows; or, with none, whether they were not counted since a version
-/// is pinned.
+/// Whether the map takes this many rows; or, with none, whether they were not counted since a
+/// version is pinned.
 pub(crate) fn counts<A: Allocator + Copy>(pass: &mut Pass<A>, rows: Option<u32>) -> bool {
     pass.rows() == Ok(rows)
 }
 
-/// Whether so many rows are free to the next write.
+/// Whether this many rows are free to the next write.
 pub(crate) fn leaves_free<A: Allocator + Copy>(pass: &mut Pass<A>, rows: u32) -> bool {
     pass.free_rows() == Ok(rows)
 }

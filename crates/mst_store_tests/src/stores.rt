@@ -17,7 +17,7 @@ pub(crate) const SMALL: Shape = Shape {
 /// The bytes of a heap that holds a small store, and more.
 pub(crate) const AMPLE: usize = 16_384;
 
-/// A heap of so many bytes.
+/// A heap of this many bytes.
 pub(crate) fn heap_of(rt: &(impl Abort + AllocGlobal), bytes: usize) -> LocalHeap {
     LocalHeap::new(rt.alloc(), bytes).expect(rt, "memory")
 }

@@ -100,7 +100,7 @@ fn a_note_is_heard_and_seen(rt: HostRuntime) {
     assert!(rt; second.pin(2) == 0);
 }
 
-// Whether a table of a heap of so many bytes is opened. If not, the answer is memory, and nothing
+// Whether a table of a heap of this many bytes is opened. If not, the answer is memory, and nothing
 // is kept.
 fn opens_in<R: Abort + AllocGlobal>(rt: &R, bytes: usize) -> bool {
     let Ok(heap) = LocalHeap::new(rt.alloc(), bytes) else {

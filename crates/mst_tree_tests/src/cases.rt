@@ -35,7 +35,7 @@ pub enum Case {
     /// What a fault of a proof prints, and one of a proof of a sharded map.
     FaultPrints(ProofFault, Text),
     ShardedFaultPrints(ShardedFault, Text),
-    /// The root digest of the first so many numbers.
+    /// The root digest of the first numbers, this many of them.
     NumbersRoot(u32, Text),
     /// The root digest of 65,535 pairs of which all but one lie in one gap.
     OneGapRoot(Text),
@@ -43,7 +43,7 @@ pub enum Case {
     Entries(Text, Option<usize>),
     /// The first text of a proof.
     First(Text, Option<Text>),
-    /// Whether so many zeros and what stands after them are said to be no hexadecimal text in a
+    /// Whether this many zeros and what stands after them are said to be no hexadecimal text in a
     /// heap of 64 bytes; `None` if memory is refused.
     NotHex(usize, Bytes, Option<bool>),
 }

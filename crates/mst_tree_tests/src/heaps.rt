@@ -25,7 +25,7 @@ pub fn is_full(heap: &LocalHeap) -> bool {
     Vec::<u8, &LocalHeap>::with_capacity(heap, 1).is_err()
 }
 
-/// A heap of so many bytes.
+/// A heap of this many bytes.
 pub fn heap_of(rt: &impl Abort, alloc: Global, bytes: usize) -> LocalHeap {
     LocalHeap::new(alloc, bytes).expect(rt, "memory")
 }

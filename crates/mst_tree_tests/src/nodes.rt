@@ -10,7 +10,7 @@ use mst_node::{Flat, NodeFault, ascending, is_map, read_text, top_text};
 use std::alloc::Global;
 use std::process::Abort;
 
-/// Whether the list is a map of so many pairs with this root digest, which is also that of its
+/// Whether the list is a map of this many pairs with this root digest, which is also that of its
 /// tree's text.
 fn is_rooted(
     rt: &impl Abort,
@@ -26,7 +26,7 @@ fn is_rooted(
         && roots_agree(rt, alloc, pairs)
 }
 
-/// Whether so many numbers have this root digest.
+/// Whether this many numbers have this root digest.
 pub fn numbers_are_rooted(rt: &impl Abort, alloc: Global, count: u32, digits: &str) -> bool {
     let pairs = numbered(rt, alloc, count);
     is_rooted(rt, alloc, pairs.as_slice(), count as usize, digits)
@@ -117,7 +117,8 @@ const OUTSIDE: &[Case] = &[
     Case::Entries("0100000100036162630178", None),
 ];
 
-/// Whether the node of a hexadecimal text has so many entries; `None` stands for no text of a node.
+/// Whether the node of a hexadecimal text has this many entries; `None` stands for no text of a
+/// node.
 pub fn has_entries(rt: &impl Abort, alloc: Global, text: &str, count: Option<usize>) -> bool {
     let bytes = bytes_of(rt, alloc, text);
     match read_text(bytes.as_slice()) {

@@ -81,7 +81,7 @@ fn proof_for(
     planted_proof(rt, alloc, format, tree.as_deref(), &key, size).expect(rt, "memory")
 }
 
-/// Whether `collide_in` finds a pair of texts beside no tree.
+/// Whether `collide_in` finds a pair of texts with no tree.
 fn collided_with_none(
     alloc: Global,
     format: Format,
@@ -92,7 +92,7 @@ fn collided_with_none(
     Ok(pair.is_some())
 }
 
-/// Whether `collide_in` finds a pair of texts in one heap, beside the tree of the list in another.
+/// Whether `collide_in` finds a pair of texts in one heap, with the tree of the list in another.
 /// Returns `None` if the list is empty, or the other heap is too small for the tree.
 fn collided_in<'h>(
     room: &'h LocalHeap,
@@ -117,8 +117,8 @@ fn collided_in<'h>(
     })
 }
 
-/// Whether `collide_in` finds a pair of texts in a heap of so many bytes, beside the tree of the
-/// map in another of so many. The heaps keep nothing of what was asked.
+/// Whether `collide_in` finds a pair of texts in a heap of this many bytes, with the tree of the
+/// map in another of this many. The heaps keep nothing of what was asked.
 fn collided(
     rt: &impl Abort,
     alloc: Global,

@@ -21,7 +21,7 @@ fn report_in<A: Allocator>(
     report_on(alloc, ProofKind::Plain, Format::One, &root, &key, text)
 }
 
-/// So many times this byte, and what stands after it.
+/// This byte `count` times, and what stands after it.
 fn text_of(rt: &impl Abort, alloc: Global, byte: u8, count: usize, more: &[u8]) -> Vec<u8> {
     let mut text = Vec::new(alloc);
     text.resize(count, byte).expect(rt, "memory");
@@ -29,8 +29,8 @@ fn text_of(rt: &impl Abort, alloc: Global, byte: u8, count: usize, more: &[u8]) 
     text
 }
 
-/// Whether so many zeros, and what stands after them, are said to be no hexadecimal text in a heap
-/// of 64 bytes; `None` if memory is refused.
+/// Whether this many zeros, and what stands after them, are said to be no hexadecimal text in a
+/// heap of 64 bytes; `None` if memory is refused.
 pub fn is_not_hex(rt: &impl Abort, alloc: Global, zeros: usize, more: &[u8]) -> Option<bool> {
     let text = text_of(rt, alloc, b'0', zeros, more);
     let heap = heap_of(rt, alloc, 64);

@@ -1,4 +1,5 @@
-//! What a hand's pass tells of its store's rows beside pinned versions, and of its own last write.
+//! What a hand's pass tells of its store's rows while versions are pinned, and of its own last
+//! write.
 ghost use Rattle.mst_c.specs.Knowing.{CountsFree, Knows};
 
 use crate::held::{Held, State, Uncounted};

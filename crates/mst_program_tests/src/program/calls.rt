@@ -34,7 +34,7 @@ fn status_and_calls<R: Threads + Wait + AllocGlobal + Sync>(
     Ok((outcome.status, counter.calls.load(SeqCst)))
 }
 
-/// Whether a load makes so many calls, with each option as two words and as one.
+/// Whether a load makes `calls` calls, with each option as two words and as one.
 fn makes<R: Threads + Wait + AllocGlobal + Sync>(
     rt: &R,
     line: &str,

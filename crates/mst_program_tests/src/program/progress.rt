@@ -28,7 +28,7 @@ impl Lines {
     }
 }
 
-// Whether this is the line of so many times ten thousand calls.
+// Whether this is the line of this many times ten thousand calls.
 fn is_line<D: Display>(alloc: Global, value: &D, times: u64) -> Result<bool, AllocError> {
     let text = format!(in alloc; "{value}")?;
     let line = format!(in alloc; "calls {times}0000")?;
@@ -49,7 +49,7 @@ impl Eprint for Lines {
     }
 }
 
-// How many lines are written of so many calls, and how many of them are right.
+// How many lines are written of this many calls, and how many of them are right.
 fn lines_of(alloc: Global, calls: u32) -> (u64, u64) {
     let progress = Progress::new(Lines::new(alloc));
     for call in 0..calls {

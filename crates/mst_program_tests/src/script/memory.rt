@@ -40,7 +40,7 @@ fn starts_over(
     Ok(first.is_ok())
 }
 
-// Whether a run of so many passes starts if a heap of so many bytes gives its memory.
+// Whether a run of this many passes starts if a heap of this many bytes gives its memory.
 fn starts_in(rt: &impl Abort, alloc: Global, bytes: usize, passes: u32) -> Result<bool, Fail> {
     let heap = LocalHeap::new(alloc, bytes)?;
     let (store, seats) = opened(
@@ -56,7 +56,7 @@ fn starts_in(rt: &impl Abort, alloc: Global, bytes: usize, passes: u32) -> Resul
     starts_over(rt, alloc, &heap, &store, &mut passes)
 }
 
-// The least of some heaps in which a run of so many passes starts.
+// The least of some heaps in which a run of this many passes starts.
 fn least_heap(rt: &impl Abort, alloc: Global, passes: u32) -> Result<usize, Fail> {
     for step in 0..512 {
         let bytes = 130_000 + 32 * step;

@@ -18,7 +18,7 @@ const SHAPE: Shape = Shape {
     format: Format::One,
 };
 
-/// Splits into so many shards, each at a key of one byte.
+/// Splits into this many shards, each at a key of one byte.
 fn splits_of<A: Allocator>(alloc: A, shards: u8) -> Result<Vec<Key, A>, Memory> {
     let mut splits = Vec::new(alloc);
     for shard in 1..shards {
@@ -41,7 +41,7 @@ fn states_over<'a, A: Allocator + Copy>(
     states_of(alloc, handles)
 }
 
-/// Runs a script over a new map of so many shards, with the memory of another allocator for lines
+/// Runs a script over a new map of this many shards, with the memory of another allocator for lines
 /// and answers.
 fn run_shards<S: Source, W: Sink, A: Allocator + Copy>(
     alloc: A,
@@ -122,7 +122,7 @@ none
 fault L7
 ";
 
-/// Whether a map of so many shards answers them so.
+/// Whether a map of this many shards answers them so.
 fn is_answered(alloc: Global, shards: u8) -> Result<bool, AllocError> {
     let mut source = BytesSource::new(SCRIPT.as_bytes());
     let mut sink = BytesSink::new(alloc, 1_024)?;
@@ -148,7 +148,7 @@ const ANSWERS: &[u8] =
     b"none\nnone\npinned\nsome 31\npairs 2\npair 11 31\npair 1f 32\nunpinned\nsome 32\n";
 
 /// How such a run ends, and what it has written, between devices of seven bytes at a time that fail
-/// after so many reads and so many writes.
+/// after this many reads and this many writes.
 fn written(alloc: Global, shards: u8, reads: u64, writes: u64) -> (Result<(), RunFault>, Vec<u8>) {
     let reader = Reader {
         rest: LINES,

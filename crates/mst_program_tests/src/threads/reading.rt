@@ -41,7 +41,7 @@ impl Told {
         }
     }
 
-    // Whether all of so many calls were told, each in its turn.
+    // Whether all of this many calls were told, each in its turn.
     fn is_done(&self, calls: u32) -> bool {
         let last = self.entered.load(SeqCst) == calls && self.answered.load(SeqCst) == calls;
         last && !self.out_of_turn.load(SeqCst)

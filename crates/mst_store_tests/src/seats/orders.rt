@@ -40,7 +40,7 @@ enum Second {
     Migration,
 }
 
-/// The passes, and the core that is fed what they do. The current version has so many puts, and
+/// The passes, and the core that is fed what they do. The current version has this many puts, and
 /// this record.
 #[derive(Drop)]
 struct World<'a> {
@@ -53,7 +53,7 @@ struct World<'a> {
     writer: Option<Free<'a>>,
 }
 
-// Whether this is the value of a version of so many puts, of which each gives its number.
+// Whether this is the value of a version of this many puts, of which each gives its number.
 fn is_after(found: &Option<Value>, puts: u8) -> bool {
     match found {
         Some(value) => puts > 0 && value.bytes() == [puts].as_slice(),

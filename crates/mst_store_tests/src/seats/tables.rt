@@ -13,7 +13,7 @@ use mst_words::{Board, Shape, Token};
 use std::alloc::Allocator;
 use std::test::Fail;
 
-// A table for so many rows and passes, of the empty map in format 1, and the dealer's token.
+// A table for this many rows and passes, of the empty map in format 1, and the dealer's token.
 pub(crate) fn opened<A: Allocator + Copy>(
     alloc: A,
     rows: u32,
@@ -33,7 +33,7 @@ pub(crate) fn opened<A: Allocator + Copy>(
     Board::open(alloc, shape, desk)
 }
 
-// The numbers of a pass of a table for so many passes and rows.
+// The numbers of a pass of a table for this many passes and rows.
 pub(crate) fn numbers(number: u32, passes: u32, rows: u32) -> Numbers
     ensures { result ≡ record { number = number; passes = passes; rows = rows } }
 {

@@ -50,7 +50,7 @@ const ASKED: &[(Format, Pairs, &str, &str)] = &[
     (Format::Two, TWO_PAIRS, "b", ""),
 ];
 
-/// Whether nothing in the proof collides, alone and beside the tree of the pairs.
+/// Whether nothing in the proof collides, alone and together with the tree of the pairs.
 fn is_free(
     rt: &impl Abort,
     alloc: Global,
@@ -63,7 +63,7 @@ fn is_free(
         && collided(rt, alloc, format, (4_096, 32_768), pairs, (key, proof)) == Some(Ok(false))
 }
 
-/// Asks a proof beside these pairs.
+/// Asks a proof together with these pairs.
 fn ask(rt: &impl Abort, alloc: Global, (format, rows, key, digits): (Format, Pairs, &str, &str)) {
     let pairs = spelt(rt, alloc, rows);
     let proof = bytes_of(rt, alloc, digits);

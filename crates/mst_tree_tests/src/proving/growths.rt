@@ -8,8 +8,8 @@ use mst_key::{Format, Key, Value};
 use std::alloc::Global;
 use std::process::Abort;
 
-/// Whether the search ends with no collision in a heap of so many bytes, beside the tree in another
-/// of so many. False if memory is refused.
+/// Whether the search ends with no collision in a heap of this many bytes, with the tree in another
+/// of this many. False if memory is refused.
 fn ends_in(
     rt: &impl Abort,
     alloc: Global,
@@ -70,7 +70,7 @@ const LARGE: &[(Format, u32, usize)] = &[
     (Format::Two, 30_000, 16_384),
 ];
 
-/// Whether a search among so many numbers ends in a heap of so many bytes.
+/// Whether a search among this many numbers ends in a heap of this many bytes.
 fn is_small(rt: &impl Abort, alloc: Global, format: Format, count: u32, room: usize) -> bool {
     let pairs = numbered(rt, alloc, count);
     let pairs = pairs.as_slice();
@@ -113,7 +113,7 @@ fn text_made(
     }
 }
 
-/// Whether so many bytes are enough for the text.
+/// Whether this many bytes are enough for the text.
 fn are_enough(
     rt: &impl Abort,
     alloc: Global,

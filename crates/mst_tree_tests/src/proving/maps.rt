@@ -6,8 +6,8 @@ use mst_key::{Format, Key, Value};
 use std::alloc::Global;
 use std::process::Abort;
 
-/// Whether nothing in the proof for the key collides beside the tree of the map. For no pairs there
-/// is no tree.
+/// Whether nothing in the proof for the key collides together with the tree of the map. For no
+/// pairs there is no tree.
 fn is_free(
     rt: &impl Abort,
     alloc: Global,
@@ -23,8 +23,8 @@ fn is_free(
     }
 }
 
-/// Asks the map of so many numbers for each one of such steps, up to two that it does not have, and
-/// for the number's four bytes.
+/// Asks the map of this many numbers for each one of such steps, up to two that it does not have,
+/// and for the number's four bytes.
 fn ask(
     rt: &impl Abort,
     alloc: Global,

@@ -27,8 +27,8 @@ fn pairs_of_one_node(rt: &impl Abort, alloc: Global, end: u32) -> Vec<(Key, Valu
     pairs
 }
 
-/// Whether a node of layer 0 without children has as many entries as there are pairs, and each so
-/// many of its entries is the pair at its place.
+/// Whether a node of layer 0 without children has as many entries as there are pairs, and each
+/// of its entries at a multiple of `step` is the pair at its place.
 fn has_pairs(flat: &Flat<'_>, pairs: &[(Key, Value)], step: usize) -> bool
     requires whole { flat.now.format ≡ One }
 {
@@ -110,7 +110,7 @@ fn nodes_of_long_values(rt: HostRuntime) {
 /// Sizes above 2,000.
 const ABOVE: &[usize] = &[4_096, 8_750, 30_001, 60_000];
 
-/// Whether nothing in its own proof collides with the tree of so many of the pairs. For no pairs
+/// Whether nothing in its own proof collides with the tree of this many of the pairs. For no pairs
 /// there is no tree.
 fn front_is_free(rt: &impl Abort, alloc: Global, pairs: &[(Key, Value)], count: usize) -> bool {
     let Some(front) = pairs.get(..count) else {

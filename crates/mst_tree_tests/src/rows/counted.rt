@@ -43,7 +43,7 @@ impl<A: Allocator> Model for CountedRows<A> {
 }
 
 impl<A: Allocator> CountedRows<A> {
-    /// So many rows, none of them written, from which nothing was read.
+    /// This many rows, none of them written, from which nothing was read.
     pub fn new(alloc: A, rows: u32) -> Result<CountedRows<A>, Memory>
         requires some { 0 < rows }
         requires few { rows ≤ 65535 }

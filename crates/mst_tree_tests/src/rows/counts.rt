@@ -22,7 +22,7 @@ fn map_of_300(rt: &impl Abort, alloc: Global) -> StandingMap {
     StandingMap::new(rt, alloc, pairs.as_slice(), 1_000)
 }
 
-/// Whether no more was read than so many heads, entries and values, and nothing else.
+/// Whether no more was read than this many heads, entries and values, and nothing else.
 fn is_within(reads: Reads, heads: u32, entries: u32, values: u32) -> bool {
     reads.heads <= heads && reads.entries <= entries && reads.values <= values && reads.others == 0
 }
@@ -35,7 +35,7 @@ fn bound(rt: &impl Abort, number: Option<u32>) -> Option<Key> {
 /// What is asked of the map.
 #[derive(Clone, Copy)]
 enum Ask {
-    /// The pairs between two numbers, at most so many.
+    /// The pairs between two numbers, at most this many.
     Range(Option<u32>, Option<u32>, usize),
     /// The value of a number's key.
     Get(u32),
@@ -47,7 +47,7 @@ enum Ask {
     Root,
 }
 
-/// How many pairs stand between two keys, at most so many.
+/// How many pairs stand between two keys, at most this many.
 fn range_of(
     rt: &impl Abort,
     alloc: Global,
@@ -60,7 +60,7 @@ fn range_of(
     found.expect(rt, "memory").len()
 }
 
-/// Whether so many pairs are in the answer.
+/// Whether this many pairs are in the answer.
 fn answers(rt: &impl Abort, alloc: Global, map: &mut StandingMap, ask: Ask, pairs: usize) -> bool {
     match ask {
         Ask::Range(from, to, limit) => range_of(rt, alloc, map, (from, to), limit) == pairs,
@@ -78,7 +78,7 @@ fn answers(rt: &impl Abort, alloc: Global, map: &mut StandingMap, ask: Ask, pair
 /// many pairs as values are read.
 type Case = (Ask, u32, u32, u32);
 
-/// Whether the answer has so many pairs, and no more was read for it.
+/// Whether the answer has this many pairs, and no more was read for it.
 fn holds(
     rt: &impl Abort,
     alloc: Global,

@@ -201,7 +201,7 @@ fn desk_in(heap: &LocalHeap) -> Option<bool> {
     }
 }
 
-// Whether that desk is made in a heap of so many bytes.
+// Whether that desk is made in a heap of this many bytes.
 fn desk_fits(rt: &impl Abort, alloc: Global, bytes: usize) -> bool {
     let heap = heap_of(rt, alloc, bytes);
     let found = desk_in(&heap);
@@ -216,7 +216,7 @@ fn rows_in(heap: &LocalHeap) -> Option<bool> {
     }
 }
 
-// Whether they are made in a heap of so many bytes.
+// Whether they are made in a heap of this many bytes.
 fn rows_fit(rt: &impl Abort, alloc: Global, bytes: usize) -> bool {
     let heap = heap_of(rt, alloc, bytes);
     let found = rows_in(&heap);

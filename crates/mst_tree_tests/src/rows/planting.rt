@@ -32,7 +32,7 @@ impl Model for OpenRows {
 }
 
 impl OpenRows {
-    /// So many rows, none of them written.
+    /// This many rows, none of them written.
     fn new(alloc: Global, rows: u32) -> Result<OpenRows, Memory>
         ensures size { IfOk result (λ r. length r ≡ rows) }
     {
@@ -148,7 +148,7 @@ struct Outcome {
     rows: OpenRows,
 }
 
-/// Plants the map of these pairs in so many rows.
+/// Plants the map of these pairs in this many rows.
 fn planted(
     rt: &impl Abort,
     alloc: Global,
@@ -168,7 +168,7 @@ fn planted(
     })
 }
 
-/// What becomes of the root when these pairs are planted in so many rows, and how many are free
+/// What becomes of the root when these pairs are planted in this many rows, and how many are free
 /// then.
 fn root_and_free(
     rt: &impl Abort,
@@ -213,7 +213,7 @@ fn pairs_at(rt: &impl Abort, alloc: Global, rows: &OpenRows, root: Root) -> Vec<
     found
 }
 
-/// Compares the map of so many pairs, as it stands in rows, with their list.
+/// Compares the map of this many pairs, as it stands in rows, with their list.
 fn reads_back(rt: &impl Abort, alloc: Global, count: u32) {
     let pairs = numbered(rt, alloc, count);
     let outcome = planted(rt, alloc, pairs.as_slice(), 2_000).expect(rt, "memory");

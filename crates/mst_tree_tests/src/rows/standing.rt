@@ -37,7 +37,7 @@ impl Model for StandingMap {
 }
 
 impl StandingMap {
-    /// The map of a tree, planted in so many new rows.
+    /// The map of a tree, planted in this many new rows.
     fn planted<A: Allocator>(
         rt: &impl Abort,
         alloc: Global,
@@ -57,7 +57,7 @@ impl StandingMap {
         Ok(StandingMap { rows, root })
     }
 
-    /// The map of these pairs, planted in so many rows.
+    /// The map of these pairs, planted in this many rows.
     pub fn new(rt: &impl Abort, alloc: Global, pairs: &[(Key, Value)], size: u32) -> StandingMap {
         assert!(rt; is_map(pairs));
         few(rt, pairs);
@@ -86,7 +86,7 @@ impl StandingMap {
         mst_read::next(&mut self.rows, &self.root, after)
     }
 
-    /// The pairs between two bounds, at most so many.
+    /// The pairs between two bounds, at most this many.
     pub fn range<B: Allocator>(
         &mut self,
         alloc: B,
