@@ -1,19 +1,16 @@
 -- What the holder of the turn has, once it has asked and swept.
-use Rattle.std.proofs.Common.{◌≡◌, ℕ, zero, suc, ◌+◌, ◌<◌, ◌≤◌, ◌&&◌, ◌||◌, not, is_some, is_none, nat_lt, eqb, if◌then◌else◌, Bool, true, false, List, [], ◌∷◌, length, map, slice_index, Option, Some, None, refl, sym, ap, ◌∙◌, subst, ⊎_elim, arith}
+use Rattle.std.proofs.Common.{◌≡◌, ℕ, ◌+◌, ◌<◌, ◌≤◌, ◌&&◌, is_none, nat_lt, Bool, true, List, [], ◌∷◌, length, map, slice_index, Option, Some, None, refl, sym, ap, ◌∙◌, subst, ⊎_elim, arith}
 use mathlib.Core.Logic.{dite}
 use native.Mathlib.Decide.{ℕ_discrete}
-use Rattle.std.specs.Prelude.{◌↔◌, slice_get, option_map, IsTrue}
-use Rattle.std.specs.List.{AllByRecursion, list_any}
+use Rattle.std.specs.Prelude.{◌↔◌, slice_get, IsTrue}
+use Rattle.std.specs.List.{AllByRecursion}
 use Rattle.std.proofs.lemmas.Bool.{lt-ltb}
-use Rattle.std.proofs.lemmas.Bool.Decides.{nat_tests}
-use Rattle.std.proofs.lemmas.Option.{slice_get_within, slice_get-map}
 use Rattle.std.proofs.lemmas.List.{length-map}
 use Rattle.mst_key.specs.declared.format.Format.{Format}
 use Rattle.mst_key.specs.History.{format_after}
 use Rattle.mst_node.specs.Stays.{held}
-use Rattle.mst_arena.specs.Lives.{State, version, reaches, reached_at, free_count, swept_life, IsSettled}
-use Rattle.mst_arena.specs.declared.life.Life.{Life}
-use Rattle.mst_arena.specs.declared.life.Life.TheVariants.{Free, Born, Dead}
+use Rattle.mst_arena.specs.Lives.{State, version, reaches, free_count, swept_life}
+use Rattle.mst_arena.specs.declared.life.Life.TheVariants.{Free}
 use Rattle.mst_arena.specs.Standing.{IsDistinct, numbers}
 use Rattle.mst_arena.specs.declared.row.Root.{Root}
 use Rattle.mst_arena.specs.Lists.{In}
@@ -21,142 +18,31 @@ use Rattle.mst_path.specs.Ages.{HasPlace}
 use Rattle.mst_path.specs.Reached.{TogetherReach, swept_by}
 use Rattle.mst_path.proofs.lemmas.rows.FreeCounts.{count_swept}
 use Rattle.mst_path.proofs.lemmas.versions.KeptRoom.{held_free}
-use Rattle.mst_path.proofs.lemmas.versions.Reached.{same_swept, settled_swept, free_swept, some_reach}
+use Rattle.mst_path.proofs.lemmas.versions.Reached.{same_swept, settled_swept, free_swept}
 use Rattle.mst_words.specs.declared.view.View.{View}
 use Rattle.mst_words.specs.Layout.{row_word}
 use Rattle.mst_words.specs.Records.{IsBlank, row, field}
-use Rattle.mst_words.specs.Steps.{IsHolder, Takes, IsGiving}
-use Rattle.mst_words.specs.Stored.{contents_after, format_number, rows_in, root_in, stored, state_of, desk_state}
-use Rattle.mst_words.specs.Access.{content_of, all_below, is_unreached, is_blank}
+use Rattle.mst_words.specs.Steps.{Takes}
+use Rattle.mst_words.specs.Stored.{contents_after, format_number, rows_in, root_in, stored, state_of}
+use Rattle.mst_words.specs.Access.{content_of, is_unreached, is_blank}
 use Rattle.mst_words.proofs.Accesses.{blank_row}
 use Rattle.mst_words.proofs.Framed.{aged_frame}
 use Rattle.mst_words.proofs.AgeFrames.{SameAges}
 use Rattle.mst_versions.specs.declared.turn.Asked.{Asked}
 use Rattle.mst_versions.specs.declared.turn.Turn.{Turn}
-use Rattle.mst_versions.specs.Asking.{KnowsRecords, HasAsked, AsksOnly, AsksEach}
-use Rattle.mst_versions.specs.Turns.{Seat, StoodAtAsk, IsKept, AreKept, LeavesFree, HoldsDesk, HasTurn, TakesDesk}
+use Rattle.mst_versions.specs.Asking.{HasAsked}
+use Rattle.mst_versions.specs.Turns.{Seat, StoodAtAsk, IsKept, AreKept, LeavesFree, HoldsDesk, HasTurn}
 use Rattle.mst_versions.proofs.Asked.{some_drained}
 use Rattle.mst_words.proofs.Members.{each, in_later}
 use Rattle.mst_versions.proofs.Places.{reached_inside, place_of}
-use Rattle.mst_versions.proofs.Pinning.{link_of_root, in_list}
-
--- the holder of the turn may read each row
-pub reads_held : (v : View) (x : ℕ) → v.turn ≡ true → x < v.rows → content_of v x ≡ rows_in
-    (row v.known_words) x
-reads_held v x turn lt =
-    ap (λ (b : Bool). if (b && (v.turn || (is_some v.pin && list_any (eqb x) v.pinned_rows)))
-    then rows_in (row v.known_words) x else None) (lt-ltb x v.rows lt)
-    ∙ ap (λ (b : Bool). if (b || (is_some v.pin && list_any (eqb x) v.pinned_rows)) then rows_in
-    (row v.known_words) x else None) turn
-
-all_below_true : (n : ℕ) (p : ℕ → Bool) → ((r : ℕ) → r < n → p r ≡ true) → all_below n p ≡ true
-all_below_true zero p all = refl
-all_below_true (suc n) p all = ap (λ (b : Bool). b && all_below n p) (all n (omega arith))
-    ∙ all_below_true n p (λ r l. all r (omega (arith, l)))
-
--- a row that a live version reaches keeps its life in a sweep
-kept_life : (live : List ℕ) (o : Option Life) (v : ℕ) → In v live → reached_at o v ≡ true
-    → option_map (swept_life live) o ≡ o
-kept_life live None v i is = refl
-kept_life live (Some Free) v i is = refl
-kept_life live (Some (Born b)) v i is = refl
-kept_life live (Some (Dead b d)) v i is = ap (λ (t : Bool). Some (if t then Dead b d else Free))
-    (some_reach (Dead b d) live v i is)
-
-same_ages : (live : List ℕ) (lives : List Life) (v x w : ℕ) → In v live → reaches lives v x ≡ true
-    → reaches (map (swept_life live) lives) w x ≡ reaches lives w x
-same_ages live lives v x w i is = ap (λ (o : Option Life). reached_at o w)
-    (slice_get-map (swept_life live) lives x ∙ kept_life live (slice_get lives x) v i is)
-
-is_not : (t : Bool) → (t ≡ true → ⊥) → t ≡ false
-is_not true other = absurd (other refl)
-is_not false other = refl
-
-module _ (n : ℕ) (desk : State) (a : Asked) (m : Seat) (h : HasAsked n desk a m) where
-  -- the version of a record that was not found drained is live
-  live_of : (r : ℕ) → r < n → (In r m.0.drained → ⊥) → In (slice_index desk.versions r) a.live.items
-  live_of r l out = go (eqb r desk.current) refl
-    where
-      go : (t : Bool) → eqb r desk.current ≡ t → In (slice_index desk.versions r) a.live.items
-      go true e = let same : r ≡ desk.current = grind (arith, nat_tests) in
-          subst (λ (z : ℕ). In (slice_index desk.versions z) a.live.items) (sym same) h.now
-      go false e = let other : (r ≡ desk.current → ⊥) = grind (arith, nat_tests) in
-          h.others r l other out
-
-  -- such a version reaches the same rows after the sweep
-  same_rows : (r x : ℕ) → r < n → (In r m.0.drained → ⊥)
-      → reaches (map (swept_life a.live.items) desk.lives) (slice_index desk.versions r) x ≡ reaches
-      desk.lives (slice_index desk.versions r) x
-  same_rows r x l out = same_swept desk a.live.items (slice_index desk.versions r) x
-      (live_of r l out)
-
-  -- none of them reaches a row that is free then
-  unreached : IsSettled desk → (x : ℕ) → slice_get (map (swept_life a.live.items) desk.lives) x
-      ≡ Some Free → x < length desk.lives
-      → all_below n
-      (λ r. list_any (eqb r) m.0.drained || not
-      (reaches desk.lives (slice_index desk.versions r) x)) ≡ true
-  unreached settled x free lt =
-      all_below_true n
-      (λ r. list_any (eqb r) m.0.drained || not
-      (reaches desk.lives (slice_index desk.versions r) x))
-      (λ r l. go r l (list_any (eqb r) m.0.drained) refl)
-    where
-      go : (r : ℕ) → r < n → (t : Bool) → list_any (eqb r) m.0.drained ≡ t
-          → (t || not (reaches desk.lives (slice_index desk.versions r) x)) ≡ true
-      go r l true e = refl
-      go r l false e =
-          ap not ((free_swept desk a.live.items x settled h.now lt).0 free
-          (slice_index desk.versions r)
-          (live_of r l (λ within. let yes = in_list r m.0.drained within in cc)))
-
-free_inside : (live : List ℕ) (lives : List Life) (x : ℕ) → slice_get (map (swept_life live) lives)
-    x ≡ Some Free → x < length lives
-free_inside live lives x free =
-    omega (
-      arith,
-      slice_get_within (map (swept_life live) lives) x Free free,
-      length-map lives
-          (swept_life live),
-    )
-
--- the desk in the slot
-abbrev or_else : State → Option State → State
-or_else d None = d
-or_else d (Some s) = s
-
-abbrev desk_in : List (ℕ × Option State) → State → State
-desk_in [] d = d
-desk_in (s ∷ rest) d = or_else d s.1
+use Rattle.mst_versions.proofs.Pinning.{link_of_root}
+use Rattle.mst_versions.proofs.SweptLives.{free_inside, is_not, live_of, reads_held, same_ages, same_rows, unreached}
+use Rattle.mst_versions.proofs.Slots.{desk_there}
 
 -- what the turn is made of
 abbrev pub of_turn : {A : Type 0} → State → Root → Format → ℕ → ℕ → Turn A
 of_turn {A} desk root format into kept =
     record { desk = desk; root = root; format = format; into = into; kept = kept }
-
--- from the seat with the desk out of the slot to the one that has asked
-pub only_asked : (m n m' : Seat) → n ≡ (m.0, (0, None) ∷ []) → AsksOnly n m'
-    → m' ≡ (
-      record m.0 {
-        drained = m'.0.drained;
-        blocked = m'.0.blocked;
-        found = m'.0.found;
-        asked =
-            m'.0.asked;
-      },
-      (0, None) ∷ [],
-    )
-only_asked m n m' left is =
-    is ∙ ap (λ (z : Seat). (
-      record z.0 {
-        drained = m'.0.drained;
-        blocked = m'.0.blocked;
-        found = m'.0.found;
-        asked =
-            m'.0.asked;
-      },
-      z.1,
-    )) left
 
 module _ (before taken : Seat) (p : Takes (stored before.0.format) before taken) where
   -- the format of the current version
@@ -433,14 +319,6 @@ module _ (before taken : Seat) (p : Takes (stored before.0.format) before taken)
         leaves = leaves drained blocked found asked a h;
       }
 
-  pub slot_there : taken.1 ≡ (0, Some (state_of p.desk)) ∷ []
-  slot_there = ap (λ (z : Seat). z.1) p.is ∙ ap (λ (o : Option State). (0, o) ∷ []) p.is_desk.there
-
-  -- the desk that lies in the slot
-  pub desk_there : (desk : State) → taken.1 ≡ (0, Some desk) ∷ [] → desk ≡ state_of p.desk
-  desk_there desk slot = ap (λ (s : List (ℕ × Option State)). desk_in s desk)
-      (sym slot ∙ slot_there)
-
   -- what was asked is all that has changed since
   whole : (m : Seat) → IsAskedOf m → m ≡ asked_seat m.0.drained m.0.blocked m.0.found m.0.asked
   whole m is =
@@ -462,7 +340,7 @@ module _ (before taken : Seat) (p : Takes (stored before.0.format) before taken)
   link_there desk m which slot is current few =
       let few_rows : before.0.rows ≤ 65535 = subst (λ (z : Seat). z.0.rows ≤ 65535) p.is few in
       let at : which ≡ p.desk.current =
-      current ∙ ap (λ (d : State). d.current) (desk_there desk slot) in
+      current ∙ ap (λ (d : State). d.current) (desk_there before taken p desk slot) in
       let link = link_of_root (row p.words) (field p.words p.desk.current)
       (contents_after before.0.format p.log) p.used before.0.rows p.stands.stands
       p.stands.inside in
@@ -477,7 +355,7 @@ module _ (before taken : Seat) (p : Takes (stored before.0.format) before taken)
       format_there
   number_there desk m which slot is current =
       let at : which ≡ p.desk.current =
-      current ∙ ap (λ (d : State). d.current) (desk_there desk slot) in
+      current ∙ ap (λ (d : State). d.current) (desk_there before taken p desk slot) in
       ap (λ (z : Seat). field z.0.known_words which 6) (whole m is)
       ∙ ap (λ (r : ℕ). field p.words r 6) at ∙ p.stands.aged.0.2
 
@@ -490,7 +368,7 @@ module _ (before taken : Seat) (p : Takes (stored before.0.format) before taken)
       → HasTurn (of_turn {A = A} swept_life root format a.into kept) m
   ready {A} desk swept_life a live root format m which passes kept number slot is few h current here
       in_format all by =
-      let d : desk ≡ state_of p.desk = desk_there desk slot in
+      let d : desk ≡ state_of p.desk = desk_there before taken p desk slot in
       let w : m ≡ asked_seat m.0.drained m.0.blocked m.0.found m.0.asked = whole m is in
       let n : passes ≡ before.0.passes = few ∙ ap (λ (z : Seat). z.0.passes) p.is in
       let known_asked : HasAsked (before.0.passes + 2) (state_of p.desk) a
@@ -515,89 +393,3 @@ module _ (before taken : Seat) (p : Takes (stored before.0.format) before taken)
       (of_turn {A = A} (swept_by a.live.items (state_of p.desk)) root format_there a.into
       (length a.live.items)) z) (sym w)
       (known {A = A} m.0.drained m.0.blocked m.0.found m.0.asked a root known_asked root_is))))
-
--- the turn may be given back once the desk lies in the slot again
-pub giving : {A : Type 0} (t : Turn A) (m m' : Seat) → HoldsDesk t m → IsSettled t.desk
-    → m' ≡ (m.0, (0, Some t.desk) ∷ []) → IsGiving (stored m'.0.format) (Some t.desk)
-    (desk_state t.desk) m'
-giving t m m' k settled is =
-    subst (λ (z : Seat). IsGiving (stored z.0.format) (Some t.desk) (desk_state t.desk) z) (sym is)
-    record {
-      on = k.holder.0;
-      settled = k.holder.2;
-      slot = refl;
-      is_desk = record {
-        there = refl;
-        rows_is = k.rows_is;
-        records = k.records;
-        settled =
-            settled;
-        earlier = k.earlier;
-      };
-      current = k.current;
-      agrees = k.agrees;
-    }
-
--- ---- the desk as it was taken
-
-module _ (before : Seat) (desk : State) (m : Seat) (out : TakesDesk before desk m) where
-  abbrev p : Takes (stored before.0.format) before out.0
-  p = out.1
-
-  -- the view of the holder of the turn
-  abbrev holding : View
-  holding = record before.0 {
-    seen = p.log;
-    known_words = p.words;
-    turn = true;
-    desk = p.desk;
-    due =
-        None;
-    mask = 0;
-    drained = [];
-    blocked = [];
-    noted = None;
-    found = [];
-    asked =
-        before.0.asked + 1;
-  }
-
-  same_desk : desk ≡ state_of p.desk
-  same_desk = desk_there before out.0 p desk out.2
-
-  pub has_out : m ≡ (holding, (0, None) ∷ [])
-  has_out = out.3 ∙ ap (λ (z : Seat). (z.0, (0, None) ∷ [])) p.is
-
-  pub none_drained : m.0.drained ≡ []
-  none_drained = ap (λ (z : Seat). z.0.drained) has_out
-
-  pub none_blocked : m.0.blocked ≡ []
-  none_blocked = ap (λ (z : Seat). z.0.blocked) has_out
-
-  pub none_found : m.0.found ≡ []
-  none_found = ap (λ (z : Seat). z.0.found) has_out
-
-  -- the records may be asked
-  pub knows : (passes : ℕ) → IsHolder m → passes ≡ m.0.passes → passes ≤ 32 → KnowsRecords desk m
-  knows passes holder size few = subst (λ (z : Seat). KnowsRecords desk z) (sym has_out) record {
-    holder = subst IsHolder has_out holder;
-    some = let d = p.dealt in let a = d.0 in let b = d.1 in omega (arith, a, b);
-    few = subst (λ (z : Seat). z.0.passes ≤ 32) has_out (subst (λ (n : ℕ). n ≤ 32) size few);
-    current = sym (ap (λ (s : State). s.current) same_desk);
-    there = subst (λ (s : State). s.current < before.0.passes + 2) (sym same_desk)
-        p.stands.numbered;
-    records = ap (λ (s : State). length s.versions) same_desk ∙ p.is_desk.records;
-    versions = sym (ap (λ (s : State). s.versions) same_desk);
-  }
-
--- every record but the current one was asked, once
-pub all_asked : (desk : State) (a : Asked) (m m' : Seat) (passes : ℕ) → passes ≡ m.0.passes
-    → m.0.drained ≡ [] → m.0.blocked ≡ [] → AsksOnly m m' → AsksEach m m' → HasAsked (passes + 2)
-    desk a m' → m'.0.asked ≡ m.0.asked + passes + 1
-all_asked desk a m m' passes n drained blocked kept each h =
-    let size : m'.0.passes ≡ m.0.passes = ap (λ (z : Seat). z.0.passes) kept in
-    let there = h.knows.there in
-    let all = h.behind (omega (arith, there, size, n)) in
-    let d : length m.0.drained ≡ 0 = ap (λ (z : List ℕ). length z) drained in
-    let b : length m.0.blocked ≡ 0 = ap (λ (z : List ℕ). length z) blocked in
-    omega (arith, each, all, d, b)

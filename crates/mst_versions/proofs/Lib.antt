@@ -1,4 +1,7 @@
 pub mod Asked
+mod SweptLives
+pub mod Slots
+pub mod Asking
 pub mod Beginning
 mod Places
 pub mod Pinning

@@ -1,5 +1,5 @@
 use Rattle.std.proofs.Common.{◌∷◌, [], Some, refl}
-use Rattle.mst_versions.proofs.Beginning.{giving}
+use Rattle.mst_versions.proofs.Slots.{giving}
 use Rattle.mst_versions.proofs.turn.give_back.Goals as goal
 
 pub lay_back-requires-clause-giving : goal.lay_back-requires-clause-giving

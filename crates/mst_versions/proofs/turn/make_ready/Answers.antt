@@ -2,7 +2,8 @@ use Rattle.std.proofs.Common.{rules, ◌≤◌, sym, ap, subst, ◌∙◌}
 use Rattle.mst_words.specs.Access.{Seated}
 use Rattle.mst_words.specs.Records.{field}
 use Rattle.mst_versions.specs.Turns.{Seat, HasTurn}
-use Rattle.mst_versions.proofs.Beginning.{only_asked, link_there, number_there, format_there, of_turn, ready, all_asked, knows, none_drained, none_blocked}
+use Rattle.mst_versions.proofs.Asking.{only_asked, all_asked, knows, none_drained, none_blocked}
+use Rattle.mst_versions.proofs.Beginning.{link_there, number_there, format_there, of_turn, ready}
 use Rattle.mst_versions.proofs.turn.make_ready.Goals as goal
 
 pub read_root-requires-clause-link : goal.read_root-requires-clause-link

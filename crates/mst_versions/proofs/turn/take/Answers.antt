@@ -1,5 +1,5 @@
 use Rattle.mst_words.specs.Stored.{state_of}
-use Rattle.mst_versions.proofs.Beginning.{slot_there}
+use Rattle.mst_versions.proofs.Slots.{slot_there}
 use Rattle.mst_versions.proofs.turn.take.Goals as goal
 
 pub take_desk-requires : goal.take_desk-requires
