@@ -20,7 +20,7 @@ LacksBatch NoRoom format content s root edits =
     (m : List Pair) → Stands format content root m
     → free_count s.lives < cost format m (batched m edits)
 
--- the tree of these pairs is not made: there are more of them than so many, or memory was refused
+-- the tree of these pairs is not made: there are more of them than `most`, or memory was refused
 abbrev pub LacksPairs : NotApplied → ℕ → List Pair → Type 0
 LacksPairs (Memory refused) most pairs = Unit {0}
 LacksPairs NoRoom most pairs = most < length pairs

@@ -1,4 +1,4 @@
--- The plan of a tree beside one that stands: each of its nodes that stands there is kept where it
+-- The plan of a tree next to one that stands: each of its nodes that stands there is kept where it
 -- stands, and each other is made.
 use Rattle.std.specs.Prelude.{◌≡◌, ◌+◌, ◌↔◌, ℕ, eqb, Bool, true, if◌then◌else◌, List, [], ◌∷◌, ◌++◌, Contains}
 use Rattle.mst_key.specs.declared.format.Format.{Format}

@@ -27,7 +27,7 @@ IsItem format whole (item.Pair key value layer) = layer_in format key ≡ layer
 IsItem format whole (item.Subtree link layer) = (row : ℕ) × (chain : Chain) × (link ≡ row + 1)
     × Contains (placed_nodes whole) (head row layer chain)
 
--- items beside the tree that stands, whose keys rise
+-- items next to the tree that stands, whose keys rise
 pub record AreItems (format : Format) (whole : Placed) (items : List Item) : Type 0 where
   pub each : AllByRecursion (IsItem format whole) items
   pub rise : IsAscending (items_pairs format whole items)

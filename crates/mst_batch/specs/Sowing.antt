@@ -1,4 +1,4 @@
--- A plan that is carried out: its new nodes are written into free rows beside the trees that are
+-- A plan that is carried out: its new nodes are written into free rows next to the trees that are
 -- kept.
 use Rattle.std.specs.Prelude.{◌≡◌, ◌+◌, ℕ, List, [], length}
 use Rattle.mst_key.specs.declared.format.Format.{Format}
@@ -13,7 +13,7 @@ use Rattle.mst_path.specs.Runs.{Piece}
 use Rattle.mst_path.specs.Takes.{KeepsBut}
 use Rattle.mst_path.specs.Writing.{IsRootOf}
 
--- The tree stands at the root, on the rows that were kept and those that were taken, so many of
+-- The tree stands at the root, on the rows that were kept and those that were taken, `count` of
 -- these; none died, and only rows that were taken were written. Each node stands on rows of the
 -- current version and older ones, with all below it, or on rows that were born with the version to
 -- come.

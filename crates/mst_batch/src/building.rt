@@ -19,7 +19,7 @@ use mst_arena::{Root, Rows};
 use mst_key::{Key, Memory, Value};
 use std::alloc::Allocator;
 
-/// The plan of the tree of items whose keys rise, beside the tree that stands at a root.
+/// The plan of the tree of items whose keys rise, next to the tree that stands at a root.
 ///
 /// A tree that stands is looked into only where its layer is the greatest of the items around it:
 /// its pairs are then entries of the same node as theirs. Calls nest no deeper than the layers.
@@ -109,7 +109,7 @@ fn is_pair_of(item: &Item, layer: u8) -> bool {
     }
 }
 
-/// How many of the items are pairs of the layer: so many entries their node has.
+/// How many of the items are pairs of the layer: their node has this many entries.
 #[inline(never)]
 fn count_of(items: &[Item], layer: u8) -> usize
     ensures few { result ≤ length items.now }

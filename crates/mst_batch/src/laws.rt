@@ -42,7 +42,7 @@ pub fn plans_can_be_met()
         → rows_planned (made layer (entry (kept 0) k v (last (kept 0)))) ≡ 2 }
 {}
 
-/// The plan of a tree beside the one that stands, which keeps each node that stands there: it is
+/// The plan of a tree next to the one that stands, which keeps each node that stands there: it is
 /// that tree; and of the tree after a batch it takes what the batch costs, and can be carried out.
 pub fn plans_beside()
     ensures tree { (format : Format) (content : Content) (root : Root) (m : List Pair)

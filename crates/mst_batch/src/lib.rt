@@ -20,7 +20,7 @@
 //!   it from the greatest layer down (`top`), and keeps what stands already (`sharing`).
 //! - `marking` marks the nodes that a plan keeps.
 //! - `carrying` refuses a plan for which no room is left, and otherwise does as `replacing`:
-//!   `sowing` writes the nodes to be made beside the trees that are kept, and `felling` gives up
+//!   `sowing` writes the nodes to be made next to the trees that are kept, and `felling` gives up
 //!   the rest of the tree that stood.
 //!
 //! [`plans_beside`] says which plan makes only what does not stand yet, and [`plans_can_be_met`]
@@ -28,7 +28,7 @@
 //!
 //! In `specs/`: `Applying`, why a batch is not made; `Listed`, edits that a list points at; `Items`
 //! and `Opening`, what the tree after a batch is built of; `Tops`, which of it is opened; `Beside`,
-//! the plan of a tree beside the one that stands; `Plans`, which tree a plan is, what it keeps and
+//! the plan of a tree next to the one that stands; `Plans`, which tree a plan is, what it keeps and
 //! what it takes; `Carrying` and `Replacing`, a plan of a change of the map, and in place of the
 //! tree that stands; `Sowing`, what is written; `Kept`, which nodes are kept and which rows fall.
 #![tactic(auto)]

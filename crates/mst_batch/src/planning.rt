@@ -15,7 +15,7 @@ use mst_arena::{Root, Rows};
 use mst_key::{Edit, Format, Memory};
 use std::alloc::Allocator;
 
-/// The plan of the map that stands at a root as a tree of a format after a batch of edits, beside
+/// The plan of the map that stands at a root as a tree of a format after a batch of edits, next to
 /// that tree.
 pub(crate) fn find_plan<R: Rows, B: Allocator + Copy>(
     rows: &mut R,

@@ -18,7 +18,7 @@ abbrev pub tree_batched : Format → Tree → List Edit → Tree
 tree_batched format t [] = t
 tree_batched format t (e ∷ es) = tree_batched format (tree_edited format t e) es
 
--- the rows of a tree beside an old one: none for a tree that stands there
+-- the rows of a tree in addition to those of an old one: none for a tree that stands there
 abbrev mutual
   pub rows_beside : Tree → Tree → ℕ
   rows_beside old empty = 0

@@ -15,8 +15,8 @@ use Rattle.mst_change.specs.Remove.{entries_remove}
 
 -- ---- split
 
--- One side of a node that is split, with so many entries: it is no node if it has none, and no new
--- one if it is the whole node, since nothing goes to the other side.
+-- One side of a node that is split, with this many entries: it is no node if it has none, and no
+-- new one if it is the whole node, since nothing goes to the other side.
 abbrev pub side_rows : ℕ → Bool → ℕ
 side_rows n whole = if n == 0 || whole then 0 else n + 1
 

@@ -1,4 +1,4 @@
--- The tree after a remove: the entry goes, and the children beside it are joined.
+-- The tree after a remove: the entry goes, and the children next to it are joined.
 use Rattle.std.specs.Prelude.{ℕ, List}
 use Rattle.mst_key.specs.Map.{key_cmp}
 use Rattle.mst_node.specs.Tree.{Tree, empty, node, Entries, last, entry}
@@ -6,7 +6,7 @@ use Rattle.mst_node.specs.Trail.{by_order}
 use Rattle.mst_change.specs.Parts.{first_child, with_first, node_of}
 use Rattle.mst_change.specs.Join.{join}
 
--- The tree without the key: its entry goes, and the children beside it are joined.
+-- The tree without the key: its entry goes, and the children next to it are joined.
 abbrev mutual
   pub tree_remove : Tree → List ℕ → Tree
   tree_remove empty k = empty

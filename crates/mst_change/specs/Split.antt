@@ -1,5 +1,5 @@
 -- A tree split at a key: what it has below the key, and what it has above. Only the nodes on the
--- path to the key change, all beside it stays (Auvolat and Taïani 2019).
+-- path to the key change, all else stays (Auvolat and Taïani 2019).
 use Rattle.std.specs.Prelude.{ℕ, List}
 use Rattle.mst_key.specs.Map.{key_cmp}
 use Rattle.mst_node.specs.Tree.{Tree, empty, node, Entries, last, entry}

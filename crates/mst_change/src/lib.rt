@@ -1,7 +1,7 @@
 //! What a put, a remove and a batch do to the Merkle search tree of a map, and what they cost.
 //!
 //! The tree of the map after a put or a remove is made from the old one along one path, which is
-//! split or joined from the top down; everything beside the path stays (Auvolat and Taïani 2019).
+//! split or joined from the top down; everything else stays (Auvolat and Taïani 2019).
 //!
 //! ```
 //! // the tree of two keys a and c of layer 0 is one node; b has layer 1, and so splits it
@@ -16,7 +16,7 @@
 //! In `specs/`: `Parts`, the parts of a node; `Split`, what a tree has below and above a key;
 //! `Join`, two trees made one; `Put` and `Remove`, the tree after the change; `Cost`, the rows of
 //! the nodes that are made new; `Gap`, where a key stands among the entries of a node; `Batch`, the
-//! tree after many edits, and its rows beside those of the old tree.
+//! tree after many edits, and its rows in addition to those of the old tree.
 //!
 //! [`split_laws`] and [`join_laws`] say what the parts hold, [`path_laws`] that the changed tree is
 //! the tree of the new map, [`cost_laws`] what a change costs and how that is bounded, and

@@ -20,7 +20,7 @@ pub record IsBetween (low high : Option (List ℕ)) (key : List ℕ) : Type 0 wh
   pub above : IfSome low (λ b. key_cmp b key ≡ Less)
   pub below : IfSome high (λ b. key_cmp key b ≡ Less)
 
--- the keys of a tree lie between the bounds, and those of each gap between the keys beside it
+-- the keys of a tree lie between the bounds, and those of each gap between the keys next to it
 abbrev mutual
   pub LiesBetween : Option (List ℕ) → Option (List ℕ) → Tree → Type 0
   LiesBetween low high empty = Unit {0}

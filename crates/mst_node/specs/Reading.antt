@@ -16,7 +16,7 @@ abbrev pub Gives : {X Y : Type 0} → (X → Y) → Option X → Option Y → Ty
 Gives view None reading = reading ≡ None
 Gives view (Some x) reading = reading ≡ Some (view x)
 
--- so many bytes
+-- this many bytes
 unfoldable pub part_at : ℕ → List ℕ → Option (List ℕ × List ℕ)
 part_at n bytes = if nat_lt (length bytes) n then None else Some (take n bytes, drop n bytes)
 
@@ -46,7 +46,7 @@ entry_at format bytes =
     held_at format key.1 >>= λ held.
     Some (record { child = child.0; key = key.0; held = held.0 }, held.1)
 
--- so many entries
+-- this many entries
 unfoldable pub entries_at : Format → ℕ → List ℕ → Option (List FlatEntry × List ℕ)
 entries_at format zero bytes = Some ([], bytes)
 entries_at format (suc n) bytes =
@@ -54,7 +54,7 @@ entries_at format (suc n) bytes =
     entries_at format n e.1 >>= λ es.
     Some (e.0 ∷ es.0, es.1)
 
--- the bytes after so many entries
+-- the bytes after this many entries
 unfoldable pub behind_at : Format → ℕ → List ℕ → Option (List ℕ)
 behind_at format zero bytes = Some bytes
 behind_at format (suc n) bytes = entry_at format bytes >>= λ e. behind_at format n e.1
@@ -64,7 +64,7 @@ abbrev pub whole : {A : Type 0} → A × List ℕ → Option A
 whole (x, []) = Some x
 whole (x, b ∷ bytes) = None
 
--- so many entries and the last child, with nothing after them
+-- this many entries and the last child, with nothing after them
 unfoldable pub body_at : Format → ℕ → List ℕ → Option (List FlatEntry × Option (List ℕ))
 body_at format n bytes =
     entries_at format n bytes >>= λ es.

@@ -66,7 +66,7 @@ abbrev pub fits_behind : Format → ℕ → Option (List ℕ) → List ℕ → B
 fits_behind format l last k =
     layer_in format k == l && option_map_or (λ b. is_lt (key_cmp b k)) last true
 
--- so many entries whose keys fit, with the bytes after them
+-- this many entries whose keys fit, with the bytes after them
 unfoldable pub scan_at : Format → ℕ → List ℕ → Passing → ℕ → List ℕ → Option (Passing × List ℕ)
 scan_at format l k p zero bytes = Some (p, bytes)
 scan_at format l k p (suc n) bytes =
@@ -89,7 +89,7 @@ Halts format k None bytes =
 abbrev pub first_at : Format → List ℕ → Option (List ℕ)
 first_at format bytes = option_map (λ e. e.0.key) (entry_at format bytes)
 
--- so many entries and the last child, with nothing after them
+-- this many entries and the last child, with nothing after them
 unfoldable pub body_scan_at : Format → ℕ → List ℕ → ℕ → List ℕ → Option (Passing × Option (List ℕ))
 body_scan_at format l k n bytes =
     scan_at format l k start n bytes >>= λ p.

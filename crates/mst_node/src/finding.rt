@@ -228,7 +228,7 @@ fn stop_of<'a>(format: Format, key: &[u8], coming: Coming<'a>) -> Option<Stop<'a
     Some(Stop { low, entry, here })
 }
 
-/// So many entries whose keys fit, with the bytes after them.
+/// This many entries whose keys fit, with the bytes after them.
 fn scan<'a>(
     format: Format,
     layer: u8,
@@ -263,7 +263,7 @@ fn first_key(format: Format, bytes: &[u8]) -> Option<&[u8]>
     }
 }
 
-/// So many entries and the last child, with nothing after them.
+/// This many entries and the last child, with nothing after them.
 #[tactic(auto, unfolding(crate::specs::Scan::body_scan_at))]
 fn body_scan<'a>(
     format: Format,

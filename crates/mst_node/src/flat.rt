@@ -44,7 +44,7 @@ impl<'a> Model for Flat<'a> {
     ghost invariant = { λ f. IsSome (body_at f.format f.count f.body.now) };
 }
 
-/// Whether the bytes are so many entries and a last child, with nothing after them.
+/// Whether the bytes are `count` entries and a last child, with nothing after them.
 fn has_body(format: Format, bytes: &[u8], count: usize) -> bool
     ensures reading { result ≡ is_some (body_at format count bytes.now) }
 {

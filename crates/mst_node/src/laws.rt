@@ -35,7 +35,7 @@ pub fn one_tree()
 {}
 
 /// Layers fall strictly from a node to its children, and the keys of a gap lie strictly between the
-/// keys beside it.
+/// keys next to it.
 pub fn order_of_tree()
     ensures layers { (format : Format) (m : List Pair) → LayersFall (tree format m) }
     ensures gaps { (format : Format) (m : List Pair) → IsAscending m

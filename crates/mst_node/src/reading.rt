@@ -16,7 +16,7 @@ pub(crate) struct EntryBytes<'a> {
     pub value: &'a [u8],
 }
 
-/// So many bytes.
+/// This many bytes.
 #[tactic(auto, unfolding(crate::specs::Reading::part_at))]
 pub(crate) fn part_of(bytes: &[u8], count: usize) -> Option<(&[u8], &[u8])>
     ensures reading { Gives (λ x. (x.0.now, x.1.now)) result (part_at count bytes.now) }
@@ -88,7 +88,7 @@ pub(crate) fn entry_of(format: Format, bytes: &[u8]) -> Option<(EntryBytes<'_>, 
     Some((EntryBytes { child, key, value }, rest))
 }
 
-/// The bytes after so many entries.
+/// The bytes after this many entries.
 #[tactic(auto, unfolding(crate::specs::Reading::behind_at))]
 pub(crate) fn behind(format: Format, bytes: &[u8], count: usize) -> Option<&[u8]>
     ensures reading { Gives (λ x. x.now) result (behind_at format count bytes.now) }

@@ -15,7 +15,7 @@ abbrev pub returned_mask : Option Returned → ℕ → ℕ
 returned_mask None r = 0
 returned_mask (Some d) r = if r == d.from then d.mask else 0
 
--- the mask that counts beside a record's DONE
+-- the mask that counts with a record's DONE
 abbrev pub counted_mask : Words → ℕ → ℕ
 counted_mask w r =
     if r == record_of w.current then mask_of w.current else returned_mask w.returned r

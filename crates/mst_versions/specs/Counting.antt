@@ -16,14 +16,14 @@ pub record Counts (found : Option ℕ) (p q : Known) : Type 0 where
   pub are : AreFound (p.store.passes + 1) q.seen q.found
   pub asked : q.asked ≡ p.asked + p.store.passes + 4
 
--- So many rows are free to a write: all but those that the version which the pass has seen last and
--- the versions that it found pinned hold together
+-- This many rows are free to a write: all but those that the version which the pass has seen last
+-- and the versions that it found pinned hold together
 abbrev pub AreFree : ℕ → Known → Type 0
 AreFree free q = free + rows_kept q.store.format q.seen q.found ≡ q.store.rows
 
--- The pass has looked, and so many rows are free. If no version was found pinned, these are all but
--- those of the map. The turn was tried once and taken, and each record but the current one asked
--- once
+-- The pass has looked, and this many rows are free. If no version was found pinned, these are all
+-- but those of the map. The turn was tried once and taken, and each record but the current one
+-- asked once
 pub record CountsFree (free : ℕ) (p q : Known) : Type 0 where
   pub looks : Looks p q
   pub are : AreFound p.store.passes q.seen q.found

@@ -64,8 +64,8 @@ IsKept desk v n =
 abbrev pub AreKept : State → View → List ℕ → Type 0
 AreKept desk v live = (n : ℕ) → In n live ↔ IsKept desk v n
 
--- Of the history so many versions are kept: the last one, and those that were found pinned, none of
--- them above it. All rows are free but those that they hold. The format is that of version 0
+-- Of the history this many versions are kept: the last one, and those that were found pinned, none
+-- of them above it. All rows are free but those that they hold. The format is that of version 0
 pub record LeavesFree (first : Format) (lives : List Life)
     (log : History) (found : List ℕ) (kept rows : ℕ) : Type 0 where
   pub below : (v : ℕ) → In v found → v ≤ length log

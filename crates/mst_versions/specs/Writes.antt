@@ -58,7 +58,7 @@ rows_kept first log found = held first log (length log ∷ found)
 abbrev pub rows_needed : Format → History → Change → ℕ
 rows_needed first log change = rows_taken (format_after first log) (after log) change
 
--- the change finds room among the rows beside what is kept
+-- the change finds room among the rows next to what is kept
 pub record FindsRoom (first : Format) (rows passes : ℕ)
     (log : History) (found : List ℕ) (change : Change) : Type 0 where
   pub are : AreFound passes log found
@@ -81,8 +81,8 @@ abbrev pub KeepsPass : Seat → Seat → Type 0
 KeepsPass m m' = (m'.0.number ≡ m.0.number) × (m'.0.rows ≡ m.0.rows)
     × (m'.0.passes ≡ m.0.passes) × (m'.0.format ≡ m.0.format) × (m'.0.told ≡ m.0.told)
 
--- Whether a change of a map in a format finds room among so many rows: the rows that the map leaves
--- over are enough for the nodes that the change makes new
+-- Whether a change of a map in a format finds room among this many rows: the rows that the map
+-- leaves over are enough for the nodes that the change makes new
 abbrev pub HasRoom : ℕ → Format → List Pair → Change → Type 0
 HasRoom rows format m change = rows_of format m + rows_taken format m change ≤ rows
 
@@ -91,7 +91,7 @@ LacksRoom rows format m change = rows < rows_of format m + rows_taken format m c
 
 -- A write added its event right after a history that begins with all that the pass had seen, and
 -- returned what that history replies. The pass has now seen both, its events there are its own, and
--- each event is of a pass of the store. The change found room beside the versions that were found
+-- each event is of a pass of the store. The change found room next to the versions that were found
 -- pinned. The pass tried the turn once and got it, asked each record but the current one once, and
 -- published once. The version that it made is known
 pub record Wrote (e : Event) (p : Known) (answered : Reply) (q : Known) : Type 0 where

@@ -1,6 +1,6 @@
 //! The numbers of a pass.
 
-/// What a pass knows beside its seat: its number, and the size of its store.
+/// What a pass knows in addition to its seat: its number, and the size of its store.
 #[derive(Clone, Copy, Debug, PartialEq, Eq)]
 pub struct Numbers {
     /// The number of the pass, from 1.
