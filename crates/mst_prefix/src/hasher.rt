@@ -78,9 +78,9 @@ impl<A: Allocator> TextHasher<A> {
         }
     }
 
-    /// Takes an entry, as [`TextSink::entry`] does, which [`TextHasher::move_kept`] told of: what is
-    /// kept for its row is compared with the text up to here, and what is kept then is kept for the
-    /// row.
+    /// Takes an entry, as [`TextSink::entry`] does, once [`TextHasher::move_kept`] told of it. What
+    /// is kept for its row is compared with the text up to here, and what is kept then is kept for
+    /// the row.
     #[inline(always)]
     pub fn copied_entry(
         &mut self,

@@ -251,8 +251,8 @@ impl<A: Allocator + Copy> Board<A> {
     /// them 0, as they are in the row that is copied. It returns the words that it copied.
     ///
     /// Each word is stored as soon as it is loaded, so no list of them is filled first and read
-    /// again; it looks first what stands there if it is told to. The loops have a fixed number of turns and no choice in them: so the compiler lays
-    /// them out without a loop.
+    /// again; if it is told to, it looks first what stands there. The loops have a fixed number of
+    /// turns and no choice in them: so the compiler lays them out without a loop.
     fn copy_part<const N: usize, const M: usize>(
         &self,
         seat: &mut Token<A>,
