@@ -7,7 +7,7 @@ use Rattle.mst_key.specs.Map.{key_cmp, IsMap, map_get}
 use Rattle.mst_node.specs.declared.node.Node.{Node}
 use Rattle.mst_node.specs.Tree.{Tree, empty, node, Entries, last, entry, pairs, nodes, IsMst}
 use Rattle.mst_node.specs.Shape.{tree_of}
-use Rattle.mst_node.specs.Text.{digest, text}
+use Rattle.mst_node.specs.Text.{digest, text, highest_count}
 use Rattle.mst_node.specs.Trail.{by_order, nodes_met}
 use Rattle.mst_node.specs.Collision.{Collision}
 use Rattle.mst_proof.specs.declared.expected.Expected.{Expected}
@@ -46,7 +46,7 @@ held_value k (node format l es) = held_in k es
 pub record IsSmall (format : Format) (t : Tree) : Type 0 where
   pub mst : IsMst format t
   pub map : IsMap (pairs t)
-  pub few : length (pairs t) ≤ 65535
+  pub few : length (pairs t) ≤ highest_count
 
 -- for a tree's digest the proof shows no answer but that of the tree's pairs
 abbrev pub ShowsNoOther : (format : Format) → Tree → List ℕ → List ℕ → Type 0

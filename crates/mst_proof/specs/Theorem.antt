@@ -9,14 +9,14 @@ use Rattle.mst_node.specs.Collision.{Collision}
 use Rattle.mst_node.specs.Trail.{trail}
 use Rattle.mst_proof.specs.declared.claim.Claim.{Claim}
 use Rattle.mst_proof.specs.declared.claim.Claim.TheVariants.{Nothing, Given}
-use Rattle.mst_node.specs.Text.{text, root as root_of}
+use Rattle.mst_node.specs.Text.{text, root as root_of, highest_count}
 use Rattle.mst_proof.specs.declared.fault.ProofFault.{ProofFault}
 use Rattle.mst_proof.specs.Frame.{frame_at}
 
 -- a map of at most 65,535 pairs that has this root digest
 pub record HasRoot (format : Format) (m : List Pair) (digest : List ℕ) : Type 0 where
   pub map : IsMap m
-  pub few : length m ≤ 65535
+  pub few : length m ≤ highest_count
   pub root : digest ≡ root_of format m
 
 abbrev pub or_none : Result (List (List ℕ) × Claim) ProofFault → List (List ℕ)

@@ -6,6 +6,7 @@ ghost use Rattle.mst_key.specs.declared.format.Format.TheVariants.{One};
 ghost use Rattle.mst_key.specs.Map.{Pair as KeyValue, IsMap};
 ghost use Rattle.mst_node.specs.Collision.{Collision};
 ghost use Rattle.mst_node.specs.Shape.{tree_of, tree_of_child};
+ghost use Rattle.mst_node.specs.Text.{highest_count};
 ghost use Rattle.mst_node.specs.Tree.{tree as tree_of_map};
 ghost use Rattle.mst_proof.specs.Beside.{top_of, gap_tree, held_value, IsSmall, NoOther, ShowsNoOther, CollidesBeside};
 ghost use Rattle.mst_proof.specs.Frame.{frame_at};
@@ -161,7 +162,7 @@ pub fn collide<A: Allocator + Copy>(
     proof: &[u8],
     tree: Option<&Node<A>>,
 ) -> Result<Option<Pair<A>>, Memory>
-    requires map { (m : List KeyValue) × IsMap m × (length m ≤ 65535)
+    requires map { (m : List KeyValue) × IsMap m × (length m ≤ highest_count)
         × (top_of One (option_copied tree) ≡ tree_of_map One m) }
     ensures none { IfOk result
         (λ pair. IfNone pair
@@ -192,7 +193,7 @@ pub fn collide_in<A: Allocator + Copy>(
     proof: &[u8],
     tree: Option<&Node<A>>,
 ) -> Result<Option<Pair<A>>, Memory>
-    requires map { (m : List KeyValue) × IsMap m × (length m ≤ 65535)
+    requires map { (m : List KeyValue) × IsMap m × (length m ≤ highest_count)
         × (top_of format (option_copied tree) ≡ tree_of_map format m) }
     ensures none { IfOk result (λ pair. IfNone pair
         (ShowsNoOther format (top_of format (option_copied tree.entry)) key.now proof.now)) }

@@ -7,7 +7,7 @@ ghost use Rattle.mst_key.specs.declared.format.Format.{Format};
 ghost use Rattle.mst_key.specs.declared.format.Format.TheVariants.{One, Two};
 ghost use Rattle.mst_node.specs.Collision.{HasCollision};
 ghost use Rattle.mst_node.specs.Grammar.{InGrammar};
-ghost use Rattle.mst_node.specs.Text.{FlatNode, digest_of, root as root_of};
+ghost use Rattle.mst_node.specs.Text.{FlatNode, digest_of, root as root_of, highest_count};
 ghost use Rattle.mst_node.specs.Trail.{trail};
 ghost use Rattle.mst_node.specs.Tree.{tree};
 ghost use Rattle.mst_proof.specs.Beside.{texts_named, CollidesAmong};
@@ -37,7 +37,7 @@ pub fn trail_is_short()
 /// Each map of at most 65,535 pairs has its root digest, and no other digest. So what `verify` says
 /// of a map that has the root holds of each such map.
 pub fn each_map_has_its_root()
-    ensures has { (format : Format) (m : List Pair) → IsMap m → length m ≤ 65535
+    ensures has { (format : Format) (m : List Pair) → IsMap m → length m ≤ highest_count
         → HasRoot format m (root_of format m) }
     ensures only { (format : Format) (m : List Pair) (d : List ℕ) → HasRoot format m d
         → d ≡ root_of format m }
