@@ -3,6 +3,7 @@ ghost use Rattle.std.specs.Prelude.{◌≡◌, ◌<◌, ◌≤◌, ◌+◌, [], 
 ghost use Rattle.mst_key.specs.History.{batched};
 ghost use Rattle.mst_key.specs.Map.{Pair};
 ghost use Rattle.mst_node.specs.Cost.{cost};
+ghost use Rattle.mst_node.specs.Text.{highest_count};
 ghost use Rattle.mst_node.specs.Shape.{tree_of_child};
 ghost use Rattle.mst_arena.specs.Lives.{free_count};
 ghost use Rattle.mst_arena.specs.Standing.{Stands, numbers};
@@ -30,7 +31,7 @@ fn tree_after<B: Allocator + Copy>(
     format: Format,
     most: u32,
 ) -> Result<Option<Box<Node<B>, B>>, NotApplied>
-    requires few { most ≤ 65535 }
+    requires few { most ≤ highest_count }
     ensures tree { IfOk result
         (λ tree. IsTreeOf format (tree_of_child format tree) (batched [] edits.now)) }
     ensures lacks { IfErr result (λ why. LacksPairs why most (batched [] edits.now)) }

@@ -8,6 +8,9 @@ use crate::request::Fault;
 use mst_key::{Format, Key, KeySize, Value, ValueSize};
 use mst_lines::cut;
 
+/// The most pairs that a line may ask for.
+const MOST_PAIRS: u32 = 65_535;
+
 /// The first field, and what stands after its blank.
 pub fn first_field(line: &[u8]) -> (&[u8], Option<&[u8]>)
     ensures fields { fields_of line.now ≡ result.0.now ∷ fields_behind result.1 }
@@ -117,7 +120,7 @@ pub fn count_of(field: &[u8]) -> Option<u32>
 {
     match field {
         [] | [b'0', _, ..] => None,
-        _ => number_of(field, 65_535),
+        _ => number_of(field, MOST_PAIRS),
     }
 }
 

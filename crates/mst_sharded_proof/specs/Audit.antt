@@ -3,7 +3,7 @@ use Rattle.std.specs.Prelude.{◌≡◌, ◌≢◌, ◌<◌, ◌≤◌, ◌⊎�
 use Rattle.std.specs.declared.cmp.Ordering.TheVariants.{Less}
 use Rattle.mst_key.specs.declared.format.Format.{Format}
 use Rattle.mst_key.specs.Map.{Pair, key_cmp}
-use Rattle.mst_node.specs.Text.{root as root_of}
+use Rattle.mst_node.specs.Text.{root as root_of, highest_count}
 use Rattle.mst_sharded_proof.specs.Shards.{Shard, least, AreSplits, shards, bound_text}
 use Rattle.mst_sharded_proof.specs.declared.audit.AuditFault.{AuditFault}
 use Rattle.mst_sharded_proof.specs.declared.audit.AuditFault.TheVariants.{TooMany, NoShard, NotLeast, Listing, OtherRoot}
@@ -29,7 +29,7 @@ AreListed (s ∷ ss) (p ∷ pairs) = IsListed s p × AreListed ss pairs
 -- at most 65,535 pairs list the shards of these splits, each with some digest, and have this root
 pub record IsDirectory (format : Format) (root : List ℕ) (pairs : List Pair)
     (splits : List (List ℕ)) : Type 0 where
-  pub few : length pairs ≤ 65535
+  pub few : length pairs ≤ highest_count
   pub rising : AreSplits least splits
   pub listed : AreListed (shards splits) pairs
   pub has_root : root ≡ root_of format pairs
@@ -80,11 +80,11 @@ Opens (p ∷ pairs) = p.0 ≡ least
 
 -- the pairs have passed the tests before that of the fault, and fail that one
 abbrev pub AuditFails : Format → List ℕ → List Pair → AuditFault → Type 0
-AuditFails format root pairs TooMany = 65535 < length pairs
+AuditFails format root pairs TooMany = highest_count < length pairs
 AuditFails format root pairs NoShard = pairs ≡ []
 AuditFails format root pairs NotLeast =
-    (length pairs ≤ 65535) × (pairs ≢ []) × (Opens pairs → ⊥)
+    (length pairs ≤ highest_count) × (pairs ≢ []) × (Opens pairs → ⊥)
 AuditFails format root pairs (Listing n fault) =
-    (length pairs ≤ 65535) × Opens pairs × FailsAt n pairs fault
+    (length pairs ≤ highest_count) × Opens pairs × FailsAt n pairs fault
 AuditFails format root pairs OtherRoot =
-    (length pairs ≤ 65535) × Opens pairs × AllMeet pairs × (root ≢ root_of format pairs)
+    (length pairs ≤ highest_count) × Opens pairs × AllMeet pairs × (root ≢ root_of format pairs)

@@ -6,7 +6,7 @@ use Rattle.std.specs.declared.result.Result.{Result}
 use Rattle.std.specs.declared.result.Result.TheVariants.{Ok, Err}
 use Rattle.mst_key.specs.declared.format.Format.{Format}
 use Rattle.mst_key.specs.Map.{Pair, key_cmp}
-use Rattle.mst_node.specs.Text.{root as root_of}
+use Rattle.mst_node.specs.Text.{root as root_of, highest_count}
 use Rattle.mst_node.specs.Trail.{by_order}
 use Rattle.mst_sharded_proof.specs.Shards.{least}
 use Rattle.mst_sharded_proof.specs.declared.audit.AuditFault.{AuditFault}
@@ -66,5 +66,5 @@ rooted format root pairs = if bytes_eq root (root_of format pairs) then Ok tt el
 -- the first test that the pairs fail, if they fail one
 abbrev pub audit_verdict : Format → List ℕ → List Pair → Result (Unit {0}) AuditFault
 audit_verdict format root pairs =
-    if nat_lt 65535 (length pairs) then Err TooMany
+    if nat_lt highest_count (length pairs) then Err TooMany
     else opening pairs then listings_from 0 pairs then rooted format root pairs

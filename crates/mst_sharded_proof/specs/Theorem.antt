@@ -6,7 +6,7 @@ use Rattle.std.specs.declared.result.Result.{Result}
 use Rattle.std.specs.declared.result.Result.TheVariants.{Ok, Err}
 use Rattle.mst_key.specs.declared.format.Format.{Format}
 use Rattle.mst_key.specs.Map.{Pair, IsMap, map_get}
-use Rattle.mst_node.specs.Text.{digest as digest_of_tree}
+use Rattle.mst_node.specs.Text.{digest as digest_of_tree, highest_count}
 use Rattle.mst_key.specs.Bytes.{IsBytes}
 use Rattle.mst_node.specs.Collision.{HasCollision}
 use Rattle.mst_node.specs.Trail.{proof_text}
@@ -21,8 +21,8 @@ use Rattle.mst_sharded_proof.specs.declared.fault.ShardedFault.{ShardedFault}
 pub record IsSharded (m : List Pair) (splits : List (List ℕ)) : Type 0 where
   pub map : IsMap m
   pub rising : AreSplits least splits
-  pub few_shards : length splits < 65535
-  pub few : AllByRecursion (λ s. length (part_of m s) ≤ 65535) (shards splits)
+  pub few_shards : length splits < highest_count
+  pub few : AllByRecursion (λ s. length (part_of m s) ≤ highest_count) (shards splits)
 
 -- a map with these splits that has this root digest
 pub record HasShardedRoot (format : Format) (m : List Pair) (splits : List (List ℕ))

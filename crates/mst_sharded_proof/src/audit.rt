@@ -14,6 +14,9 @@ use mst_node::root_of_in;
 use std::cmp::Ordering;
 use thiserror::Error;
 
+/// The most pairs of a directory: the text of its node gives their count in two bytes.
+const MOST_PAIRS: usize = 65_535;
+
 /// What is wrong with the listing of a shard. The tests stand in the order of the variants, but for
 /// the last three, of which each listing can fail only one.
 #[derive(Clone, Copy, Debug, PartialEq, Eq, Error)]
@@ -131,7 +134,7 @@ fn opening(pairs: &[(Key, Value)]) -> Result<(), AuditFault>
 fn judge(format: Format, root: &[u8; 32], pairs: &[(Key, Value)]) -> Result<(), AuditFault>
     ensures verdict { result ≡ audit_verdict format root.now pairs.now }
 {
-    if pairs.len() > 65535 {
+    if pairs.len() > MOST_PAIRS {
         return Err(AuditFault::TooMany);
     }
     opening(pairs)?;

@@ -6,12 +6,9 @@ use Rattle.mst_key.specs.declared.format.Format.{Format}
 use Rattle.mst_key.specs.declared.history.Change.{Change}
 use Rattle.mst_key.specs.declared.history.Event.{Event}
 use Rattle.mst_key.specs.History.{History, format_after, events_of, IsPrefix}
+pub use Rattle.mst_arena.specs.Limits.{most_rows}
 use Rattle.mst_words.specs.Access.{Seated}
 use Rattle.mst_words.specs.Notes.{IsOfPasses}
-
--- the most rows that a store has: a link is of two bytes, and 0 links to none
-abbrev pub most_rows : ℕ
-most_rows = 65535
 
 -- which store it is, its size, and the format of its version 0
 pub record StoreId : Type 0 where

@@ -21,15 +21,12 @@ use crate::faults::MigrateFault;
 use crate::numbers::Numbers;
 use crate::publishing::publish;
 use crate::turn::{NotBegun, Turn, begin_write, give_back};
-use mst_arena::Root;
+use mst_arena::{MOST_ROWS, Root};
 use mst_key::{Change, Event, Format, Memory};
 use mst_node::{Node, build_in, release};
 use mst_path::NoRoom;
 use mst_words::PassSeat;
 use std::alloc::Allocator;
-
-/// The most pairs that a map of a store has, since it has no more rows.
-const MOST_PAIRS: usize = 65_535;
 
 /// Why no tree of the other format was made.
 #[derive(Clone, Copy, Debug, PartialEq, Eq)]
@@ -54,7 +51,7 @@ fn tree_in<A: Allocator + Copy, B: Allocator + Copy>(
     ensures few { length (after seat.old.me.0.seen) ≤ most_rows }
     ensures same { seat.new ≡ seat.old }
 {
-    let pairs = mst_read::range(alloc, seat, &turn.root, None, None, MOST_PAIRS)?;
+    let pairs = mst_read::range(alloc, seat, &turn.root, None, None, MOST_ROWS as usize)?;
     build_in(alloc, to, pairs.as_slice())
 }
 

@@ -1,5 +1,6 @@
 //! The words of a record.
 ghost use Rattle.std.specs.Prelude.{◌≡◌, ◌<◌, ◌≤◌, ℕ, length};
+ghost use Rattle.mst_arena.specs.Limits.{highest_link};
 ghost use Rattle.mst_arena.specs.Lists.{In};
 ghost use Rattle.mst_words.specs.Access.{with_words};
 ghost use Rattle.mst_words.specs.Layout.{most_records, record_words, first_row, record_word};
@@ -8,7 +9,6 @@ ghost use Rattle.mst_key.specs.declared.format.Format.{Format};
 ghost use Rattle.mst_words.specs.Stored.{root_in, format_number};
 ghost use Rattle.mst_words.specs.Steps.{IsReadable, IsHolder};
 ghost use Rattle.mst_versions.specs.Filing.{IsFiled, OthersKept};
-ghost use Rattle.mst_versions.specs.Known.{most_rows};
 
 use mst_arena::Root;
 use mst_key::Format;
@@ -32,7 +32,7 @@ pub(crate) fn read_root<A: Allocator + Copy>(seat: &mut PassSeat<'_, A>, which: 
     requires there { which < most_records }
     requires readable { (k : ℕ) → k < record_words
         → IsReadable seat.old.me.0 (record_word which k) }
-    requires link { field seat.old.me.0.known_words which 1 ≤ most_rows }
+    requires link { field seat.old.me.0.known_words which 1 ≤ highest_link }
     ensures version { result.0 ≡ field seat.old.me.0.known_words which 0 }
     ensures root { result.1 ≡ root_in (field seat.old.me.0.known_words which) }
     ensures same { seat.new ≡ seat.old }
@@ -53,7 +53,7 @@ pub(crate) fn read_link<A: Allocator + Copy>(seat: &mut PassSeat<'_, A>, which: 
     requires there { which < most_records }
     requires readable { (k : ℕ) → k < record_words
         → IsReadable seat.old.me.0 (record_word which k) }
-    requires link { field seat.old.me.0.known_words which 1 ≤ most_rows }
+    requires link { field seat.old.me.0.known_words which 1 ≤ highest_link }
     ensures version { result.0 ≡ field seat.old.me.0.known_words which 0 }
     ensures link { result.1 ≡ field seat.old.me.0.known_words which 1 }
     ensures same { seat.new ≡ seat.old }
