@@ -26,6 +26,7 @@
 
 mod bits;
 mod desk;
+mod entry_text;
 mod free_rows;
 mod laws;
 mod life;
@@ -38,6 +39,7 @@ mod sweep;
 mod words;
 
 pub use desk::{Desk, VersionsSpent};
+pub use entry_text::take_common;
 pub use laws::{life_laws, standing_laws, words_laws};
 pub use life::Life;
 pub use plain::PlainRows;

@@ -1,14 +1,18 @@
 //! Rows that a holder may read and write.
-ghost use Rattle.std.specs.Prelude.{◌≡◌, ◌≤◌, ◌<◌, ◌++◌, ◌∷◌, [], IsTrue, IsSome, IfSome, Some, length, vec_capacity};
+ghost use Rattle.std.specs.Prelude.{◌≡◌, ◌≤◌, ◌<◌, ◌++◌, ◌∷◌, [], IsTrue, IsSome, IfSome, Some, length, List, vec_capacity};
+ghost use Rattle.mst_key.specs.Bytes.{IsKey, IsValue};
 ghost use Rattle.mst_key.specs.Map.{Pair};
+ghost use Rattle.mst_node.specs.Text.{child_text, counted, held_of, held_text};
 ghost use Rattle.mst_arena.specs.Limits.{highest_link};
 ghost use Rattle.mst_arena.specs.Row.{IsRow, IsHead, head_links, head_digest, entry_links, entry_ends, entry_pair, entry_value};
 ghost use Rattle.mst_arena.specs.Content.{part_at, Writes, relinked};
 ghost use Rattle.mst_arena.specs.Ways.{entry_way, stop_from};
 
+use crate::entry_text::take_whole;
 use crate::row::{EntryLinks, HeadLinks, Links, Row};
 use crate::sought::{Sought, Stop, Way};
-use mst_key::{Key, Value};
+use mst_key::{Format, Key, Value};
+use mst_node::TextSink;
 use std::alloc::Allocator;
 
 /// Rows that the holder may read, and blank rows that it may write.
@@ -161,6 +165,28 @@ pub trait Rows {
         ensures same { self.new ≡ self.old }
     {
         list.push_reserved(self.pair(row));
+    }
+
+    /// Hands over the entry at this number, after a child, to what takes the text of its node. It
+    /// is one call, so that an implementation that sees the entry's lengths first makes no pair.
+    fn spell<S: TextSink>(
+        &mut self,
+        row: u32,
+        format: Format,
+        child: Option<[u8; 32]>,
+        sink: &mut S,
+    )
+        requires there { IsSome (part_at entry_links (content self.old) row) }
+        ensures entry { (pair : Pair) → part_at entry_pair (content self.old) row ≡ Some pair
+            → (m : List ℕ) → S.took sink.old m
+            → S.took sink.new (m ++ child_text child ++ counted pair.0
+            ++ held_text format (held_of format pair.1)) }
+        ensures limits { (pair : Pair) → part_at entry_pair (content self.old) row ≡ Some pair
+            → IsKey pair.0 × IsValue pair.1 }
+        ensures same { self.new ≡ self.old }
+    {
+        let (key, value) = self.pair(row);
+        take_whole(sink, format, child, key.bytes(), value.bytes());
     }
 
     /// Where a search for the key goes on from the entry at this number.

@@ -20,7 +20,6 @@
 
 mod buffer;
 mod descent;
-mod entry_text;
 mod following;
 mod laws;
 mod lookup;

@@ -13,7 +13,6 @@ ghost use Rattle.mst_read.specs.Search.{ChainLies, Lies, LiesBehind, StandsBelow
 
 use crate::buffer::NodeBuffer;
 use crate::descent::head_at;
-use crate::entry_text::take_whole;
 use crate::lookup::{Place, get_below, seek};
 use mst_arena::{HeadLinks, Root, Rows, Sought};
 use mst_key::{Format, Key, Memory, Value};
@@ -61,8 +60,7 @@ fn write_node<R: Rows, A: Allocator>(
         let row = link - 1;
         let links = rows.links(row);
         let child = digest_at(rows, links.child);
-        let (key, value) = rows.pair(row);
-        take_whole(out, format, child, key.bytes(), value.bytes());
+        rows.spell(row, format, child, out);
         link = links.next;
     }
     out.child(digest_at(rows, head.tail));

@@ -39,6 +39,7 @@ mod rows;
 mod rule;
 mod searching;
 mod seat;
+mod spelling;
 mod view;
 mod words;
 

@@ -19,7 +19,7 @@ use mst_key::{Key, Value};
 use std::alloc::Allocator;
 
 /// The word of the lengths of a key of 16 bytes and a value of 32.
-const COMMON_LENGTHS: u64 = 16 + 256 * 32;
+pub(crate) const COMMON_LENGTHS: u64 = 16 + 256 * 32;
 
 impl<A: Allocator + Copy> Board<A> {
     /// Word k of a row: one load.
@@ -133,9 +133,9 @@ impl<A: Allocator + Copy> Board<A> {
         }
     }
 
-    // The pair of an entry of these lengths.
+    /// The pair of an entry of these lengths.
     #[inline(always)]
-    fn pair_by(&self, seat: &mut Token<A>, row: u32, lengths: u64) -> (Key, Value)
+    pub(crate) fn pair_by(&self, seat: &mut Token<A>, row: u32, lengths: u64) -> (Key, Value)
         requires own { seat.old.table_id ≡ self.now }
         requires wide { self.now.words ≡ table_words seat.old.me.0.rows }
         requires there { IsSome (part_at entry_links (content_of seat.old.me.0) row) }

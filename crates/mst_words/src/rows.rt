@@ -12,7 +12,8 @@ ghost use Rattle.mst_words.specs.Access.{may_read, is_blank, content_of, beside,
 use crate::layout::ROW_WORDS;
 use crate::seat::PassSeat;
 use mst_arena::{EntryLinks, HeadLinks, Links, Row, Rows, Sought, Stop, Way};
-use mst_key::{Key, Value};
+use mst_key::{Format, Key, Value};
+use mst_node::TextSink;
 use std::alloc::Allocator;
 
 impl<'a, A: Allocator + Copy> PassSeat<'a, A> {
@@ -150,6 +151,17 @@ impl<'a, A: Allocator + Copy> Rows for PassSeat<'a, A> {
     #[inline(always)]
     fn push_pair<B: Allocator>(&mut self, row: u32, list: &mut Vec<(Key, Value), B>) {
         self.board.push_pair(&mut self.token, row, list);
+    }
+
+    #[inline(always)]
+    fn spell<S: TextSink>(
+        &mut self,
+        row: u32,
+        format: Format,
+        child: Option<[u8; 32]>,
+        sink: &mut S,
+    ) {
+        self.board.spell(&mut self.token, row, format, child, sink);
     }
 
     fn way(&mut self, row: u32, key: &Sought) -> Way {

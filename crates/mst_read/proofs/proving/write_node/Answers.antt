@@ -1,12 +1,13 @@
 use Rattle.std.proofs.Common.{◌≡◌, ◌-◌, ◌++◌, length, ℕ, List, [], Option, Some, IsSome, ◌∙◌, sym, ap, subst, refl, arith, length-append}
 use Rattle.std.specs.Prelude.{IfSome}
+use Rattle.std.proofs.lemmas.Option.{same_Some}
 use Rattle.mst_node.specs.Text.{heading, child_text, child_digest, counted, held_text, held_of}
 use Rattle.mst_arena.specs.Row.{entry_links, entry_pair}
 use Rattle.mst_arena.specs.declared.row.EntryLinks.{EntryLinks}
 use Rattle.mst_arena.proofs.EntryParts.{links_at}
 use Rattle.mst_key.specs.Map.{Pair}
 use Rattle.mst_arena.specs.Standing.{tree_of}
-use Rattle.mst_read.proofs.Still.{read_before, there_still}
+use Rattle.mst_read.proofs.Still.{read_still, there_still}
 use Rattle.mst_read.proofs.Walk.{at_cell, at_end, child_lies, tail_lies}
 use Rattle.mst_read.proofs.Gathering.{cell_pair}
 use Rattle.mst_read.proofs.NodeTexts.{entry_length, text_starts, text_goes_on, text_ends, short_text}
@@ -51,8 +52,8 @@ digest_at-child-requires g c =
       );
     }
 
-pub pair-key-requires : goal.pair-key-requires
-pair-key-requires g c = record {
+pub spell-requires : goal.spell-requires
+spell-requires g c = record {
   there = there_still
       (ap g.R.Rows.content (c.digest_at-child.ensures.same ∙ c.links-links.ensures.same))
       entry_links (c.loop.link - 1)
@@ -65,56 +66,44 @@ pair-key-requires g c = record {
 pub loop-preserved : goal.loop-preserved
 loop-preserved g c =
     let m = c.loop.invariant.written.0 in
+    let read = links_at (g.R.Rows.content c.loop.rows) (c.loop.link - 1) c.links-links.result
+    c.links-links.ensures.value in
+    let some = at_cell (c.loop.invariant.written.3 c.requires.lies.0 c.requires.lies.1)
+    c.loop-test.true (ap g.R.Rows.content c.loop.invariant.same) read.1 in
+    let still = ap g.R.Rows.content (c.digest_at-child.ensures.same ∙ c.links-links.ensures.same
+    ∙ c.loop.invariant.same) in
+    let there = read_still still entry_pair (c.loop.link - 1) (cell_pair some) in
+    let limits = c.spell.ensures.limits _ there in
     record {
-      same = c.pair-key.ensures.same ∙ c.digest_at-child.ensures.same ∙ c.links-links.ensures.same
+      same = c.spell.ensures.same ∙ c.digest_at-child.ensures.same ∙ c.links-links.ensures.same
           ∙ c.loop.invariant.same;
       written = (
         _,
-        c.take_whole.ensures.entry m c.loop.invariant.written.1,
+        c.spell.ensures.entry _ there m c.loop.invariant.written.1,
         omega (
           arith,
-          entry_length c.args.format m (child_text c.digest_at-child.result)
-              c.bytes.result.now c.bytes-in-loop.result.now
-              (omega (arith, c.bytes-in-loop.ensures)),
+          entry_length c.args.format m (child_text c.digest_at-child.result) read.0 some.value
+              limits.1,
           c.digest_at-child.ensures.short,
           c.loop.invariant.written.2,
-          c.bytes.ensures,
-          c.bytes-in-loop.ensures,
+          limits.0.1,
         ),
         λ chain behind.
             let here = at_cell (c.loop.invariant.written.3 chain behind) c.loop-test.true
-            (ap g.R.Rows.content c.loop.invariant.same)
-            (links_at (g.R.Rows.content c.loop.rows) (c.loop.link - 1) c.links-links.result
-            c.links-links.ensures.value).1 in
+            (ap g.R.Rows.content c.loop.invariant.same) read.1 in
             let gap : c.digest_at-child.result ≡ child_digest (tree_of c.args.format here.child) =
             c.digest_at-child.ensures.digest c.args.format here.child
             (child_lies here
             (ap g.R.Rows.content (c.links-links.ensures.same ∙ c.loop.invariant.same))) in
-            let read : Some c.pair-key.result ≡ Some (
-              (links_at (g.R.Rows.content c.loop.rows) (c.loop.link - 1) c.links-links.result
-                  c.links-links.ensures.value).0,
-              here.value,
-            ) =
-            sym (read_before
-            (ap g.R.Rows.content (c.digest_at-child.ensures.same ∙ c.links-links.ensures.same
-            ∙ c.loop.invariant.same))
-            entry_pair (c.loop.link - 1) c.pair-key.ensures.value) ∙ cell_pair here in
-            let pair : c.pair-key.result ≡ (
-              (links_at (g.R.Rows.content c.loop.rows) (c.loop.link - 1) c.links-links.result
-                  c.links-links.ensures.value).0,
-              here.value,
-            ) = cc in
-            let key : c.pair-key.result.0
-            ≡ (links_at (g.R.Rows.content c.loop.rows) (c.loop.link - 1) c.links-links.result
-            c.links-links.ensures.value).0 = ap (λ (p : Pair). p.0) pair in
-            let value : c.pair-key.result.1 ≡ here.value = ap (λ (p : Pair). p.1) pair in
-            let written : ((m ++ child_text c.digest_at-child.result) ++ counted c.bytes.result.now)
-            ++ held_text c.args.format (held_of c.args.format c.bytes-in-loop.result.now)
-            ≡ ((m ++ child_text (child_digest (tree_of c.args.format here.child))) ++ counted
-            (links_at (g.R.Rows.content c.loop.rows) (c.loop.link - 1) c.links-links.result
-            c.links-links.ensures.value).0) ++ held_text c.args.format
-            (held_of c.args.format here.value) =
-            cc (gap, key, value, c.bytes.ensures.bytes, c.bytes-in-loop.ensures.bytes) in
+            let one : ◌≡◌ {A = Option Pair} (Some (read.0, some.value))
+            (Some (read.0, here.value)) = sym (cell_pair some) ∙ cell_pair here in
+            let value : some.value ≡ here.value =
+            ap (λ (p : Pair). p.1) (same_Some (read.0, some.value) (read.0, here.value) one) in
+            let written : ((m ++ child_text c.digest_at-child.result) ++ counted read.0)
+            ++ held_text c.args.format (held_of c.args.format some.value)
+            ≡ ((m ++ child_text (child_digest (tree_of c.args.format here.child)))
+            ++ counted read.0) ++ held_text c.args.format (held_of c.args.format here.value) =
+            cc (gap, value) in
             text_goes_on c.args.format m here written,
       );
     }

@@ -1,0 +1,81 @@
+//! The text of an entry, spelled from the words of its row.
+ghost use Rattle.std.specs.Prelude.{◌≡◌, ◌++◌, ℕ, List, IsSome, Some};
+ghost use Rattle.mst_key.specs.Bytes.{IsKey, IsValue};
+ghost use Rattle.mst_key.specs.Map.{Pair};
+ghost use Rattle.mst_node.specs.Text.{child_text, counted, held_of, held_text};
+ghost use Rattle.mst_arena.specs.Content.{part_at};
+ghost use Rattle.mst_arena.specs.Row.{entry_links, entry_pair};
+ghost use Rattle.mst_words.specs.Access.{content_of};
+ghost use Rattle.mst_words.specs.Layout.{table_words};
+
+use crate::board::{Board, Token};
+use crate::row_words::COMMON_LENGTHS;
+use mst_arena::take_common;
+use mst_key::Format;
+use mst_node::{TextSink, take_entry};
+use std::alloc::Allocator;
+
+impl<A: Allocator + Copy> Board<A> {
+    // Hands over an entry piece by piece.
+    #[inline(always)]
+    fn spell_pieces<S: TextSink>(
+        &self,
+        seat: &mut Token<A>,
+        row: u32,
+        format: Format,
+        child: Option<[u8; 32]>,
+        sink: &mut S,
+    )
+        requires own { seat.old.table_id ≡ self.now }
+        requires wide { self.now.words ≡ table_words seat.old.me.0.rows }
+        requires there { IsSome (part_at entry_links (content_of seat.old.me.0) row) }
+        ensures entry { (pair : Pair)
+            → part_at entry_pair (content_of seat.old.me.0) row ≡ Some pair
+            → (m : List ℕ) → S.took sink.old m
+            → S.took sink.new (m ++ child_text child ++ counted pair.0
+            ++ held_text format (held_of format pair.1)) }
+        ensures limits { (pair : Pair)
+            → part_at entry_pair (content_of seat.old.me.0) row ≡ Some pair
+            → IsKey pair.0 × IsValue pair.1 }
+        ensures same { (seat.new.table_id ≡ seat.old.table_id) × (seat.new.id ≡ seat.old.id)
+            × (seat.new.me ≡ seat.old.me) }
+    {
+        let pair = self.pair(seat, row);
+        take_entry(sink, format, child, pair.0.bytes(), pair.1.bytes());
+    }
+
+    /// Hands over an entry, after a child, to what takes the text of its node. One of format 1 with
+    /// a key of 16 bytes and a value of 32 has an arm of its own: there the compiled code makes the
+    /// text of the words, and no pair in memory.
+    #[inline(always)]
+    pub(crate) fn spell<S: TextSink>(
+        &self,
+        seat: &mut Token<A>,
+        row: u32,
+        format: Format,
+        child: Option<[u8; 32]>,
+        sink: &mut S,
+    )
+        requires own { seat.old.table_id ≡ self.now }
+        requires wide { self.now.words ≡ table_words seat.old.me.0.rows }
+        requires there { IsSome (part_at entry_links (content_of seat.old.me.0) row) }
+        ensures entry { (pair : Pair)
+            → part_at entry_pair (content_of seat.old.me.0) row ≡ Some pair
+            → (m : List ℕ) → S.took sink.old m
+            → S.took sink.new (m ++ child_text child ++ counted pair.0
+            ++ held_text format (held_of format pair.1)) }
+        ensures limits { (pair : Pair)
+            → part_at entry_pair (content_of seat.old.me.0) row ≡ Some pair
+            → IsKey pair.0 × IsValue pair.1 }
+        ensures same { (seat.new.table_id ≡ seat.old.table_id) × (seat.new.id ≡ seat.old.id)
+            × (seat.new.me ≡ seat.old.me) }
+    {
+        if format == Format::One && self.word(seat, row, 3) == COMMON_LENGTHS {
+            let (key, value) = self.pair_by(seat, row, COMMON_LENGTHS);
+            if take_common(sink, format, child, key.bytes(), value.bytes()) {
+                return;
+            }
+        }
+        self.spell_pieces(seat, row, format, child, sink);
+    }
+}
