@@ -10,6 +10,7 @@ use Rattle.mst_key.specs.declared.history.Change.TheVariants.{Batch}
 use Rattle.mst_key.specs.declared.history.Edit.{Edit}
 use Rattle.mst_key.specs.declared.history.Edit.TheVariants.{Put, Remove}
 use Rattle.mst_key.specs.History as history
+use Rattle.mst_versions.specs.declared.faults.ApplyFault.{ApplyFault}
 use Rattle.mst_versions.specs.declared.faults.ApplyFault.TheVariants as apply
 use Rattle.mst_store.specs.Passes.{Known, Wrote, made_by}
 use Rattle.mst_versions.specs.Applying.{RefusesBatch}
@@ -122,13 +123,17 @@ fault_code KeySize = bad_key
 fault_code ValueSize = bad_value
 fault_code Form = bad_batch
 
+-- the code of a batch that a store was refused
+abbrev pub apply_fault_code : ApplyFault → ℤ
+apply_fault_code apply.Busy = busy
+apply_fault_code apply.VersionsSpent = versions_spent
+apply_fault_code (apply.Memory refused) = memory
+apply_fault_code apply.NoRoom = no_free_rows
+
 abbrev pub unapplied_code : Unapplied → ℤ
 unapplied_code Pins = wrong_state
 unapplied_code (Memory refused) = memory
-unapplied_code (Store apply.Busy) = busy
-unapplied_code (Store apply.VersionsSpent) = versions_spent
-unapplied_code (Store (apply.Memory refused)) = memory
-unapplied_code (Store apply.NoRoom) = no_free_rows
+unapplied_code (Store fault) = apply_fault_code fault
 
 abbrev pub apply_code : Result (Unit {0}) Unapplied → ℤ
 apply_code (Ok _) = pos 0

@@ -4,6 +4,7 @@ use Rattle.mst_key.specs.declared.format.Format.{Format}
 use Rattle.mst_key.specs.declared.format.Format.TheVariants.{One, Two}
 use Rattle.mst_key.specs.declared.history.Change.TheVariants.{Migrate}
 use Rattle.mst_key.specs.History as history
+use Rattle.mst_versions.specs.declared.faults.MigrateFault.{MigrateFault}
 use Rattle.mst_versions.specs.declared.faults.MigrateFault.TheVariants.{Busy, VersionsSpent, Memory, NoRoom}
 use Rattle.mst_store.specs.Passes.{Known, Wrote, made_by}
 use Rattle.mst_versions.specs.Migrating.{RefusesMigration}
@@ -42,12 +43,16 @@ Moves to (Pinned p) (Err Pins) s = s ≡ Pinned p
 Moves to (Pinned p) (Err (Store fault)) s = ⊥
 Moves to (Pinned p) (Ok was) s = ⊥
 
+-- the code of a migration that a store was refused
+abbrev pub migrate_fault_code : MigrateFault → ℤ
+migrate_fault_code Busy = busy
+migrate_fault_code VersionsSpent = versions_spent
+migrate_fault_code (Memory refused) = memory
+migrate_fault_code NoRoom = no_free_rows
+
 abbrev pub unmoved_code : Unmoved → ℤ
 unmoved_code Pins = wrong_state
-unmoved_code (Store Busy) = busy
-unmoved_code (Store VersionsSpent) = versions_spent
-unmoved_code (Store (Memory refused)) = memory
-unmoved_code (Store NoRoom) = no_free_rows
+unmoved_code (Store fault) = migrate_fault_code fault
 
 abbrev pub move_code : Result Format Unmoved → ℤ
 move_code (Ok was) = format_code was

@@ -1,6 +1,6 @@
 //! Batches of edits, as C is told of them.
 ghost use Rattle.std.specs.Prelude.{◌≡◌};
-ghost use Rattle.mst_c.specs.Batches.{fault_code as code_of_fault, apply_code as code_of_applied, ApplyTold};
+ghost use Rattle.mst_c.specs.Batches.{fault_code as code_of_fault, apply_fault_code as code_of_refused, apply_code as code_of_applied, ApplyTold};
 
 use crate::codes::{
     BAD_BATCH, BAD_KEY, BAD_VALUE, BUSY, CLOSED, MEMORY, NO_FREE_ROWS, VERSIONS_SPENT, WRONG_STATE,
@@ -22,6 +22,18 @@ pub fn fault_code(fault: EditFault) -> i32
     }
 }
 
+/// The code of a batch that a store was refused.
+pub fn apply_fault_code(fault: ApplyFault) -> i32
+    ensures code { result ≡ code_of_refused fault }
+{
+    match fault {
+        ApplyFault::Busy => BUSY,
+        ApplyFault::VersionsSpent => VERSIONS_SPENT,
+        ApplyFault::Memory(_) => MEMORY,
+        ApplyFault::NoRoom => NO_FREE_ROWS,
+    }
+}
+
 /// The code of a batch.
 fn apply_code(applied: Result<(), Unapplied>) -> i32
     ensures code { result ≡ code_of_applied applied }
@@ -30,10 +42,7 @@ fn apply_code(applied: Result<(), Unapplied>) -> i32
         Ok(()) => 0,
         Err(Unapplied::Pins) => WRONG_STATE,
         Err(Unapplied::Memory(_)) => MEMORY,
-        Err(Unapplied::Store(ApplyFault::Busy)) => BUSY,
-        Err(Unapplied::Store(ApplyFault::VersionsSpent)) => VERSIONS_SPENT,
-        Err(Unapplied::Store(ApplyFault::Memory(_))) => MEMORY,
-        Err(Unapplied::Store(ApplyFault::NoRoom)) => NO_FREE_ROWS,
+        Err(Unapplied::Store(fault)) => apply_fault_code(fault),
     }
 }
 

@@ -1,6 +1,6 @@
 //! The format of a version, and migrations, as C is told of them.
 ghost use Rattle.std.specs.Prelude.{◌≡◌};
-ghost use Rattle.mst_c.specs.Formats.{format_named as named, format_code, move_code as code_of_move, FormatTold, MigrateTold};
+ghost use Rattle.mst_c.specs.Formats.{format_named as named, format_code, migrate_fault_code as code_of_refused, move_code as code_of_move, FormatTold, MigrateTold};
 
 use crate::codes::{
     BUSY, CLOSED, MEMORY, NO_FREE_ROWS, UNKNOWN_FORMAT, VERSIONS_SPENT, WRONG_STATE,
@@ -32,6 +32,18 @@ pub fn number_of(format: Format) -> i32
     }
 }
 
+/// The code of a migration that a store was refused.
+pub fn migrate_fault_code(fault: MigrateFault) -> i32
+    ensures code { result ≡ code_of_refused fault }
+{
+    match fault {
+        MigrateFault::Busy => BUSY,
+        MigrateFault::VersionsSpent => VERSIONS_SPENT,
+        MigrateFault::Memory(_) => MEMORY,
+        MigrateFault::NoRoom => NO_FREE_ROWS,
+    }
+}
+
 /// The code of a migration.
 fn move_code(moved: Result<Format, Unmoved>) -> i32
     ensures code { result ≡ code_of_move moved }
@@ -39,10 +51,7 @@ fn move_code(moved: Result<Format, Unmoved>) -> i32
     match moved {
         Ok(was) => number_of(was),
         Err(Unmoved::Pins) => WRONG_STATE,
-        Err(Unmoved::Store(MigrateFault::Busy)) => BUSY,
-        Err(Unmoved::Store(MigrateFault::VersionsSpent)) => VERSIONS_SPENT,
-        Err(Unmoved::Store(MigrateFault::Memory(_))) => MEMORY,
-        Err(Unmoved::Store(MigrateFault::NoRoom)) => NO_FREE_ROWS,
+        Err(Unmoved::Store(fault)) => migrate_fault_code(fault),
     }
 }
 

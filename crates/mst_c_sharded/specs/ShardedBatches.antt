@@ -4,10 +4,8 @@ use Rattle.mst_key.specs.declared.history.Edit.{Edit}
 use Rattle.mst_sharded.specs.Applying.{edits_behind, AppliesAll, RefusesEdits}
 use Rattle.mst_sharded.specs.Sharding.{Sharding}
 use Rattle.mst_sharded.specs.declared.faults.SpreadFault.TheVariants.{Memory, Shard}
-use Rattle.mst_versions.specs.declared.faults.ApplyFault.{ApplyFault}
-use Rattle.mst_versions.specs.declared.faults.ApplyFault.TheVariants as apply
-use Rattle.mst_c.specs.Codes.{absent, closed, wrong_state, memory, busy, versions_spent, no_free_rows}
-use Rattle.mst_c.specs.Batches.{edits_in, fault_code}
+use Rattle.mst_c.specs.Codes.{absent, closed, wrong_state, memory}
+use Rattle.mst_c.specs.Batches.{edits_in, fault_code, apply_fault_code}
 use Rattle.mst_c.specs.declared.packing.BadEdit.{BadEdit}
 use Rattle.mst_c_sharded.specs.declared.batches.Unspread.{Unspread}
 use Rattle.mst_c_sharded.specs.declared.batches.Unspread.TheVariants.{Pins, NoShard, Spread}
@@ -30,18 +28,12 @@ Spreads es from (Snapshot h) (Err NoShard) s = ⊥
 Spreads es from (Snapshot h) (Err (Spread fault)) s = ⊥
 Spreads es from (Snapshot h) (Ok _) s = ⊥
 
-abbrev pub part_code : ApplyFault → ℤ
-part_code apply.Busy = busy
-part_code apply.VersionsSpent = versions_spent
-part_code (apply.Memory refused) = memory
-part_code apply.NoRoom = no_free_rows
-
 abbrev pub spread_code : Result (Unit {0}) Unspread → ℤ
 spread_code (Ok _) = pos 0
 spread_code (Err Pins) = wrong_state
 spread_code (Err NoShard) = absent
 spread_code (Err (Spread (Memory refused))) = memory
-spread_code (Err (Spread (Shard stop fault))) = part_code fault
+spread_code (Err (Spread (Shard stop fault))) = apply_fault_code fault
 
 -- the shard that refused its edits; the first one once all edits are made; otherwise the one from
 -- which on they were to be made

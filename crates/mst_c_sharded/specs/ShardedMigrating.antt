@@ -5,14 +5,12 @@ use Rattle.mst_sharded.specs.Applying.{MigratesAll}
 use Rattle.mst_sharded.specs.Shared.{RefusesMoves}
 use Rattle.mst_sharded.specs.Sharding.{Sharding}
 use Rattle.mst_sharded.specs.declared.faults.MoveFault.TheVariants.{Memory, Shard}
-use Rattle.mst_versions.specs.declared.faults.MigrateFault.{MigrateFault}
-use Rattle.mst_versions.specs.declared.faults.MigrateFault.TheVariants as migrate
-use Rattle.mst_c.specs.Codes.{unknown_format, closed, wrong_state, memory, busy, versions_spent, no_free_rows}
+use Rattle.mst_c.specs.Codes.{unknown_format, closed, wrong_state, memory}
 use Rattle.mst_c_sharded.specs.declared.held.Sharing.{Sharing}
 use Rattle.mst_c_sharded.specs.declared.held.Sharing.TheVariants.{Away, Handle, Snapshot}
 use Rattle.mst_c_sharded.specs.declared.migrating.Unmigrated.{Unmigrated}
 use Rattle.mst_c_sharded.specs.declared.migrating.Unmigrated.TheVariants.{Pins, Move}
-use Rattle.mst_c.specs.Formats.{format_named}
+use Rattle.mst_c.specs.Formats.{format_named, migrate_fault_code}
 
 -- A handle migrates each shard, or stops at one that is refused it, or a growth was refused, as the
 -- handle's contract says. A snapshot migrates none
@@ -26,17 +24,11 @@ MovesAll to (Snapshot h) (Err Pins) s = s ≡ Snapshot h
 MovesAll to (Snapshot h) (Err (Move fault)) s = ⊥
 MovesAll to (Snapshot h) (Ok _) s = ⊥
 
-abbrev pub fault_code : MigrateFault → ℤ
-fault_code migrate.Busy = busy
-fault_code migrate.VersionsSpent = versions_spent
-fault_code (migrate.Memory refused) = memory
-fault_code migrate.NoRoom = no_free_rows
-
 abbrev pub moved_code : Result (Unit {0}) Unmigrated → ℤ
 moved_code (Ok _) = pos 0
 moved_code (Err Pins) = wrong_state
 moved_code (Err (Move (Memory refused))) = memory
-moved_code (Err (Move (Shard stopped))) = fault_code stopped.fault
+moved_code (Err (Move (Shard stopped))) = migrate_fault_code stopped.fault
 
 -- the place of the shard that stopped the migration, if one did
 abbrev pub stopped_after : ℕ → Result (Unit {0}) Unmigrated → ℕ

@@ -1,16 +1,15 @@
 //! Batches of edits of a sharded map, as C is told of them.
 ghost use Rattle.std.specs.Prelude.{◌≡◌};
 ghost use Rattle.mst_c_sharded.specs.declared.held.Sharing.TheVariants as sharing;
-ghost use Rattle.mst_c_sharded.specs.ShardedBatches.{part_code as code_of_part, spread_code, shard_after, Spreads, ApplyTold};
+ghost use Rattle.mst_c_sharded.specs.ShardedBatches.{spread_code, shard_after, Spreads, ApplyTold};
 ghost use Rattle.mst_c_sharded.specs.ShardedStates.{IsThere};
 
 use crate::hand::{ShardedHand, give, take};
 use crate::held::Sharing;
-use mst_c::batches::fault_code;
-use mst_c::codes::{ABSENT, BUSY, CLOSED, MEMORY, NO_FREE_ROWS, VERSIONS_SPENT, WRONG_STATE};
+use mst_c::batches::{apply_fault_code, fault_code};
+use mst_c::codes::{ABSENT, CLOSED, MEMORY, WRONG_STATE};
 use mst_c::packing::Packed;
 use mst_sharded::{SharedHandle, SpreadFault};
-use mst_store::ApplyFault;
 use std::alloc::Global;
 
 /// Why not all edits were made.
@@ -68,17 +67,6 @@ pub(crate) fn apply(
     }
 }
 
-fn part_code(fault: ApplyFault) -> i32
-    ensures code { result ≡ code_of_part fault }
-{
-    match fault {
-        ApplyFault::Busy => BUSY,
-        ApplyFault::VersionsSpent => VERSIONS_SPENT,
-        ApplyFault::Memory(_) => MEMORY,
-        ApplyFault::NoRoom => NO_FREE_ROWS,
-    }
-}
-
 /// The code of a batch. The number of the shard that refused its edits is written, if one did, or
 /// that of the first, if all edits are made.
 fn tell_applied(applied: Result<(), Unspread>, shard: &mut usize) -> i32
@@ -95,7 +83,7 @@ fn tell_applied(applied: Result<(), Unspread>, shard: &mut usize) -> i32
         Err(Unspread::Spread(SpreadFault::Memory(_))) => MEMORY,
         Err(Unspread::Spread(SpreadFault::Shard(stop, fault))) => {
             *shard = stop;
-            part_code(fault)
+            apply_fault_code(fault)
         }
     }
 }

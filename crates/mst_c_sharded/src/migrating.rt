@@ -1,17 +1,14 @@
 //! Migrations of a sharded map, as C is told of them.
 ghost use Rattle.std.specs.Prelude.{◌≡◌};
-ghost use Rattle.mst_c_sharded.specs.ShardedMigrating.{fault_code as code_of_fault, moved_code, stopped_after, MovesAll, MigrateTold};
+ghost use Rattle.mst_c_sharded.specs.ShardedMigrating.{moved_code, stopped_after, MovesAll, MigrateTold};
 ghost use Rattle.mst_c_sharded.specs.ShardedStates.{IsThere};
 
 use crate::hand::{ShardedHand, give, take};
 use crate::held::Sharing;
-use mst_c::codes::{
-    BUSY, CLOSED, MEMORY, NO_FREE_ROWS, UNKNOWN_FORMAT, VERSIONS_SPENT, WRONG_STATE,
-};
-use mst_c::formats::format_named;
+use mst_c::codes::{CLOSED, MEMORY, UNKNOWN_FORMAT, WRONG_STATE};
+use mst_c::formats::{format_named, migrate_fault_code};
 use mst_key::Format;
 use mst_sharded::MoveFault;
-use mst_store::MigrateFault;
 use std::alloc::Global;
 
 /// Why not all shards were turned to a format.
@@ -42,17 +39,6 @@ pub(crate) fn migrate(
     }
 }
 
-fn fault_code(fault: MigrateFault) -> i32
-    ensures code { result ≡ code_of_fault fault }
-{
-    match fault {
-        MigrateFault::Busy => BUSY,
-        MigrateFault::VersionsSpent => VERSIONS_SPENT,
-        MigrateFault::Memory(_) => MEMORY,
-        MigrateFault::NoRoom => NO_FREE_ROWS,
-    }
-}
-
 /// The code of a migration. The place of the shard that stopped it is written then, if one did.
 fn tell_moved(moved: Result<(), Unmigrated>, place: &mut usize) -> i32
     ensures code { result ≡ moved_code moved }
@@ -64,7 +50,7 @@ fn tell_moved(moved: Result<(), Unmigrated>, place: &mut usize) -> i32
         Err(Unmigrated::Move(MoveFault::Memory(_))) => MEMORY,
         Err(Unmigrated::Move(MoveFault::Shard(stopped))) => {
             *place = stopped.shard;
-            fault_code(stopped.fault)
+            migrate_fault_code(stopped.fault)
         }
     }
 }
