@@ -36,7 +36,7 @@ static const struct path paths[] = {
 
 #define NODE 1024          /* a node more costs no more of the stack */
 #define LIMIT (128 * 1024) /* and a call over 129 nodes takes less */
-#define ABOVE (32 * 1024)  /* the most that a batch takes above a migration to format 2 */
+#define ABOVE (48 * 1024)  /* the most that a batch takes above a migration to format 2 */
 #define MOST_DEPTH 139     /* functions one below the other, with 129 nodes */
 
 static mst_pass pass = MST_PASS_CLOSED, empty = MST_PASS_CLOSED;
