@@ -6,7 +6,7 @@ use Rattle.atomic_table.specs.Table.{Me}
 use Rattle.mst_arena.specs.Content.{Content}
 use Rattle.mst_arena.specs.Lives as lives
 use Rattle.mst_words.specs.declared.view.View.{View}
-use Rattle.mst_words.specs.Layout.{first_row, row_word}
+use Rattle.mst_words.specs.Layout.{first_row, row_word, table_words}
 use Rattle.mst_words.specs.Records.{row}
 use Rattle.mst_words.specs.Stored.{rows_in, version_of}
 
@@ -15,6 +15,11 @@ pub record Seated : Type 0 where
   pub table : TableId
   pub id : ℕ
   pub me : Me (Option lives.State) View
+
+-- a seat of this table, which has the words of a store of so many rows
+pub record IsAt (board seat : TableId) (rows : ℕ) : Type 0 where
+  pub own : seat ≡ board
+  pub wide : board.words ≡ table_words rows
 
 -- what a seat is beside the words of the rows: all else that it knows and holds, the words in front
 -- of the rows, and how many words it knows

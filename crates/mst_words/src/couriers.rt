@@ -4,8 +4,8 @@ ghost use Rattle.std.specs.Prelude.{◌≡◌, [], false};
 ghost use Rattle.mst_words.specs.Access.{IsSameSeat};
 ghost use Rattle.mst_words.specs.Notes.{SeesAll, note_of, having_heard};
 
-use crate::board::{Board, Token};
 use crate::notes::Telling;
+use crate::seat::PassSeat;
 use std::alloc::Allocator;
 use std::marker::Model;
 
@@ -13,43 +13,31 @@ use std::marker::Model;
 /// is sent on as a courier.
 #[derive(Drop)]
 pub struct Note<'a, A: Allocator + Copy> {
-    pub(crate) board: &'a Board<A>,
-    pub(crate) token: Token<A>,
+    pub(crate) seat: PassSeat<'a, A>,
 }
 
 /// Contracts see its table, its place there, and what its writer had seen.
 impl<'a, A: Allocator + Copy> Model for Note<'a, A> {
-    ghost use Rattle.std.specs.Prelude.{◌≡◌};
     ghost use Rattle.mst_words.specs.Access.{Seated};
-    ghost use Rattle.mst_words.specs.Layout.{table_words};
 
     ghost Value = { Seated };
 
-    ghost view = { λ n. record { table = n.token.table_id; id = n.token.id; me = n.token.me } };
-
-    ghost invariant = { λ n. (n.token.table_id ≡ n.board.now)
-        × (n.board.now.words ≡ table_words n.token.me.0.rows) };
+    ghost view = { λ n. n.seat };
 }
 
 /// A courier: it hears what seats have seen, looks, and writes notes of what it has seen.
 #[derive(Drop)]
 pub struct Courier<'a, A: Allocator + Copy> {
-    board: &'a Board<A>,
-    token: Token<A>,
+    seat: PassSeat<'a, A>,
 }
 
 /// Contracts see its table, its place there, and what it has heard and seen.
 impl<'a, A: Allocator + Copy> Model for Courier<'a, A> {
-    ghost use Rattle.std.specs.Prelude.{◌≡◌};
     ghost use Rattle.mst_words.specs.Access.{Seated};
-    ghost use Rattle.mst_words.specs.Layout.{table_words};
 
     ghost Value = { Seated };
 
-    ghost view = { λ c. record { table = c.token.table_id; id = c.token.id; me = c.token.me } };
-
-    ghost invariant = { λ c. (c.token.table_id ≡ c.board.now)
-        × (c.board.now.words ≡ table_words c.token.me.0.rows) };
+    ghost view = { λ c. c.seat };
 }
 
 impl<'a, A: Allocator + Copy> Note<'a, A> {
@@ -57,8 +45,8 @@ impl<'a, A: Allocator + Copy> Note<'a, A> {
     pub fn into_courier(self) -> Courier<'a, A>
         ensures same { result ≡ self.entry }
     {
-        let Note { board, token } = self;
-        Courier { board, token }
+        let Note { seat } = self;
+        Courier { seat }
     }
 }
 
@@ -69,7 +57,7 @@ impl<'a, A: Allocator + Copy> Courier<'a, A> {
         ensures same { IsSameSeat self.old self.new }
         ensures seen { SeesAll self.old.me self.new.me }
     {
-        self.board.see_all(&mut self.token)
+        self.seat.see_all()
     }
 
     /// Writes a note of what the courier has seen. It costs one load.
@@ -78,11 +66,7 @@ impl<'a, A: Allocator + Copy> Courier<'a, A> {
         ensures own { result.table ≡ self.old.table }
         ensures note { result.me ≡ (note_of self.old.me.0, []) }
     {
-        let token = self.board.write_note(&mut self.token);
-        Note {
-            board: self.board,
-            token,
-        }
+        self.seat.write_note()
     }
 
     /// Hears a note: the courier is told of the history that the note's writer had seen. It costs
@@ -94,6 +78,6 @@ impl<'a, A: Allocator + Copy> Courier<'a, A> {
         ensures same { IsSameSeat self.old self.new }
         ensures told { self.new.me ≡ (having_heard self.old.me.0 note.entry.me.0, self.old.me.1) }
     {
-        self.board.hear_note::<J>(&mut self.token, note.token)
+        self.seat.hear_note::<J>(note)
     }
 }

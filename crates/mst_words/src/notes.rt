@@ -2,12 +2,13 @@
 //! to seat. Each call is one load of a word, at any time: the turn may be free or taken.
 ghost use Rattle.std.specs.Prelude.{◌≡◌, [], false};
 ghost use Rattle.mst_key.specs.History.{IsPrefix};
-ghost use Rattle.mst_words.specs.Layout.{table_words};
+ghost use Rattle.mst_words.specs.Access.{IsSameSeat};
 ghost use Rattle.mst_words.specs.Notes.{note_of, having_heard, SeesAll, SeesTold};
 
-use crate::board::{Board, Token};
+use crate::couriers::Note;
 use crate::layout::CURRENT;
 use crate::plays::HasDeed;
+use crate::seat::PassSeat;
 use crate::view::View;
 use atomic_table::{Join, Split};
 use std::alloc::Allocator;
@@ -68,52 +69,55 @@ impl<J: Telling> Join<View> for HearNote<J> {
     ghost spent = { J.note };
 }
 
-impl<A: Allocator + Copy> Board<A> {
-    /// Sees the whole history.
-    pub(crate) fn see_all(&self, seat: &mut Token<A>)
-        requires own { seat.old.table_id ≡ self.now }
-        requires wide { self.now.words ≡ table_words seat.old.me.0.rows }
-        requires off { seat.old.me.0.turn ≡ false }
-        ensures same { (seat.new.table_id ≡ seat.old.table_id) × (seat.new.id ≡ seat.old.id) }
-        ensures seen { SeesAll seat.old.me seat.new.me }
+impl<'a, A: Allocator + Copy> PassSeat<'a, A> {
+    /// Sees the whole history: one load of the word of the current record.
+    pub fn see_all(&mut self)
+        requires off { self.old.me.0.turn ≡ false }
+        ensures same { IsSameSeat self.old self.new }
+        ensures seen { SeesAll self.old.me self.new.me }
     {
-        self.load_by::<SeeAll>(seat, CURRENT);
+        self.board.load_by::<SeeAll>(&mut self.token, CURRENT);
     }
 
-    /// Sees the history that a note told of, and no more. It has to begin with what the seat has
-    /// seen.
-    pub(crate) fn see_told(&self, seat: &mut Token<A>)
-        requires own { seat.old.table_id ≡ self.now }
-        requires wide { self.now.words ≡ table_words seat.old.me.0.rows }
-        requires off { seat.old.me.0.turn ≡ false }
-        requires forward { IsPrefix seat.old.me.0.seen seat.old.me.0.told }
-        ensures same { (seat.new.table_id ≡ seat.old.table_id) × (seat.new.id ≡ seat.old.id) }
-        ensures seen { SeesTold seat.old.me seat.new.me }
+    /// Sees the history that a note told of, and no more: one load of the word of the current
+    /// record. That history has to begin with what the seat has seen.
+    pub fn see_told(&mut self)
+        requires off { self.old.me.0.turn ≡ false }
+        requires forward { IsPrefix self.old.me.0.seen self.old.me.0.told }
+        ensures same { IsSameSeat self.old self.new }
+        ensures seen { SeesTold self.old.me self.new.me }
     {
-        self.load_by::<SeeTold>(seat, CURRENT);
+        self.board.load_by::<SeeTold>(&mut self.token, CURRENT);
     }
 
-    /// Writes a note of what the seat has seen.
-    pub(crate) fn write_note(&self, seat: &mut Token<A>) -> Token<A>
-        requires own { seat.old.table_id ≡ self.now }
-        requires wide { self.now.words ≡ table_words seat.old.me.0.rows }
-        ensures same { (seat.new.table_id ≡ seat.old.table_id) × (seat.new.id ≡ seat.old.id) }
-        ensures kept { seat.new.me ≡ seat.old.me }
-        ensures own { result.table_id ≡ seat.old.table_id }
-        ensures note { result.me ≡ (note_of seat.old.me.0, []) }
+    /// Writes a note of what the seat has seen. It costs one load.
+    pub fn write_note(&mut self) -> Note<'a, A>
+        ensures kept { self.new ≡ self.old }
+        ensures own { result.table ≡ self.old.table }
+        ensures note { result.me ≡ (note_of self.old.me.0, []) }
     {
-        self.table.shared.split_seat::<WriteNote>(seat)
+        let board = self.board;
+        let token = board.table.shared.split_seat::<WriteNote>(&mut self.token);
+        Note {
+            seat: PassSeat { board, token },
+        }
     }
 
-    /// Hears a note: the seat is told of the history that the note's writer had seen.
-    pub(crate) fn hear_note<J: Telling>(&self, seat: &mut Token<A>, note: Token<A>)
-        requires own { (seat.old.table_id ≡ self.now) × (note.table_id ≡ self.now) }
-        requires wide { self.now.words ≡ table_words seat.old.me.0.rows }
+    /// Hears a note: the seat is told of the history that the note's writer had seen. It costs one
+    /// load.
+    pub fn hear_note<J: Telling>(&mut self, note: Note<'a, A>)
+        requires own { note.table ≡ self.old.table }
         requires named { J.note ≡ note.me.0 }
         requires empty { note.me.1 ≡ [] }
-        ensures same { (seat.new.table_id ≡ seat.old.table_id) × (seat.new.id ≡ seat.old.id) }
-        ensures told { seat.new.me ≡ (having_heard seat.old.me.0 note.me.0, seat.old.me.1) }
+        ensures same { IsSameSeat self.old self.new }
+        ensures told { self.new.me ≡ (having_heard self.old.me.0 note.entry.me.0, self.old.me.1) }
     {
-        self.table.shared.join_seat::<HearNote<J>>(seat, note);
+        let board = self.board;
+        let Note { seat } = note;
+        let token = seat.into_token();
+        board
+            .table
+            .shared
+            .join_seat::<HearNote<J>>(&mut self.token, token);
     }
 }

@@ -20,52 +20,63 @@ fn bit_of(number: u32) -> u64
     1 << (number - 1)
 }
 
-impl<A: Allocator + Copy> Board<A> {
+impl<'a, A: Allocator + Copy> PassSeat<'a, A> {
     /// Pins the current record: one xor of the pass's bit into the word of the current record. It
     /// returns the record.
-    pub(crate) fn pin(&self, seat: &mut Token<A>, number: u32) -> u32
-        requires own { seat.old.table_id ≡ self.now }
-        requires wide { self.now.words ≡ table_words seat.old.me.0.rows }
-        requires free { IsFree number seat.old.me }
+    pub fn pin(&mut self, number: u32) -> u32
+        requires free { IsFree number self.old.me }
         requires few { number ≤ most_passes }
-        ensures same { (seat.new.table_id ≡ seat.old.table_id) × (seat.new.id ≡ seat.old.id) }
+        ensures same { IsSameSeat self.old self.new }
         ensures pinned { (found : ℕ)
-            × (p : PinsNow (stored seat.old.me.0.format) seat.old.me found seat.new.me)
+            × (p : PinsNow (stored self.old.me.0.format) self.old.me found self.new.me)
             × (p.cur ≡ result) }
     {
-        let found = self.xor_by::<Pin>(seat, CURRENT, bit_of(number));
+        let bit = bit_of(number);
+        let found = self.board.xor_by::<Pin>(&mut self.token, CURRENT, bit);
         (found >> 32) as u32
     }
 
     /// Ends the pin: one xor of the pass's bit into the record's word DONE. The pass has then seen
     /// the history at its pin.
-    pub(crate) fn unpin(&self, seat: &mut Token<A>, number: u32, which: u32)
-        requires own { seat.old.table_id ≡ self.now }
-        requires wide { self.now.words ≡ table_words seat.old.me.0.rows }
-        requires pinned { IsPinned number which seat.old.me }
+    pub fn unpin(&mut self, number: u32, which: u32)
+        requires pinned { IsPinned number which self.old.me }
         requires some { 0 < number }
         requires few { number ≤ most_passes }
         requires there { which < most_records }
-        ensures same { (seat.new.table_id ≡ seat.old.table_id) × (seat.new.id ≡ seat.old.id) }
-        ensures free { Unpins seat.old.me seat.new.me }
+        ensures same { IsSameSeat self.old self.new }
+        ensures free { Unpins self.old.me self.new.me }
     {
-        self.xor_by::<Unpin>(seat, which as usize + FIRST_DONE, bit_of(number));
+        let done = which as usize + FIRST_DONE;
+        let bit = bit_of(number);
+        self.board.xor_by::<Unpin>(&mut self.token, done, bit);
     }
 
-    /// Ends the pin as [`Board::unpin`] does, but the pass has seen no more than before its pin.
-    pub(crate) fn forget(&self, seat: &mut Token<A>, number: u32, which: u32)
-        requires own { seat.old.table_id ≡ self.now }
-        requires wide { self.now.words ≡ table_words seat.old.me.0.rows }
-        requires pinned { IsPinned number which seat.old.me }
+    /// Ends the pin as [`PassSeat::unpin`] does, but the pass has seen no more than before its pin.
+    pub fn forget(&mut self, number: u32, which: u32)
+        requires pinned { IsPinned number which self.old.me }
         requires some { 0 < number }
         requires few { number ≤ most_passes }
         requires there { which < most_records }
-        ensures same { (seat.new.table_id ≡ seat.old.table_id) × (seat.new.id ≡ seat.old.id) }
-        ensures free { Forgets seat.old.me seat.new.me }
+        ensures same { IsSameSeat self.old self.new }
+        ensures free { Forgets self.old.me self.new.me }
     {
-        self.xor_by::<Forget>(seat, which as usize + FIRST_DONE, bit_of(number));
+        let done = which as usize + FIRST_DONE;
+        let bit = bit_of(number);
+        self.board.xor_by::<Forget>(&mut self.token, done, bit);
     }
 
+    /// Loads a word of a record or of a row: one load.
+    pub fn load(&mut self, word: usize) -> u64
+        requires there { word < table_words self.old.me.0.rows }
+        requires readable { IsReadable self.old.me.0 word }
+        ensures same { self.new ≡ self.old }
+        ensures value { result ≡ slice_index self.old.me.0.known_words word }
+    {
+        self.board.load(&mut self.token, word)
+    }
+}
+
+impl<A: Allocator + Copy> Board<A> {
     /// Loads a word of a record or of a row: one load.
     pub(crate) fn load(&self, seat: &mut Token<A>, word: usize) -> u64
         requires own { seat.old.table_id ≡ self.now }
@@ -86,20 +97,17 @@ fn low_half(word: u64) -> u32
     (word % MASKS) as u32
 }
 
-impl<A: Allocator + Copy> Board<A> {
-    /// For tests: loads a word of pins, of which nothing is said: one load.
-    pub(crate) fn glance(&self, seat: &mut Token<A>, word: usize) -> u64
-        requires own { seat.old.table_id ≡ self.now }
-        requires there { word < self.now.words }
-        requires mask { IsMaskWord word }
-        ensures same { (seat.new.table_id ≡ seat.old.table_id) × (seat.new.id ≡ seat.old.id) }
-        ensures counted { Glances seat.old.me seat.new.me }
-    {
-        self.load_by::<Glance>(seat, word)
-    }
-}
-
 impl<'a, A: Allocator + Copy> PassSeat<'a, A> {
+    // For tests: loads a word of pins, of which nothing is said: one load.
+    fn glance(&mut self, word: usize) -> u64
+        requires there { word < table_words self.old.me.0.rows }
+        requires mask { IsMaskWord word }
+        ensures same { IsSameSeat self.old self.new }
+        ensures counted { Glances self.old.me self.new.me }
+    {
+        self.board.load_by::<Glance>(&mut self.token, word)
+    }
+
     /// For tests: the passes that pin a record, by what the words say; pass p has bit p - 1.
     /// Nothing is proved of its result.
     ///
@@ -112,11 +120,8 @@ impl<'a, A: Allocator + Copy> PassSeat<'a, A> {
         ensures counted { self.new.me
             ≡ (record self.old.me.0 { asked = self.old.me.0.asked + 1 + 1 }, self.old.me.1) }
     {
-        let current = self.board.glance(&mut self.token, CURRENT);
-        let done = low_half(
-            self.board
-                .glance(&mut self.token, which as usize + FIRST_DONE),
-        );
+        let current = self.glance(CURRENT);
+        let done = low_half(self.glance(which as usize + FIRST_DONE));
         if current >> 32 == u64::from(which) {
             low_half(current) ^ done
         } else {

@@ -5,9 +5,9 @@
 ghost use Rattle.std.specs.Prelude.{◌≡◌, ◌+◌, ◌-◌, ◌^◌, ◌<◌, ◌≤◌, ◌++◌, ◌∷◌, [], ℕ, length, map, slice_set, true, IsTrue, IsSome, Some, vec_capacity};
 ghost use Rattle.mst_key.specs.Map.{Pair};
 ghost use Rattle.std.specs.List.{range_with_len};
-ghost use Rattle.mst_words.specs.Layout.{row_words, row_word, table_words};
+ghost use Rattle.mst_words.specs.Layout.{row_words, row_word};
 ghost use Rattle.mst_words.specs.Records as records;
-ghost use Rattle.mst_words.specs.Access.{may_read, content_of, is_blank, RowStored, PartStored, HasEnds, relinked_list};
+ghost use Rattle.mst_words.specs.Access.{IsAt, may_read, content_of, is_blank, RowStored, PartStored, HasEnds, relinked_list};
 ghost use Rattle.mst_arena.specs.Content.{part_at};
 ghost use Rattle.mst_arena.specs.Row.{entry_links, entry_ends, entry_pair, entry_value};
 ghost use Rattle.mst_arena.specs.Words.{lengths_word, first_key_word, first_value_word};
@@ -24,8 +24,7 @@ pub(crate) const COMMON_LENGTHS: u64 = 16 + 256 * 32;
 impl<A: Allocator + Copy> Board<A> {
     /// Word k of a row: one load.
     pub(crate) fn word(&self, seat: &mut Token<A>, row: u32, k: usize) -> u64
-        requires own { seat.old.table_id ≡ self.now }
-        requires wide { self.now.words ≡ table_words seat.old.me.0.rows }
+        requires own { IsAt self.now seat.old.table_id seat.old.me.0.rows }
         requires readable { may_read seat.old.me.0 row ≡ true }
         requires there { k < row_words }
         ensures word { result ≡ records.row seat.old.me.0.known_words row k }
@@ -39,8 +38,7 @@ impl<A: Allocator + Copy> Board<A> {
     /// constant, so that a search which goes from link to link does not reckon the number of each
     /// row.
     pub(crate) fn linked_word(&self, seat: &mut Token<A>, link: usize, k: usize) -> u64
-        requires own { seat.old.table_id ≡ self.now }
-        requires wide { self.now.words ≡ table_words seat.old.me.0.rows }
+        requires own { IsAt self.now seat.old.table_id seat.old.me.0.rows }
         requires some { 0 < link }
         requires narrow { link ≤ 2 ^ 32 }
         requires readable { may_read seat.old.me.0 (link - 1) ≡ true }
@@ -59,8 +57,7 @@ impl<A: Allocator + Copy> Board<A> {
         row: u32,
         from: usize,
     ) -> [u64; N]
-        requires own { seat.old.table_id ≡ self.now }
-        requires wide { self.now.words ≡ table_words seat.old.me.0.rows }
+        requires own { IsAt self.now seat.old.table_id seat.old.me.0.rows }
         requires readable { may_read seat.old.me.0 row ≡ true }
         requires there { from + N ≤ row_words }
         ensures words { result
@@ -78,8 +75,7 @@ impl<A: Allocator + Copy> Board<A> {
     /// The links of an entry: two loads.
     #[inline(always)]
     pub(crate) fn links(&self, seat: &mut Token<A>, row: u32) -> Links
-        requires own { seat.old.table_id ≡ self.now }
-        requires wide { self.now.words ≡ table_words seat.old.me.0.rows }
+        requires own { IsAt self.now seat.old.table_id seat.old.me.0.rows }
         requires there { IsSome (part_at entry_links (content_of seat.old.me.0) row) }
         ensures value { part_at entry_ends (content_of seat.old.me.0) row ≡ Some result }
         ensures same { (seat.new.table_id ≡ seat.old.table_id) × (seat.new.id ≡ seat.old.id)
@@ -96,8 +92,7 @@ impl<A: Allocator + Copy> Board<A> {
     // The words of an entry's key. Behind a key of 16 bytes they are 0, and not loaded.
     #[inline(always)]
     fn key_words(&self, seat: &mut Token<A>, row: u32, lengths: u64) -> [u64; 4]
-        requires own { seat.old.table_id ≡ self.now }
-        requires wide { self.now.words ≡ table_words seat.old.me.0.rows }
+        requires own { IsAt self.now seat.old.table_id seat.old.me.0.rows }
         requires there { IsSome (part_at entry_links (content_of seat.old.me.0) row) }
         requires lengths { lengths ≡ records.row seat.old.me.0.known_words row lengths_word }
         ensures words { result
@@ -116,8 +111,7 @@ impl<A: Allocator + Copy> Board<A> {
     /// The words of an entry's value. Behind a value of 32 bytes they are 0, and not loaded.
     #[inline(always)]
     pub(crate) fn value_words(&self, seat: &mut Token<A>, row: u32, lengths: u64) -> [u64; 8]
-        requires own { seat.old.table_id ≡ self.now }
-        requires wide { self.now.words ≡ table_words seat.old.me.0.rows }
+        requires own { IsAt self.now seat.old.table_id seat.old.me.0.rows }
         requires there { IsSome (part_at entry_value (content_of seat.old.me.0) row) }
         requires lengths { lengths ≡ records.row seat.old.me.0.known_words row lengths_word }
         ensures words { result
@@ -136,8 +130,7 @@ impl<A: Allocator + Copy> Board<A> {
     /// The pair of an entry of these lengths.
     #[inline(always)]
     pub(crate) fn pair_by(&self, seat: &mut Token<A>, row: u32, lengths: u64) -> (Key, Value)
-        requires own { seat.old.table_id ≡ self.now }
-        requires wide { self.now.words ≡ table_words seat.old.me.0.rows }
+        requires own { IsAt self.now seat.old.table_id seat.old.me.0.rows }
         requires there { IsSome (part_at entry_links (content_of seat.old.me.0) row) }
         requires lengths { lengths ≡ records.row seat.old.me.0.known_words row lengths_word }
         ensures pair { part_at entry_pair (content_of seat.old.me.0) row ≡ Some result }
@@ -156,8 +149,7 @@ impl<A: Allocator + Copy> Board<A> {
     /// its own: there the compiled code knows the lengths, and makes both with no further test.
     #[inline(always)]
     pub(crate) fn pair(&self, seat: &mut Token<A>, row: u32) -> (Key, Value)
-        requires own { seat.old.table_id ≡ self.now }
-        requires wide { self.now.words ≡ table_words seat.old.me.0.rows }
+        requires own { IsAt self.now seat.old.table_id seat.old.me.0.rows }
         requires there { IsSome (part_at entry_links (content_of seat.old.me.0) row) }
         ensures pair { part_at entry_pair (content_of seat.old.me.0) row ≡ Some result }
         ensures same { (seat.new.table_id ≡ seat.old.table_id) × (seat.new.id ≡ seat.old.id)
@@ -180,8 +172,7 @@ impl<A: Allocator + Copy> Board<A> {
         row: u32,
         list: &mut Vec<(Key, Value), B>,
     )
-        requires own { seat.old.table_id ≡ self.now }
-        requires wide { self.now.words ≡ table_words seat.old.me.0.rows }
+        requires own { IsAt self.now seat.old.table_id seat.old.me.0.rows }
         requires there { IsSome (part_at entry_links (content_of seat.old.me.0) row) }
         requires room { length list.old.items < vec_capacity list.old }
         ensures pushed { (pair : Pair)
@@ -203,8 +194,7 @@ impl<A: Allocator + Copy> Board<A> {
     /// almost always another word stands, it need not look.
     #[inline(always)]
     fn store_word(&self, seat: &mut Token<A>, row: u32, k: usize, value: u64, looks: bool)
-        requires own { seat.old.table_id ≡ self.now }
-        requires wide { self.now.words ≡ table_words seat.old.me.0.rows }
+        requires own { IsAt self.now seat.old.table_id seat.old.me.0.rows }
         requires blank { IsTrue (is_blank seat.old.me.0 row) }
         requires there { k < row_words }
         ensures same { (seat.new.table_id ≡ seat.old.table_id) × (seat.new.id ≡ seat.old.id) }
@@ -230,8 +220,7 @@ impl<A: Allocator + Copy> Board<A> {
         row: u32,
         words: &[u64; N],
     )
-        requires own { seat.old.table_id ≡ self.now }
-        requires wide { self.now.words ≡ table_words seat.old.me.0.rows }
+        requires own { IsAt self.now seat.old.table_id seat.old.me.0.rows }
         requires blank { IsTrue (is_blank seat.old.me.0 row) }
         requires there { N ≤ row_words }
         ensures same { (seat.new.table_id ≡ seat.old.table_id) × (seat.new.id ≡ seat.old.id)
@@ -261,8 +250,7 @@ impl<A: Allocator + Copy> Board<A> {
         at: usize,
         looks: bool,
     ) -> [u64; N]
-        requires own { seat.old.table_id ≡ self.now }
-        requires wide { self.now.words ≡ table_words seat.old.me.0.rows }
+        requires own { IsAt self.now seat.old.table_id seat.old.me.0.rows }
         requires readable { may_read seat.old.me.0 from ≡ true }
         requires blank { IsTrue (is_blank seat.old.me.0 to) }
         requires there { at + (N + M) ≤ row_words }
@@ -294,8 +282,7 @@ impl<A: Allocator + Copy> Board<A> {
     /// value. In an entry with a key of 16 bytes and a value of 32, six of them are 0, and not
     /// loaded, and the others are almost always other words than those of the blank row.
     fn copy_bytes(&self, seat: &mut Token<A>, from: u32, to: u32, lengths: u64) -> [u64; 8]
-        requires own { seat.old.table_id ≡ self.now }
-        requires wide { self.now.words ≡ table_words seat.old.me.0.rows }
+        requires own { IsAt self.now seat.old.table_id seat.old.me.0.rows }
         requires readable { may_read seat.old.me.0 from ≡ true }
         requires blank { IsTrue (is_blank seat.old.me.0 to) }
         requires ends { HasEnds lengths (records.row seat.old.me.0.known_words from) }
@@ -332,8 +319,7 @@ impl<A: Allocator + Copy> Board<A> {
         child: u32,
         next: u32,
     ) -> (u64, [u64; 8])
-        requires own { seat.old.table_id ≡ self.now }
-        requires wide { self.now.words ≡ table_words seat.old.me.0.rows }
+        requires own { IsAt self.now seat.old.table_id seat.old.me.0.rows }
         requires readable { may_read seat.old.me.0 from ≡ true }
         requires blank { IsTrue (is_blank seat.old.me.0 to) }
         requires kind { records.row seat.old.me.0.known_words from 0 ≡ 1 }

@@ -11,9 +11,9 @@ ghost use Rattle.mst_arena.specs.Content.{part_at};
 ghost use Rattle.mst_arena.specs.Row.{entry_links};
 ghost use Rattle.mst_arena.specs.Ways.{entry_way, stop_from, words_order};
 ghost use Rattle.mst_arena.specs.Words.{word_from};
-ghost use Rattle.mst_words.specs.Layout.{row_words, table_words};
+ghost use Rattle.mst_words.specs.Layout.{row_words};
 ghost use Rattle.mst_words.specs.Records as records;
-ghost use Rattle.mst_words.specs.Access.{may_read, content_of};
+ghost use Rattle.mst_words.specs.Access.{IsAt, may_read, content_of};
 
 use crate::board::{Board, Token};
 use mst_arena::{Sought, Stop, Way};
@@ -31,8 +31,7 @@ impl<A: Allocator + Copy> Board<A> {
         link: usize,
         k: usize,
     ) -> Ordering
-        requires own { seat.old.table_id ≡ self.now }
-        requires wide { self.now.words ≡ table_words seat.old.me.0.rows }
+        requires own { IsAt self.now seat.old.table_id seat.old.me.0.rows }
         requires some { 0 < link }
         requires narrow { link ≤ 2 ^ 32 }
         requires readable { may_read seat.old.me.0 (link - 1) ≡ true }
@@ -52,8 +51,7 @@ impl<A: Allocator + Copy> Board<A> {
     // The order of what was compared before, and if that is equal, the order of a length and that
     // of the key of a row.
     fn length_order(&self, seat: &mut Token<A>, before: Ordering, len: u64, link: usize) -> Ordering
-        requires own { seat.old.table_id ≡ self.now }
-        requires wide { self.now.words ≡ table_words seat.old.me.0.rows }
+        requires own { IsAt self.now seat.old.table_id seat.old.me.0.rows }
         requires some { 0 < link }
         requires narrow { link ≤ 2 ^ 32 }
         requires readable { may_read seat.old.me.0 (link - 1) ≡ true }
@@ -72,8 +70,7 @@ impl<A: Allocator + Copy> Board<A> {
     // The order of a key and that of an entry whose first words are the same: words are loaded
     // until two differ.
     fn order_behind(&self, seat: &mut Token<A>, link: usize, key: &Sought) -> Ordering
-        requires own { seat.old.table_id ≡ self.now }
-        requires wide { self.now.words ≡ table_words seat.old.me.0.rows }
+        requires own { IsAt self.now seat.old.table_id seat.old.me.0.rows }
         requires some { 0 < link }
         requires narrow { link ≤ 2 ^ 32 }
         requires readable { may_read seat.old.me.0 (link - 1) ≡ true }
@@ -93,8 +90,7 @@ impl<A: Allocator + Copy> Board<A> {
     // The order of a key and that of an entry: mostly the first word decides, by one load.
     #[inline(always)]
     fn order(&self, seat: &mut Token<A>, link: usize, key: &Sought) -> Ordering
-        requires own { seat.old.table_id ≡ self.now }
-        requires wide { self.now.words ≡ table_words seat.old.me.0.rows }
+        requires own { IsAt self.now seat.old.table_id seat.old.me.0.rows }
         requires some { 0 < link }
         requires narrow { link ≤ 2 ^ 32 }
         requires readable { may_read seat.old.me.0 (link - 1) ≡ true }
@@ -118,8 +114,7 @@ impl<A: Allocator + Copy> Board<A> {
 
     /// Where a search for the key goes on from the entry at this number.
     pub(crate) fn way(&self, seat: &mut Token<A>, row: u32, key: &Sought) -> Way
-        requires own { seat.old.table_id ≡ self.now }
-        requires wide { self.now.words ≡ table_words seat.old.me.0.rows }
+        requires own { IsAt self.now seat.old.table_id seat.old.me.0.rows }
         requires there { IsSome (part_at entry_links (content_of seat.old.me.0) row) }
         ensures way { part_at (entry_way key.now) (content_of seat.old.me.0) row ≡ Some result }
         ensures same { (seat.new.table_id ≡ seat.old.table_id) × (seat.new.id ≡ seat.old.id)
@@ -136,8 +131,7 @@ impl<A: Allocator + Copy> Board<A> {
     /// board's place stays in a register from entry to entry.
     #[inline(always)]
     pub(crate) fn search(&self, seat: &mut Token<A>, first: u32, count: u32, key: &Sought) -> Stop
-        requires own { seat.old.table_id ≡ self.now }
-        requires wide { self.now.words ≡ table_words seat.old.me.0.rows }
+        requires own { IsAt self.now seat.old.table_id seat.old.me.0.rows }
         requires there { IsSome (stop_from key.now (content_of seat.old.me.0) count first) }
         ensures stop { stop_from key.now (content_of seat.old.me.0) count first ≡ Some result }
         ensures same { (seat.new.table_id ≡ seat.old.table_id) × (seat.new.id ≡ seat.old.id)

@@ -5,8 +5,7 @@ ghost use Rattle.mst_key.specs.Map.{Pair};
 ghost use Rattle.mst_node.specs.Text.{child_text, counted, held_of, held_text};
 ghost use Rattle.mst_arena.specs.Content.{part_at};
 ghost use Rattle.mst_arena.specs.Row.{entry_links, entry_pair};
-ghost use Rattle.mst_words.specs.Access.{content_of};
-ghost use Rattle.mst_words.specs.Layout.{table_words};
+ghost use Rattle.mst_words.specs.Access.{IsAt, content_of};
 
 use crate::board::{Board, Token};
 use crate::row_words::COMMON_LENGTHS;
@@ -26,8 +25,7 @@ impl<A: Allocator + Copy> Board<A> {
         child: Option<[u8; 32]>,
         sink: &mut S,
     )
-        requires own { seat.old.table_id ≡ self.now }
-        requires wide { self.now.words ≡ table_words seat.old.me.0.rows }
+        requires own { IsAt self.now seat.old.table_id seat.old.me.0.rows }
         requires there { IsSome (part_at entry_links (content_of seat.old.me.0) row) }
         ensures entry { (pair : Pair)
             → part_at entry_pair (content_of seat.old.me.0) row ≡ Some pair
@@ -56,8 +54,7 @@ impl<A: Allocator + Copy> Board<A> {
         child: Option<[u8; 32]>,
         sink: &mut S,
     )
-        requires own { seat.old.table_id ≡ self.now }
-        requires wide { self.now.words ≡ table_words seat.old.me.0.rows }
+        requires own { IsAt self.now seat.old.table_id seat.old.me.0.rows }
         requires there { IsSome (part_at entry_links (content_of seat.old.me.0) row) }
         ensures entry { (pair : Pair)
             → part_at entry_pair (content_of seat.old.me.0) row ≡ Some pair

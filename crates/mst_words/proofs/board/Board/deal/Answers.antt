@@ -1,14 +1,16 @@
-use Rattle.std.proofs.Common.{rules}
+use Rattle.std.proofs.Common.{rules, arith, ap}
+use Rattle.atomic_table.specs.Seated.{TableId}
+use Rattle.mst_words.specs.Stored.{stored}
+use Rattle.mst_words.proofs.Framed.{stored_framed}
+use Rattle.mst_words.proofs.Opens.{deal_splits}
 use Rattle.mst_words.proofs.board.Board.deal.Goals as goal
 
-pub deal_token-token-requires-clause-own : goal.deal_token-token-requires-clause-own
-deal_token-token-requires-clause-own g c = search rules
-
-pub deal_token-token-requires-clause-wide : goal.deal_token-token-requires-clause-wide
-deal_token-token-requires-clause-wide g c = search rules
-
-pub deal_token-token-requires-clause-dealer : goal.deal_token-token-requires-clause-dealer
-deal_token-token-requires-clause-dealer g c = search rules
+pub split_seat-token-requires : goal.split_seat-token-requires
+split_seat-token-requires g c = let h = c.requires.dealer in (
+  search rules,
+  (let v = ap (λ (z : TableId). z.words) c.self.view_is in let e = c.requires.wide in omega arith),
+  deal_splits (stored _) (stored_framed _) _ _ _ c.args.dealer.now.me.0 h.1 h.2 h.3 h.4,
+)
 
 pub returns-clause-same : goal.returns-clause-same
 returns-clause-same g c = search rules

@@ -13,9 +13,6 @@ linked_word-stored-requires-clause-there g c = search rules
 pub order_behind-requires-clause-own : goal.order_behind-requires-clause-own
 order_behind-requires-clause-own g c = search rules
 
-pub order_behind-requires-clause-wide : goal.order_behind-requires-clause-wide
-order_behind-requires-clause-wide g c = search rules
-
 pub order_behind-requires-clause-readable : goal.order_behind-requires-clause-readable
 order_behind-requires-clause-readable g c = search rules
 
@@ -57,6 +54,3 @@ returns-else-first-stored-clause-same g c = search rules
 
 pub linked_word-stored-requires-clause-own : goal.linked_word-stored-requires-clause-own
 linked_word-stored-requires-clause-own g c = search rules
-
-pub linked_word-stored-requires-clause-wide : goal.linked_word-stored-requires-clause-wide
-linked_word-stored-requires-clause-wide g c = search rules

@@ -31,9 +31,6 @@ next_order-order-requires-2-clause-there g c = search rules
 pub length_order-requires-clause-own : goal.length_order-requires-clause-own
 length_order-requires-clause-own g c = search rules
 
-pub length_order-requires-clause-wide : goal.length_order-requires-clause-wide
-length_order-requires-clause-wide g c = search rules
-
 pub length_order-requires-clause-readable : goal.length_order-requires-clause-readable
 length_order-requires-clause-readable g c = search rules
 
@@ -46,17 +43,8 @@ returns-clause-same g c = search rules
 pub linked_word-requires-clause-own : goal.linked_word-requires-clause-own
 linked_word-requires-clause-own g c = search rules
 
-pub linked_word-requires-clause-wide : goal.linked_word-requires-clause-wide
-linked_word-requires-clause-wide g c = search rules
-
 pub next_order-order-requires-clause-own : goal.next_order-order-requires-clause-own
 next_order-order-requires-clause-own g c = search rules
 
-pub next_order-order-requires-clause-wide : goal.next_order-order-requires-clause-wide
-next_order-order-requires-clause-wide g c = search rules
-
 pub next_order-order-requires-2-clause-own : goal.next_order-order-requires-2-clause-own
 next_order-order-requires-2-clause-own g c = search rules
-
-pub next_order-order-requires-2-clause-wide : goal.next_order-order-requires-2-clause-wide
-next_order-order-requires-2-clause-wide g c = search rules

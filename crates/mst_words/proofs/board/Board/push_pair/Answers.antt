@@ -1,4 +1,4 @@
-use Rattle.std.proofs.Common.{◌≡◌, ◌∙◌, ◌++◌, ◌∷◌, [], ap, sym}
+use Rattle.std.proofs.Common.{◌∙◌, ◌++◌, ◌∷◌, [], ap, sym}
 use Rattle.std.proofs.lemmas.Option.{same_Some}
 use Rattle.mst_key.specs.Map.{Pair}
 use Rattle.mst_arena.specs.Content.{part_at}

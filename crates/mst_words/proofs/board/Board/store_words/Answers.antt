@@ -32,9 +32,6 @@ bounds-words-k g c = search rules
 pub store_word-requires-clause-own : goal.store_word-requires-clause-own
 store_word-requires-clause-own g c = search rules
 
-pub store_word-requires-clause-wide : goal.store_word-requires-clause-wide
-store_word-requires-clause-wide g c = search rules
-
 pub store_word-requires-clause-blank : goal.store_word-requires-clause-blank
 store_word-requires-clause-blank g c = search rules
 

@@ -1,4 +1,4 @@
-use Rattle.std.proofs.Common.{◌≡◌, ℕ, ◌∷◌, [], List, arith}
+use Rattle.std.proofs.Common.{◌≡◌, ℕ, ◌∷◌, [], arith}
 use Rattle.mst_words.specs.declared.view.View.{View}
 use Rattle.mst_words.specs.Records as records
 use Rattle.mst_words.proofs.ShortRows.{value_of, value_words}

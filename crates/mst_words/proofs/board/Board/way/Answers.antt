@@ -1,4 +1,4 @@
-use Rattle.std.proofs.Common.{◌≡◌, ◌+◌, ◌-◌, ◌∙◌, ℕ, List, Option, sym, ap, subst, arith}
+use Rattle.std.proofs.Common.{◌≡◌, ◌+◌, ◌-◌, ◌∙◌, ℕ, List, Option, ap, subst, arith}
 use Rattle.atomic_table.specs.Table.{Me}
 use Rattle.mst_arena.specs.Lives as lives
 use Rattle.mst_words.specs.declared.view.View.{View}

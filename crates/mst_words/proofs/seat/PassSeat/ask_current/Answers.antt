@@ -1,26 +1,29 @@
-use Rattle.std.proofs.Common.{rules}
+use Rattle.std.proofs.Common.{◌≡◌, ℕ, ◌+◌, ap, arith, refl, rules}
 use Rattle.mst_words.proofs.seat.PassSeat.ask_current.Goals as goal
 
-pub ask_current-requires-clause-own : goal.ask_current-requires-clause-own
-ask_current-requires-clause-own g c = search rules
+pub load_by-requires-clause-own : goal.load_by-requires-clause-own
+load_by-requires-clause-own g c = search rules
 
-pub ask_current-requires-clause-wide : goal.ask_current-requires-clause-wide
-ask_current-requires-clause-wide g c = search rules
+pub load_by-requires-clause-there : goal.load_by-requires-clause-there
+load_by-requires-clause-there g c =
+    let e = c.self.invariant.wide in let l = c.requires.there in omega arith
 
-pub ask_current-requires-clause-holder : goal.ask_current-requires-clause-holder
-ask_current-requires-clause-holder g c = search rules
+pub load_by-requires-clause-may : goal.load_by-requires-clause-may
+load_by-requires-clause-may g c =
+    let current : c.args.current ≡ c.self.inside.token.me.0.desk.current = search rules in
+    (ap (λ (r : ℕ). r + 2) current, search rules)
 
-pub ask_current-requires-clause-there : goal.ask_current-requires-clause-there
-ask_current-requires-clause-there g c = search rules
-
-pub ask_current-requires-clause-current : goal.ask_current-requires-clause-current
-ask_current-requires-clause-current g c = search rules
+pub load_by-requires-clause-leaves : goal.load_by-requires-clause-leaves
+load_by-requires-clause-leaves g c = λ n. refl
 
 pub returns-clause-same : goal.returns-clause-same
 returns-clause-same g c = search rules
 
 pub returns-clause-asked : goal.returns-clause-asked
 returns-clause-asked g c = search rules
+
+pub overflow_add-done : goal.overflow_add-done
+overflow_add-done g c = search rules
 
 pub invariant_of-self : goal.invariant_of-self
 invariant_of-self g c = search rules

@@ -57,9 +57,6 @@ returns-clause-kept g c =
 pub copy_words-requires-clause-own : goal.copy_words-requires-clause-own
 copy_words-requires-clause-own g c = search rules
 
-pub copy_words-requires-clause-wide : goal.copy_words-requires-clause-wide
-copy_words-requires-clause-wide g c = search rules
-
 pub copy_words-requires-clause-readable : goal.copy_words-requires-clause-readable
 copy_words-requires-clause-readable g c =
     subst (λ (m : Me (Option lives.State) View). may_read m.0 c.args.from ≡ true)

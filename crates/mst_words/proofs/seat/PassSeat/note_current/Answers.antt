@@ -1,14 +1,17 @@
-use Rattle.std.proofs.Common.{rules}
+use Rattle.std.proofs.Common.{arith, refl, rules}
 use Rattle.mst_words.proofs.seat.PassSeat.note_current.Goals as goal
 
-pub note_current-requires-clause-own : goal.note_current-requires-clause-own
-note_current-requires-clause-own g c = search rules
+pub load_by-requires-clause-own : goal.load_by-requires-clause-own
+load_by-requires-clause-own g c = search rules
 
-pub note_current-requires-clause-wide : goal.note_current-requires-clause-wide
-note_current-requires-clause-wide g c = search rules
+pub load_by-requires-clause-there : goal.load_by-requires-clause-there
+load_by-requires-clause-there g c = let e = c.self.invariant.wide in omega arith
 
-pub note_current-requires-clause-holder : goal.note_current-requires-clause-holder
-note_current-requires-clause-holder g c = search rules
+pub load_by-requires-clause-may : goal.load_by-requires-clause-may
+load_by-requires-clause-may g c = (refl, search rules)
+
+pub load_by-requires-clause-leaves : goal.load_by-requires-clause-leaves
+load_by-requires-clause-leaves g c = λ n. refl
 
 pub returns-clause-same : goal.returns-clause-same
 returns-clause-same g c = search rules

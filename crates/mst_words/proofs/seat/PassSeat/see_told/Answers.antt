@@ -1,23 +1,23 @@
-use Rattle.std.proofs.Common.{rules}
+use Rattle.std.proofs.Common.{arith, refl, rules}
 use Rattle.mst_words.proofs.seat.PassSeat.see_told.Goals as goal
+
+pub load_by-requires-clause-own : goal.load_by-requires-clause-own
+load_by-requires-clause-own g c = search rules
+
+pub load_by-requires-clause-there : goal.load_by-requires-clause-there
+load_by-requires-clause-there g c = let e = c.self.invariant.wide in omega arith
+
+pub load_by-requires-clause-may : goal.load_by-requires-clause-may
+load_by-requires-clause-may g c = (refl, search rules, search rules)
+
+pub load_by-requires-clause-leaves : goal.load_by-requires-clause-leaves
+load_by-requires-clause-leaves g c = λ n. refl
 
 pub returns-clause-same : goal.returns-clause-same
 returns-clause-same g c = search rules
 
 pub returns-clause-seen : goal.returns-clause-seen
 returns-clause-seen g c = search rules
-
-pub see_told-requires-clause-own : goal.see_told-requires-clause-own
-see_told-requires-clause-own g c = search rules
-
-pub see_told-requires-clause-wide : goal.see_told-requires-clause-wide
-see_told-requires-clause-wide g c = search rules
-
-pub see_told-requires-clause-off : goal.see_told-requires-clause-off
-see_told-requires-clause-off g c = search rules
-
-pub see_told-requires-clause-forward : goal.see_told-requires-clause-forward
-see_told-requires-clause-forward g c = search rules
 
 pub invariant_of-self : goal.invariant_of-self
 invariant_of-self g c = search rules

@@ -1,14 +1,24 @@
-use Rattle.std.proofs.Common.{rules}
+use Rattle.std.proofs.Common.{ℕ, eqb, cond, sym, ◌∙◌, ap, arith, refl, rules}
+use Rattle.mst_words.specs.Steps.{IsFree}
+use Rattle.mst_words.proofs.ByDeed.{own_free}
 use Rattle.mst_words.proofs.seat.PassSeat.take_turn.Goals as goal
 
-pub take_turn-requires-clause-own : goal.take_turn-requires-clause-own
-take_turn-requires-clause-own g c = search rules
+pub claim_by-requires-clause-own : goal.claim_by-requires-clause-own
+claim_by-requires-clause-own g c = search rules
 
-pub take_turn-requires-clause-wide : goal.take_turn-requires-clause-wide
-take_turn-requires-clause-wide g c = search rules
+pub claim_by-requires-clause-there : goal.claim_by-requires-clause-there
+claim_by-requires-clause-there g c = let e = c.self.invariant.wide in omega arith
 
-pub take_turn-requires-clause-free : goal.take_turn-requires-clause-free
-take_turn-requires-clause-free g c = search rules
+pub claim_by-requires-clause-may : goal.claim_by-requires-clause-may
+claim_by-requires-clause-may g c = (
+  refl,
+  own_free c.args.number c.self.inside.token.me (search rules),
+)
+
+pub claim_by-requires-clause-claims : goal.claim_by-requires-clause-claims
+claim_by-requires-clause-claims g c =
+    let free : IsFree c.args.number c.self.inside.token.me = search rules in
+    λ n. ap (λ (p : ℕ). cond (eqb n 0) p n) (free.3 ∙ sym c.from.ensures)
 
 pub returns-clause-same : goal.returns-clause-same
 returns-clause-same g c = search rules
