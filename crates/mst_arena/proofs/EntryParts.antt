@@ -1,7 +1,6 @@
 -- The links of an entry without its key, and its key with its value.
-use Rattle.std.proofs.Common.{◌≡◌, ◌≤◌, ℕ, List, Option, Some, None, IsSome, refl, sym, ◌∙◌, ap, arith}
+use Rattle.std.proofs.Common.{◌≡◌, ◌≤◌, ℕ, List, Option, Some, None, IsSome, refl, ◌∙◌, ap, arith}
 use Rattle.std.specs.Prelude.{option_and_then, slice_index}
-use Rattle.mst_key.specs.Map.{Pair}
 use Rattle.mst_arena.specs.declared.row.Row.{Row}
 use Rattle.mst_arena.specs.declared.row.Row.TheVariants.{Entry, Head}
 use Rattle.mst_arena.specs.declared.row.EntryLinks.{EntryLinks}

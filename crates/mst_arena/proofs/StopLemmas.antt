@@ -6,7 +6,7 @@ use Rattle.mst_arena.specs.declared.row.Row.TheVariants.{Entry, Head}
 use Rattle.mst_arena.specs.declared.sought.Way.{Way}
 use Rattle.mst_arena.specs.declared.sought.Way.TheVariants.{Child, Here, Next}
 use Rattle.mst_arena.specs.declared.sought.Stop.{Stop}
-use Rattle.mst_arena.specs.declared.sought.Stop.TheVariants.{Gap, Held, End}
+use Rattle.mst_arena.specs.declared.sought.Stop.TheVariants.{Gap, Found, End}
 use Rattle.mst_arena.specs.Content.{Content, part_at}
 use Rattle.mst_arena.specs.Row.{entry_links}
 use Rattle.mst_arena.specs.Ways.{entry_way, by_way, stop_from}
@@ -72,7 +72,7 @@ module _ {k : List ℕ} {content : Content} {count first passed link : ℕ}
         (Gap link child (count - passed))
     in_gap is = sym (rw is at from_entry)
 
-    pub at_key : w ≡ Here → stop_from k content count first ≡ Some (Held link (count - passed))
+    pub at_key : w ≡ Here → stop_from k content count first ≡ Some (Found link (count - passed))
     at_key is = sym (rw is at from_entry)
 
     pub past_entry : {next : ℕ} → w ≡ Next next → stop_from k content (count - (passed + 1)) next

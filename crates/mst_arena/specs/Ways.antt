@@ -11,7 +11,7 @@ use Rattle.mst_arena.specs.declared.row.Row.TheVariants.{Entry, Head}
 use Rattle.mst_arena.specs.declared.sought.Way.{Way}
 use Rattle.mst_arena.specs.declared.sought.Way.TheVariants.{Child, Here, Next}
 use Rattle.mst_arena.specs.declared.sought.Stop.{Stop}
-use Rattle.mst_arena.specs.declared.sought.Stop.TheVariants.{Gap, Held, End}
+use Rattle.mst_arena.specs.declared.sought.Stop.TheVariants.{Gap, Found, End}
 
 -- the way to a key from an entry that has these links and this key
 abbrev pub way_at : List ℕ → ℕ → ℕ → List ℕ → Way
@@ -26,7 +26,7 @@ entry_way k (Head layer count first tail digest) = None
 -- ends there, or goes on at the next link
 abbrev pub by_way : ℕ → ℕ → (ℕ → Option Stop) → Way → Option Stop
 by_way link left onward (Child child) = Some (Gap link child left)
-by_way link left onward Here = Some (Held link left)
+by_way link left onward Here = Some (Found link left)
 by_way link left onward (Next next) = onward next
 
 -- where a search for a key ends among so many entries of which the first has this link

@@ -212,7 +212,7 @@ pub trait Rows {
             let left = count - passed;
             match self.way(link - 1, key) {
                 Way::Child(child) => return Stop::Gap { link, child, left },
-                Way::Here => return Stop::Held { link, left },
+                Way::Here => return Stop::Found { link, left },
                 Way::Next(next) => link = next,
             }
         }

@@ -54,7 +54,7 @@ pub enum Stop {
         left: u32,
     },
     /// At the entry at this link, which has the key.
-    Held {
+    Found {
         link: u32,
         /// How many entries are left.
         left: u32,

@@ -24,7 +24,7 @@ use Rattle.mst_change.specs.Batch.{rows_beside}
 use Rattle.mst_arena.specs.Ages.{placed_nodes, chain_nodes}
 use Rattle.mst_path.specs.Moves.{IsOld}
 use Rattle.mst_path.specs.Runs.{OldPiece}
-use Rattle.mst_path.proofs.lemmas.rows.Copies.{at_self}
+use Rattle.mst_path.proofs.lemmas.rows.CopyRows.{at_self}
 use Rattle.mst_arena.proofs.ListLemmas.{in_either}
 use Rattle.mst_batch.specs.Beside.{link_among, node_among, node_at, plan_beside, entries_beside, links_kept, entries_links, AreMarks}
 use Rattle.mst_batch.specs.Kept.{is_marked}

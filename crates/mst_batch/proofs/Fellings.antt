@@ -19,7 +19,7 @@ use Rattle.mst_arena.proofs.Stands.{all-front, all-back}
 use Rattle.mst_path.specs.Felling.{ToFell}
 use Rattle.mst_path.specs.Joining.{height_at}
 use Rattle.mst_path.specs.Moves.{IsOld, Moves}
-use Rattle.mst_path.proofs.lemmas.rows.Copies.{at_self}
+use Rattle.mst_path.proofs.lemmas.rows.CopyRows.{at_self}
 use Rattle.mst_path.proofs.lemmas.rows.Moving.{moves_kill, moves_then, old_stays}
 use Rattle.mst_path.proofs.lemmas.steps.Felling.{having_killed}
 use Rattle.mst_batch.specs.Kept.{is_marked, stays, fallen, chain_fallen}

@@ -23,7 +23,7 @@ use Rattle.mst_change.proofs.Choices.{chosen}
 use Rattle.mst_change.proofs.Cost.Home.{HasKey, TopKey, key_holds, top_key_holds, some_key}
 use Rattle.mst_change.proofs.Split.Trees.{rest_rises, child_rises}
 use Rattle.mst_arena.specs.Ages.{placed_nodes, chain_nodes}
-use Rattle.mst_path.proofs.lemmas.versions.NodeAges.{node_in}
+use Rattle.mst_path.proofs.lemmas.versions.NodeSums.{node_in}
 use Rattle.mst_batch.specs.Beside.{link_among, node_at, plan_beside, entries_beside, link_of_key, chain_link, kept_entries, Matches}
 use Rattle.mst_batch.specs.Plans.{kept, made, last, entry, entries_planned}
 use Rattle.mst_batch.proofs.Besides.{node_rows, node_found, nothing_at, found, entries_is}

@@ -13,8 +13,8 @@ use Rattle.mst_arena.specs.declared.row.Root.{Root}
 use Rattle.mst_arena.proofs.Stands.{all-front, all-back}
 use Rattle.mst_path.proofs.lemmas.versions.Changes.{mst_of}
 use Rattle.mst_read.specs.Search.{Lies, LiesBehind, TreeLies, ChainLies, head_of, chain_links, place}
-use Rattle.mst_read.specs.declared.lookup.Place.{Place}
-use Rattle.mst_read.specs.declared.lookup.Place.TheVariants.{Held, Gap}
+use Rattle.mst_read.specs.declared.lookup.RowPlace.{RowPlace}
+use Rattle.mst_read.specs.declared.lookup.RowPlace.TheVariants.{Found, Gap}
 use Rattle.mst_read.proofs.Still.{lies_still, behind_still}
 use Rattle.mst_read.proofs.Descend.{depth, falls, lies_at}
 use Rattle.mst_batch.specs.Beside.{link_of_key, chain_link}
@@ -49,14 +49,14 @@ pub record Ahead (format : Format) (content : Content) (q : List ℕ) (layer lin
 -- ---- where the search in a node ends
 
 module _ (q : List ℕ) where
-  held : (here row : ℕ) (c : Chain) → place q c ≡ Held row → chain_link q here c ≡ here
-  held here row (end p) is = let no : Gap (link_of p) ≡ Held row = is in cc
-  held here row (cell at p key v c) is = go (key_cmp q key) is (held here row c)
+  at_key : (here row : ℕ) (c : Chain) → place q c ≡ Found row → chain_link q here c ≡ here
+  at_key here row (end p) is = let no : Gap (link_of p) ≡ Found row = is in cc
+  at_key here row (cell at p key v c) is = go (key_cmp q key) is (at_key here row c)
     where
-      go : (o : Ordering) → by_order o (Gap (link_of p)) (Held at) (place q c) ≡ Held row
-          → (place q c ≡ Held row → chain_link q here c ≡ here)
+      go : (o : Ordering) → by_order o (Gap (link_of p)) (Found at) (place q c) ≡ Found row
+          → (place q c ≡ Found row → chain_link q here c ≡ here)
           → by_order o (link_of_key q p) here (chain_link q here c) ≡ here
-      go Less ends later = let no : Gap (link_of p) ≡ Held row = ends in cc
+      go Less ends later = let no : Gap (link_of p) ≡ Found row = ends in cc
       go Equal ends later = refl
       go Greater ends later = later ends
 
@@ -77,7 +77,7 @@ module _ (q : List ℕ) where
       (gap format content l link here c (all-back _ (rows_of format p) (chain_rows format c) rows.1)
       mst.3)
     where
-      go : (o : Ordering) → by_order o (Gap (link_of p)) (Held at) (place q c) ≡ Gap link
+      go : (o : Ordering) → by_order o (Gap (link_of p)) (Found at) (place q c) ≡ Gap link
           → (place q c ≡ Gap link → Ahead format content q l link (chain_link q here c))
           → Ahead format content q l link
           (by_order o (link_of_key q p) here (chain_link q here c))
@@ -93,7 +93,7 @@ module _ (q : List ℕ) where
             mst = mst.1;
             is = refl;
           }
-      go Equal ends later = let no : Held at ≡ Gap link = ends in cc
+      go Equal ends later = let no : Found at ≡ Gap link = ends in cc
       go Greater ends later = later ends
 
 -- ---- the head of the tree at the link was read
@@ -130,13 +130,13 @@ module _ {format : Format} {content : Content} {q : List ℕ} {link : ℕ} {link
   pub node_there : {after : Content} → after ≡ content → ChainLies after links
   node_there same = (format, d.chain, behind_still same d.lies)
 
-  module _ {after : Content} {found : Place} (same : after ≡ content)
+  module _ {after : Content} {found : RowPlace} (same : after ≡ content)
       (read : (f : Format) (c : Chain) → LiesBehind f after links c → found ≡ place q c) where
     place_is : place q d.chain ≡ found
     place_is = sym (read format d.chain (behind_still same d.lies))
 
-    pub held_here : {row : ℕ} → found ≡ Held row → link ≡ answer
-    held_here {row} is = sym (held q link row d.chain (place_is ∙ is)) ∙ d.is
+    pub found_here : {row : ℕ} → found ≡ Found row → link ≡ answer
+    found_here {row} is = sym (at_key q link row d.chain (place_is ∙ is)) ∙ d.is
 
     pub in_gap : {below : ℕ} → found ≡ Gap below
         → Ahead format content q links.layer below answer

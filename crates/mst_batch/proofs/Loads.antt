@@ -27,7 +27,7 @@ use Rattle.mst_path.specs.Made.{IsMade, IsMadeChain}
 use Rattle.mst_path.specs.Moves.{IsNew, Moves}
 use Rattle.mst_path.specs.Planting.{node_count, entries_node_count}
 use Rattle.mst_path.specs.Takes.{Takes, KeepsBut}
-use Rattle.mst_path.proofs.lemmas.rows.Copies.{at_self}
+use Rattle.mst_path.proofs.lemmas.rows.CopyRows.{at_self}
 use Rattle.mst_path.proofs.lemmas.rows.Moving.{moves_takes}
 use Rattle.mst_path.proofs.lemmas.trees.Joined.{placed_none}
 use Rattle.mst_path.proofs.lemmas.versions.Changes.{AfterChange, Changed, after_change, unchanged_map}

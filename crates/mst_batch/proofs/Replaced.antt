@@ -18,7 +18,7 @@ use Rattle.mst_arena.specs.Ages.{placed_nodes, chain_nodes}
 use Rattle.mst_path.specs.Felling.{ToFell}
 use Rattle.mst_path.specs.Making.{Grown}
 use Rattle.mst_path.specs.Moves.{Moves}
-use Rattle.mst_path.proofs.lemmas.rows.Copies.{all_in, kept_at, old_alive}
+use Rattle.mst_path.proofs.lemmas.rows.CopyRows.{all_in, kept_at, old_alive}
 use Rattle.mst_arena.proofs.ListLemmas.{in_either}
 use Rattle.mst_path.proofs.lemmas.rows.Moving.{moves_then, alive_out, old_stays}
 use Rattle.mst_path.proofs.lemmas.trees.Made.{made_stays}

@@ -24,7 +24,7 @@ use Rattle.mst_change.proofs.Formats.{stays}
 use Rattle.mst_arena.specs.Ages.{placed_nodes, chain_nodes}
 use Rattle.mst_path.specs.Changing.{AreOld}
 use Rattle.mst_path.specs.Writing.{IsRootOf}
-use Rattle.mst_path.proofs.lemmas.rows.Copies.{at_self}
+use Rattle.mst_path.proofs.lemmas.rows.CopyRows.{at_self}
 use Rattle.mst_path.proofs.lemmas.versions.Changes.{distinct_times, mst_of, one_standing}
 use Rattle.mst_batch.specs.Carrying.{IsPlanOf}
 use Rattle.mst_batch.specs.Kept.{is_marked}

@@ -19,13 +19,13 @@ use Rattle.mst_path.specs.Copying.{Going}
 use Rattle.mst_path.specs.Making.{cell_of, cells_of}
 use Rattle.mst_path.specs.Writing.{PlacedEntry, chain_of, entries_used, IsRootOf, ahead, link_to, IsWritten}
 use Rattle.mst_path.specs.declared.node_writer.NodeWriter.{NodeWriter}
-use Rattle.mst_path.proofs.lemmas.rows.Copies.{at_self, kept_at, all_in, new_not_old, old_alive}
+use Rattle.mst_path.proofs.lemmas.rows.CopyRows.{at_self, kept_at, all_in, new_not_old, old_alive}
 use Rattle.mst_path.proofs.lemmas.rows.Entries.{entries_frame}
 use Rattle.mst_arena.proofs.ListLemmas.{one_row}
 use Rattle.mst_path.proofs.lemmas.rows.Moving.{not_in, out_of_times, times_of_out, moves_none, moves_takes, moves_then, alive_stays, alive_out, old_stays}
 use Rattle.mst_path.proofs.lemmas.trees.Made.{made_old, new_stays, entries_stay, piece_alive}
 use Rattle.mst_path.proofs.lemmas.steps.Finishing.{used_more, going_more, cells-append, chain_entries, all_used, head_piece}
-use Rattle.mst_path.proofs.lemmas.steps.Whole.{old_piece_later}
+use Rattle.mst_path.proofs.lemmas.steps.Untouched.{old_piece_later}
 use Rattle.mst_batch.specs.Plans.{PlanTree, kept, PlannedEntry, tree_planned, rows_planned, rows_kept, EachKept, IsPlan}
 use Rattle.mst_batch.specs.Sowing.{Sown}
 use Rattle.mst_batch.proofs.PlanShapes.{cell_planned, cells_planned, list_rows, list_kept, list_rows-append, list_kept-append, each_then}

@@ -13,7 +13,7 @@ ghost use Rattle.mst_batch.specs.Plans.{plan_of, plan_of_node, planned_entry, wi
 use crate::plan::{Plan, PlanEntry, PlanNode};
 use mst_arena::{EntryLinks, HeadLinks, Root, Rows, Sought};
 use mst_key::Memory;
-use mst_read::{Place, head_at, seek};
+use mst_read::{RowPlace, head_at, seek};
 use std::alloc::Allocator;
 
 /// The link of the node of which the key is that of an entry, 0 if there is none. It reads along
@@ -28,8 +28,8 @@ fn link_of<R: Rows>(rows: &mut R, root: &Root, key: &Sought) -> u32
     let mut top = head_at(rows, at);
     while let Some(head) = top {
         match seek(rows, &head, key) {
-            Place::Held(_) => return at,
-            Place::Gap(below) => {
+            RowPlace::Found(_) => return at,
+            RowPlace::Gap(below) => {
                 at = below;
                 top = head_at(rows, below);
             }

@@ -1,5 +1,5 @@
 //! Batches: puts into a full map, and loads of an empty one.
-ghost use Rattle.std.specs.Prelude.{◌<◌, ◌≤◌, length};
+ghost use Rattle.std.specs.Prelude.{◌<◌, length};
 
 use crate::alone;
 use crate::calls::{FIRST_NEW_VALUE, picked};

@@ -4,10 +4,8 @@ use Rattle.std.specs.Prelude.{None, Some}
 use mathlib.Core.Bool.{true, ◌&&◌}
 use lib.Dec.{T}
 use seplogic.Ra.Ura.{Ura}
-use mir.Syntax.{a_type}
 use mir.Raw.{raw as bare}
 use mir.Val.{Val, vptr, vstruct, vcons, vnil, of_list, has_ty, WT}
-use mir.Syntax.{w64}
 use base.Logic.{ent, never, fst∗, snd∗, via, guard, guard_i}
 use types.Logic.{Logic, sem}
 use contract.Monad.{fact_use}

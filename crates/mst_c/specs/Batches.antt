@@ -15,10 +15,10 @@ use Rattle.mst_versions.specs.declared.faults.ApplyFault.TheVariants as apply
 use Rattle.mst_store.specs.Passes.{Known, Wrote, made_by}
 use Rattle.mst_versions.specs.Applying.{RefusesBatch}
 use Rattle.mst_c.specs.Codes.{bad_key, bad_value, closed, wrong_state, memory, busy, versions_spent, no_free_rows, bad_batch}
-use Rattle.mst_c.specs.declared.held.State.{State}
-use Rattle.mst_c.specs.declared.held.State.TheVariants.{Away, Free, Pinned}
-use Rattle.mst_c.specs.declared.held.Unapplied.{Unapplied}
-use Rattle.mst_c.specs.declared.held.Unapplied.TheVariants.{Pins, Memory, Store}
+use Rattle.mst_c.specs.declared.pass_box.State.{State}
+use Rattle.mst_c.specs.declared.pass_box.State.TheVariants.{Away, Free, Pinned}
+use Rattle.mst_c.specs.declared.pass_box.Unapplied.{Unapplied}
+use Rattle.mst_c.specs.declared.pass_box.Unapplied.TheVariants.{Pins, Memory, Store}
 use Rattle.mst_c.specs.declared.packing.EditFault.{EditFault}
 use Rattle.mst_c.specs.declared.packing.EditFault.TheVariants.{KeySize, ValueSize, Form}
 use Rattle.mst_c.specs.declared.packing.BadEdit.{BadEdit}

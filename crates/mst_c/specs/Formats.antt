@@ -9,10 +9,10 @@ use Rattle.mst_versions.specs.declared.faults.MigrateFault.TheVariants.{Busy, Ve
 use Rattle.mst_store.specs.Passes.{Known, Wrote, made_by}
 use Rattle.mst_versions.specs.Migrating.{RefusesMigration}
 use Rattle.mst_c.specs.Codes.{unknown_format, closed, wrong_state, memory, busy, versions_spent, no_free_rows}
-use Rattle.mst_c.specs.declared.held.State.{State}
-use Rattle.mst_c.specs.declared.held.State.TheVariants.{Away, Free, Pinned}
-use Rattle.mst_c.specs.declared.held.Unmoved.{Unmoved}
-use Rattle.mst_c.specs.declared.held.Unmoved.TheVariants.{Pins, Store}
+use Rattle.mst_c.specs.declared.pass_box.State.{State}
+use Rattle.mst_c.specs.declared.pass_box.State.TheVariants.{Away, Free, Pinned}
+use Rattle.mst_c.specs.declared.pass_box.Unmoved.{Unmoved}
+use Rattle.mst_c.specs.declared.pass_box.Unmoved.TheVariants.{Pins, Store}
 use Rattle.mst_c.specs.Holding.{Reads}
 
 -- the format that has this number

@@ -6,12 +6,12 @@ use Rattle.mst_key.specs.Map.{Pair}
 use Rattle.mst_key.specs.declared.history.Change.{Change}
 use Rattle.mst_store.specs.Passes.{Known, format_seen, Answers, Looks, Wrote, FindsBusy, Refuses, made_by, having_asked}
 use Rattle.mst_versions.specs.Writes.{rows_of}
-use Rattle.mst_c.specs.declared.held.State.{State}
-use Rattle.mst_c.specs.declared.held.State.TheVariants.{Away, Free, Pinned}
-use Rattle.mst_c.specs.declared.held.Unwritten.{Unwritten}
-use Rattle.mst_c.specs.declared.held.Unwritten.TheVariants.{Pins, Store}
-use Rattle.mst_c.specs.declared.held.Uncounted.{Uncounted}
-use Rattle.mst_c.specs.declared.held.Uncounted.TheVariants as uncounted
+use Rattle.mst_c.specs.declared.pass_box.State.{State}
+use Rattle.mst_c.specs.declared.pass_box.State.TheVariants.{Away, Free, Pinned}
+use Rattle.mst_c.specs.declared.pass_box.Unwritten.{Unwritten}
+use Rattle.mst_c.specs.declared.pass_box.Unwritten.TheVariants.{Pins, Store}
+use Rattle.mst_c.specs.declared.pass_box.Uncounted.{Uncounted}
+use Rattle.mst_c.specs.declared.pass_box.Uncounted.TheVariants as uncounted
 
 -- A read returns what this question asks of a map and its format: a free pass of that which it
 -- finds now, for which it looks once, a pinned one of that of its version

@@ -5,10 +5,10 @@ use Rattle.mst_key.specs.History.{after}
 use Rattle.mst_store.specs.Passes.{Known, format_seen, Looks, FindsBusy, AreFree}
 use Rattle.mst_versions.specs.Writes.{rows_of, AreFound}
 use Rattle.mst_c.specs.Codes.{absent, closed, wrong_state, busy}
-use Rattle.mst_c.specs.declared.held.State.{State}
-use Rattle.mst_c.specs.declared.held.State.TheVariants.{Away, Free, Pinned}
-use Rattle.mst_c.specs.declared.held.Uncounted.{Uncounted}
-use Rattle.mst_c.specs.declared.held.Uncounted.TheVariants.{Pins, Busy}
+use Rattle.mst_c.specs.declared.pass_box.State.{State}
+use Rattle.mst_c.specs.declared.pass_box.State.TheVariants.{Away, Free, Pinned}
+use Rattle.mst_c.specs.declared.pass_box.Uncounted.{Uncounted}
+use Rattle.mst_c.specs.declared.pass_box.Uncounted.TheVariants.{Pins, Busy}
 
 -- The rows that are free are counted by a free pass where no other pass writes, with pinned
 -- versions too, in as many steps as the pass's contract says

@@ -1,7 +1,7 @@
 -- What C is told when a store is opened.
 use Rattle.std.specs.Prelude.{◌≡◌, ◌<◌, ◌≤◌, ◌+◌, ℕ, List, length, get_or, Some, None}
 use Rattle.mst_store.specs.Passes.{StoreId, most_rows, most_passes, new_pass}
-use Rattle.mst_c.specs.declared.held.State.TheVariants.{Free}
+use Rattle.mst_c.specs.declared.pass_box.State.TheVariants.{Free}
 use Rattle.mst_c.specs.declared.hand.PaddedHand.{PaddedHand}
 use Rattle.mst_c.specs.Formats.{format_named}
 

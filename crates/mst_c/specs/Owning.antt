@@ -1,4 +1,4 @@
--- What a `Hand` owns: the same as a `Box<Held>`, or nothing at null.
+-- What a `Hand` owns: the same as a `Box<PassBox>`, or nothing at null.
 use Rattle.std.specs.Prelude.{Option, Some, None}
 use base.Fml.{Fml, feq}
 use base.Stored.{Coded}
@@ -7,7 +7,7 @@ use denote.RawPtr.{Ptr, null_ptr}
 use Rattle.std.specs.Box.Ownership.{box_owns}
 use Rattle.std.specs.Global.{Global}
 use Rattle.std.specs.contracts.impls.GlobalAllocator.TheImpl.{ghosts}
-use Rattle.mst_c.specs.contracts.held.Held.{the_row}
+use Rattle.mst_c.specs.contracts.pass_box.PassBox.{the_row}
 
 abbrev pub HeldNow : Type 0
 HeldNow = Option the_row.Denot

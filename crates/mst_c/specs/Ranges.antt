@@ -6,7 +6,7 @@ use Rattle.std.specs.List.{flat_map}
 use Rattle.std.specs.Option.{option_map}
 use Rattle.mst_key.specs.Map.{Pair, map_range}
 use Rattle.mst_c.specs.Codes.{bad_key, closed}
-use Rattle.mst_c.specs.declared.held.State.{State}
+use Rattle.mst_c.specs.declared.pass_box.State.{State}
 use Rattle.mst_c.specs.Holding.{Reads, Forgets}
 use Rattle.mst_c.specs.Told.{Nothing, IsBound, bound_of, bytes_code, room_after, size_after}
 

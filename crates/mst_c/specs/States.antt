@@ -1,8 +1,8 @@
 -- Which store a laid pass is of, and whether it pins a version.
 use Rattle.std.specs.Prelude.{◌≡◌}
 use Rattle.mst_store.specs.Passes.{StoreId}
-use Rattle.mst_c.specs.declared.held.State.{State}
-use Rattle.mst_c.specs.declared.held.State.TheVariants.{Away, Free, Pinned}
+use Rattle.mst_c.specs.declared.pass_box.State.{State}
+use Rattle.mst_c.specs.declared.pass_box.State.TheVariants.{Away, Free, Pinned}
 
 -- between calls a hand's pass is there, and of the store next to it
 abbrev pub IsOf : StoreId → State → Type 0

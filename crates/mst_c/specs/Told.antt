@@ -7,11 +7,11 @@ use Rattle.mst_node.specs.Text.{root}
 use Rattle.mst_node.specs.Trail.{proof_text}
 use Rattle.mst_versions.specs.declared.faults.WriteFault.TheVariants.{Busy, VersionsSpent, NoRoom}
 use Rattle.mst_c.specs.Codes.{absent, short_room, bad_key, bad_value, closed, wrong_state, memory, busy, versions_spent, no_free_rows, rows_pinned}
-use Rattle.mst_c.specs.declared.held.State.{State}
-use Rattle.mst_c.specs.declared.held.Unwritten.{Unwritten}
-use Rattle.mst_c.specs.declared.held.Unwritten.TheVariants.{Pins, Store}
-use Rattle.mst_c.specs.declared.held.Uncounted.{Uncounted}
-use Rattle.mst_c.specs.declared.held.Uncounted.TheVariants as uncounted
+use Rattle.mst_c.specs.declared.pass_box.State.{State}
+use Rattle.mst_c.specs.declared.pass_box.Unwritten.{Unwritten}
+use Rattle.mst_c.specs.declared.pass_box.Unwritten.TheVariants.{Pins, Store}
+use Rattle.mst_c.specs.declared.pass_box.Uncounted.{Uncounted}
+use Rattle.mst_c.specs.declared.pass_box.Uncounted.TheVariants as uncounted
 use Rattle.mst_c.specs.Holding.{Reads, Forgets, Writes, PinsNow, Unpins, Versions, Counts}
 
 -- the length of a value that there is room for, -2 where there is not, -1 for absence

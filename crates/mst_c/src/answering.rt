@@ -1,7 +1,7 @@
 //! What C is told of a key's value. The result is made where the value was read, so that the value
 //! is not moved.
 ghost use Rattle.std.specs.Prelude.{◌≡◌};
-ghost use Rattle.mst_c.specs.declared.held.State.TheVariants as state;
+ghost use Rattle.mst_c.specs.declared.pass_box.State.TheVariants as state;
 ghost use Rattle.mst_c.specs.Told.{ValueTold};
 
 use crate::telling::tell;

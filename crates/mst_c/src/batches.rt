@@ -6,8 +6,8 @@ use crate::codes::{
     BAD_BATCH, BAD_KEY, BAD_VALUE, BUSY, CLOSED, MEMORY, NO_FREE_ROWS, VERSIONS_SPENT, WRONG_STATE,
 };
 use crate::hand::{Hand, give, take};
-use crate::held::Unapplied;
 use crate::packing::{EditFault, Packed};
+use crate::pass_box::Unapplied;
 use mst_store::ApplyFault;
 use std::alloc::Global;
 

@@ -6,7 +6,7 @@ use crate::codes::{
     BUSY, CLOSED, MEMORY, NO_FREE_ROWS, UNKNOWN_FORMAT, VERSIONS_SPENT, WRONG_STATE,
 };
 use crate::hand::{Hand, give, take};
-use crate::held::Unmoved;
+use crate::pass_box::Unmoved;
 use mst_key::Format;
 use mst_store::MigrateFault;
 use std::alloc::Global;

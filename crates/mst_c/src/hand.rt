@@ -8,8 +8,8 @@ ghost use Rattle.std.specs.Option.{MatchOption};
 ghost use Rattle.mst_c.specs.Owning.{HeldNow, hand_coded};
 ghost use Rattle.mst_c.specs.States.{PinsNone};
 
-use crate::held::Held;
 use crate::parts::Parts;
+use crate::pass_box::PassBox;
 use std::alloc::Global;
 use std::marker::Model;
 use std::mem::replace;
@@ -51,7 +51,7 @@ impl Hand {
         }
     }
 
-    fn of_parts(parts: Parts<Held, Global>) -> Hand
+    fn of_parts(parts: Parts<PassBox, Global>) -> Hand
         ensures { result.held ≡ Some parts.value }
     {
         let Parts { ptr, alloc } = parts;
@@ -61,7 +61,7 @@ impl Hand {
         }
     }
 
-    fn into_parts(self) -> Option<Parts<Held, Global>>
+    fn into_parts(self) -> Option<Parts<PassBox, Global>>
         ensures { MatchOption result (self.held ≡ None) (λ p. self.held ≡ Some p.value) }
     {
         let Hand { ptr, alloc } = self;
@@ -69,19 +69,19 @@ impl Hand {
             None
         } else {
             Some(Parts {
-                ptr: ptr as *mut Held,
+                ptr: ptr as *mut PassBox,
                 alloc,
             })
         }
     }
 
-    fn of_box(held: Box<Held, Global>) -> Hand
+    fn of_box(held: Box<PassBox, Global>) -> Hand
         ensures { result.held ≡ Some held.value }
     {
         Hand::of_parts(Parts::of(held))
     }
 
-    fn into_box(self) -> Option<Box<Held, Global>>
+    fn into_box(self) -> Option<Box<PassBox, Global>>
         ensures { MatchOption result (self.held ≡ None) (λ b. self.held ≡ Some b.value) }
     {
         match self.into_parts() {
@@ -96,18 +96,18 @@ struct Due;
 
 /// A pass that was taken out of a hand. It is no `Drop`, and only this module takes it apart.
 pub(crate) struct Taken {
-    pub(crate) held: Box<Held, Global>,
+    pub(crate) held: Box<PassBox, Global>,
     due: Due,
 }
 
 impl Taken {
-    pub(crate) fn of(held: Box<Held, Global>) -> Taken
+    pub(crate) fn of(held: Box<PassBox, Global>) -> Taken
         ensures { result.held.value ≡ held.value }
     {
         Taken { held, due: Due }
     }
 
-    fn into_box(self) -> Box<Held, Global>
+    fn into_box(self) -> Box<PassBox, Global>
         ensures { result.value ≡ self.held.value }
     {
         let Taken { held, due } = self;

@@ -4,7 +4,7 @@ ghost use Rattle.mst_c.specs.Knowing.{free_code, free_after, made_code, made_aft
 
 use crate::codes::{ABSENT, BUSY, CLOSED, WRONG_STATE};
 use crate::hand::{Hand, give, take};
-use crate::held::Uncounted;
+use crate::pass_box::Uncounted;
 use std::alloc::Global;
 
 /// The code of a count of the free rows. The count is written then, if there is one.

@@ -31,12 +31,12 @@ pub mod batches;
 pub mod codes;
 pub mod formats;
 pub mod hand;
-pub mod held;
 pub mod knowing;
 mod laws;
 pub mod opening;
 pub mod packing;
 pub mod parts;
+pub mod pass_box;
 pub mod ranging;
 pub mod telling;
 

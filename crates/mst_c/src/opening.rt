@@ -3,7 +3,7 @@ ghost use Rattle.std.specs.Prelude.{◌≡◌, ◌≢◌, ◌↔◌, ◌⊎◌, 
 ghost use Rattle.std.specs.Arc.{arc_value};
 ghost use Rattle.mst_store.specs.Passes.{Known, StoreId, new_pass, new_passes};
 ghost use Rattle.mst_c.specs.Codes.{unknown_format, memory, bad_shape};
-ghost use Rattle.mst_c.specs.declared.held.State.TheVariants.{Free};
+ghost use Rattle.mst_c.specs.declared.pass_box.State.TheVariants.{Free};
 ghost use Rattle.mst_c.specs.declared.hand.PaddedHand.{PaddedHand};
 ghost use Rattle.mst_c.specs.Formats.{format_named as named};
 ghost use Rattle.mst_c.specs.Opened.{Opened, IsSize, AllEmpty};
@@ -11,7 +11,7 @@ ghost use Rattle.mst_c.specs.Opened.{Opened, IsSize, AllEmpty};
 use crate::codes::{BAD_SHAPE, MEMORY, UNKNOWN_FORMAT};
 use crate::formats::format_named;
 use crate::hand::PaddedHand;
-use crate::held::hand_out_padded;
+use crate::pass_box::hand_out_padded;
 use crate::telling::close;
 use mst_key::Format;
 use mst_store::{OpenFault, Pass, Seats, Shape, Store};

@@ -1,5 +1,5 @@
 //! Edits as C hands them over: packed in a buffer, one after the other.
-ghost use Rattle.std.specs.Prelude.{◌≡◌, ◌<◌, ℕ, List, length, IsOk, IfOk, IfErr, OnErr};
+ghost use Rattle.std.specs.Prelude.{◌≡◌, ◌<◌, List, length, IfOk, IfErr, OnErr};
 ghost use Rattle.std.specs.declared.result.Result.TheVariants.{Ok, Err};
 ghost use Rattle.mst_key.specs.declared.history.Edit.{Edit};
 ghost use Rattle.mst_key.specs.Bytes.{IsKey, IsValue};

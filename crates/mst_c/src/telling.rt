@@ -7,7 +7,7 @@ use crate::codes::{
     VERSIONS_SPENT, WRONG_STATE,
 };
 use crate::hand::{Hand, give, take};
-use crate::held::{Uncounted, Unwritten};
+use crate::pass_box::{Uncounted, Unwritten};
 use mst_key::{Key, KeySize, Value};
 use mst_store::WriteFault;
 use std::alloc::Global;

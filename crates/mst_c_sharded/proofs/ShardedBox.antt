@@ -6,15 +6,15 @@ use Rattle.std_alloc.proofs.BoxSteps.Form.{Bx}
 use Rattle.std_heap.specs.contracts.Global as Heap
 use Rattle.std_heap.specs.contracts.GlobalAllocator.TheImpl.{ghosts, dict}
 use Rattle.std_heap.proofs.Global.TheLaws as heap
-use Rattle.mst_c_sharded.specs.contracts.held.ShardedHeld as Held
-use Rattle.mst_c_sharded.proofs.held.ShardedHeld.TheLaws as held
+use Rattle.mst_c_sharded.specs.contracts.handle_box.HandleBox as HandleBox
+use Rattle.mst_c_sharded.proofs.handle_box.HandleBox.TheLaws as held
 use Rattle.mst_c.specs.contracts.parts.Parts as Parts
 use Rattle.mst_c_sharded.specs.contracts.hand.ShardedHand as Hand
 
 abbrev pub E : Bx
 E =
     record {
-      row = Held.the_row;
+      row = HandleBox.the_row;
       laws = held.the_row_laws;
       al =
           record {
@@ -28,7 +28,7 @@ E =
     }
 
 abbrev pub FromParts : Slot 0
-FromParts = plain (λ _. Parts.the_row Held.the_row Heap.the_row ghosts)
+FromParts = plain (λ _. Parts.the_row HandleBox.the_row Heap.the_row ghosts)
 
 abbrev pub FromHand : Slot 0
 FromHand = plain (λ _. Hand.the_row)

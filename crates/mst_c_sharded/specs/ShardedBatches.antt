@@ -9,8 +9,8 @@ use Rattle.mst_c.specs.Batches.{edits_in, fault_code, apply_fault_code}
 use Rattle.mst_c.specs.declared.packing.BadEdit.{BadEdit}
 use Rattle.mst_c_sharded.specs.declared.batches.Unspread.{Unspread}
 use Rattle.mst_c_sharded.specs.declared.batches.Unspread.TheVariants.{Pins, NoShard, Spread}
-use Rattle.mst_c_sharded.specs.declared.held.Sharing.{Sharing}
-use Rattle.mst_c_sharded.specs.declared.held.Sharing.TheVariants.{Away, Handle, Snapshot}
+use Rattle.mst_c_sharded.specs.declared.handle_box.Sharing.{Sharing}
+use Rattle.mst_c_sharded.specs.declared.handle_box.Sharing.TheVariants.{Away, Handle, Snapshot}
 
 -- A handle makes the edits of the shards from one on, which has to be there, or stops at a shard
 -- that is refused its own, or a growth was refused, as the handle's contract says. A snapshot makes

@@ -6,8 +6,8 @@ use Rattle.mst_sharded.specs.Shared.{RefusesMoves}
 use Rattle.mst_sharded.specs.Sharding.{Sharding}
 use Rattle.mst_sharded.specs.declared.faults.MoveFault.TheVariants.{Memory, Shard}
 use Rattle.mst_c.specs.Codes.{unknown_format, closed, wrong_state, memory}
-use Rattle.mst_c_sharded.specs.declared.held.Sharing.{Sharing}
-use Rattle.mst_c_sharded.specs.declared.held.Sharing.TheVariants.{Away, Handle, Snapshot}
+use Rattle.mst_c_sharded.specs.declared.handle_box.Sharing.{Sharing}
+use Rattle.mst_c_sharded.specs.declared.handle_box.Sharing.TheVariants.{Away, Handle, Snapshot}
 use Rattle.mst_c_sharded.specs.declared.migrating.Unmigrated.{Unmigrated}
 use Rattle.mst_c_sharded.specs.declared.migrating.Unmigrated.TheVariants.{Pins, Move}
 use Rattle.mst_c.specs.Formats.{format_named, migrate_fault_code}

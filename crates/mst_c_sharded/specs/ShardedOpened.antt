@@ -8,7 +8,7 @@ use Rattle.mst_sharded.specs.Opening.{Shards, HasShards, new_handle}
 use Rattle.mst_sharded.specs.declared.faults.ShardsFault.{ShardsFault}
 use Rattle.mst_sharded.specs.declared.faults.ShardsFault.TheVariants.{Splits, Shape as BadShape, Memory}
 use Rattle.mst_c.specs.Codes.{memory, bad_shape, bad_splits}
-use Rattle.mst_c_sharded.specs.declared.held.Sharing.TheVariants.{Handle}
+use Rattle.mst_c_sharded.specs.declared.handle_box.Sharing.TheVariants.{Handle}
 use Rattle.mst_c_sharded.specs.declared.hand.PaddedShardedHand.{PaddedShardedHand}
 use Rattle.mst_c.specs.Formats.{format_named}
 use Rattle.mst_c_sharded.specs.ShardedSplits.{splits_bytes}

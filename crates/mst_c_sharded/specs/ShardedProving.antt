@@ -9,8 +9,8 @@ use Rattle.mst_sharded_proof.specs.Shards.{directory}
 use Rattle.mst_sharded_proof.specs.Theorem.{HasShardedRoot}
 use Rattle.mst_sharded.specs.Directory.{LacksDirectory, OfClean}
 use Rattle.mst_sharded.specs.declared.faults.DirectoryFault.TheVariants.{Mixed, Stray, VersionsSpent, Memory}
-use Rattle.mst_c_sharded.specs.declared.held.Sharing.{Sharing}
-use Rattle.mst_c_sharded.specs.declared.held.Sharing.TheVariants.{Away, Handle, Snapshot}
+use Rattle.mst_c_sharded.specs.declared.handle_box.Sharing.{Sharing}
+use Rattle.mst_c_sharded.specs.declared.handle_box.Sharing.TheVariants.{Away, Handle, Snapshot}
 use Rattle.mst_c_sharded.specs.declared.asking.Unlisted.{Unlisted}
 use Rattle.mst_c_sharded.specs.declared.asking.Unlisted.TheVariants.{PinsNone, Directory}
 use Rattle.mst_c.specs.Ranges.{pairs_bytes, count_of}

@@ -5,8 +5,8 @@ use Rattle.mst_key.specs.declared.format.Format.{Format}
 use Rattle.mst_sharded.specs.Directory.{AllIn}
 use Rattle.mst_sharded.specs.Sharding.{map_of}
 use Rattle.mst_c.specs.Codes.{absent, bad_key, closed, wrong_state, memory, mixed_formats}
-use Rattle.mst_c_sharded.specs.declared.held.Sharing.{Sharing}
-use Rattle.mst_c_sharded.specs.declared.held.Sharing.TheVariants.{Away, Handle, Snapshot}
+use Rattle.mst_c_sharded.specs.declared.handle_box.Sharing.{Sharing}
+use Rattle.mst_c_sharded.specs.declared.handle_box.Sharing.TheVariants.{Away, Handle, Snapshot}
 use Rattle.mst_c_sharded.specs.declared.asking.Unread.{Unread}
 use Rattle.mst_c_sharded.specs.declared.asking.Unread.TheVariants.{PinsNone, Memory}
 use Rattle.mst_c.specs.Formats.{format_code}

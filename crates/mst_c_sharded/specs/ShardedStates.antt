@@ -1,6 +1,6 @@
 -- Whether a hand holds a handle of a sharded map or a snapshot of it.
-use Rattle.mst_c_sharded.specs.declared.held.Sharing.{Sharing}
-use Rattle.mst_c_sharded.specs.declared.held.Sharing.TheVariants.{Away, Handle, Snapshot}
+use Rattle.mst_c_sharded.specs.declared.handle_box.Sharing.{Sharing}
+use Rattle.mst_c_sharded.specs.declared.handle_box.Sharing.TheVariants.{Away, Handle, Snapshot}
 
 -- between calls a hand's handle or snapshot is there
 abbrev pub IsThere : Sharing → Type 0

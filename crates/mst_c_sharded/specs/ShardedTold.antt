@@ -3,8 +3,8 @@ use Rattle.std.specs.Prelude.{◌≡◌, ℕ, ℤ, pos, List, length, Bool, Opti
 use Rattle.mst_key.specs.Bytes.{IsKey, IsValue}
 use Rattle.mst_key.specs.declared.history.Change.TheVariants.{Put, Remove}
 use Rattle.mst_c.specs.Codes.{bad_key, bad_value, closed}
-use Rattle.mst_c.specs.declared.held.Unwritten.{Unwritten}
-use Rattle.mst_c_sharded.specs.declared.held.Sharing.{Sharing}
+use Rattle.mst_c.specs.declared.pass_box.Unwritten.{Unwritten}
+use Rattle.mst_c_sharded.specs.declared.handle_box.Sharing.{Sharing}
 use Rattle.mst_c_sharded.specs.ShardedHolding.{shards_in, Gets, Writes, PinsShards, Releases}
 use Rattle.mst_c.specs.Told.{value_code, room_after, write_code, write_room, done_code}
 

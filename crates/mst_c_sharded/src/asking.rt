@@ -8,7 +8,7 @@ ghost use Rattle.mst_c_sharded.specs.ShardedProving.{Lists, Proof, IsDirectory};
 ghost use Rattle.mst_c_sharded.specs.ShardedReading.{Finds, Numbers, HasFormat};
 ghost use Rattle.mst_c_sharded.specs.ShardedStates.{IsThere};
 
-use crate::held::Sharing;
+use crate::handle_box::Sharing;
 use mst_key::{Format, Key, Memory, Value};
 use mst_sharded::DirectoryFault;
 use std::alloc::Global;

@@ -1,11 +1,11 @@
 //! Batches of edits of a sharded map, as C is told of them.
 ghost use Rattle.std.specs.Prelude.{◌≡◌};
-ghost use Rattle.mst_c_sharded.specs.declared.held.Sharing.TheVariants as sharing;
+ghost use Rattle.mst_c_sharded.specs.declared.handle_box.Sharing.TheVariants as sharing;
 ghost use Rattle.mst_c_sharded.specs.ShardedBatches.{spread_code, shard_after, Spreads, ApplyTold};
 ghost use Rattle.mst_c_sharded.specs.ShardedStates.{IsThere};
 
 use crate::hand::{ShardedHand, give, take};
-use crate::held::Sharing;
+use crate::handle_box::Sharing;
 use mst_c::batches::{apply_fault_code, fault_code};
 use mst_c::codes::{ABSENT, CLOSED, MEMORY, WRONG_STATE};
 use mst_c::packing::Packed;

@@ -5,7 +5,7 @@ ghost use Rattle.std.specs.Option.{MatchOption};
 ghost use Rattle.mst_c_sharded.specs.ShardedOwning.{HeldNow, hand_coded};
 ghost use Rattle.mst_c_sharded.specs.ShardedStates.{PinsNone};
 
-use crate::held::ShardedHeld;
+use crate::handle_box::HandleBox;
 use mst_c::parts::Parts;
 use std::alloc::Global;
 use std::marker::Model;
@@ -46,7 +46,7 @@ impl ShardedHand {
         }
     }
 
-    fn of_parts(parts: Parts<ShardedHeld, Global>) -> ShardedHand
+    fn of_parts(parts: Parts<HandleBox, Global>) -> ShardedHand
         ensures { result.held ≡ Some parts.value }
     {
         let Parts { ptr, alloc } = parts;
@@ -56,7 +56,7 @@ impl ShardedHand {
         }
     }
 
-    fn into_parts(self) -> Option<Parts<ShardedHeld, Global>>
+    fn into_parts(self) -> Option<Parts<HandleBox, Global>>
         ensures { MatchOption result (self.held ≡ None) (λ p. self.held ≡ Some p.value) }
     {
         let ShardedHand { ptr, alloc } = self;
@@ -64,19 +64,19 @@ impl ShardedHand {
             None
         } else {
             Some(Parts {
-                ptr: ptr as *mut ShardedHeld,
+                ptr: ptr as *mut HandleBox,
                 alloc,
             })
         }
     }
 
-    fn of_box(held: Box<ShardedHeld, Global>) -> ShardedHand
+    fn of_box(held: Box<HandleBox, Global>) -> ShardedHand
         ensures { result.held ≡ Some held.value }
     {
         ShardedHand::of_parts(Parts::of(held))
     }
 
-    fn into_box(self) -> Option<Box<ShardedHeld, Global>>
+    fn into_box(self) -> Option<Box<HandleBox, Global>>
         ensures { MatchOption result (self.held ≡ None) (λ b. self.held ≡ Some b.value) }
     {
         match self.into_parts() {
@@ -92,18 +92,18 @@ struct Due;
 
 /// What was taken out of a hand. It is no `Drop`, and only this module takes it apart.
 pub(crate) struct ShardedTaken {
-    pub(crate) held: Box<ShardedHeld, Global>,
+    pub(crate) held: Box<HandleBox, Global>,
     due: Due,
 }
 
 impl ShardedTaken {
-    pub(crate) fn of(held: Box<ShardedHeld, Global>) -> ShardedTaken
+    pub(crate) fn of(held: Box<HandleBox, Global>) -> ShardedTaken
         ensures { result.held.value ≡ held.value }
     {
         ShardedTaken { held, due: Due }
     }
 
-    fn into_box(self) -> Box<ShardedHeld, Global>
+    fn into_box(self) -> Box<HandleBox, Global>
         ensures { result.value ≡ self.held.value }
     {
         let ShardedTaken { held, due } = self;

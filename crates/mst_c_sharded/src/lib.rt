@@ -7,7 +7,7 @@
 mod asking;
 pub mod batches;
 pub mod hand;
-mod held;
+mod handle_box;
 pub mod migrating;
 pub mod opening;
 pub mod proving;

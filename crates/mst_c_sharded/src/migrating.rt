@@ -4,7 +4,7 @@ ghost use Rattle.mst_c_sharded.specs.ShardedMigrating.{moved_code, stopped_after
 ghost use Rattle.mst_c_sharded.specs.ShardedStates.{IsThere};
 
 use crate::hand::{ShardedHand, give, take};
-use crate::held::Sharing;
+use crate::handle_box::Sharing;
 use mst_c::codes::{CLOSED, MEMORY, UNKNOWN_FORMAT, WRONG_STATE};
 use mst_c::formats::{format_named, migrate_fault_code};
 use mst_key::Format;

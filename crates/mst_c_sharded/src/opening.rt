@@ -4,7 +4,7 @@ ghost use Rattle.mst_store.specs.Passes.{IsShape};
 ghost use Rattle.mst_sharded.specs.Sharding.{Sharding, IsSplits};
 ghost use Rattle.mst_sharded.specs.Opening.{Shards, HasShards, new_handles, seats_of};
 ghost use Rattle.mst_c.specs.Codes.{unknown_format, memory, bad_shape, bad_splits};
-ghost use Rattle.mst_c_sharded.specs.declared.held.Sharing.TheVariants.{Handle};
+ghost use Rattle.mst_c_sharded.specs.declared.handle_box.Sharing.TheVariants.{Handle};
 ghost use Rattle.mst_c_sharded.specs.declared.hand.PaddedShardedHand.{PaddedShardedHand};
 ghost use Rattle.mst_c.specs.Formats.{format_named as named};
 ghost use Rattle.mst_c.specs.Opened.{IsSize};
@@ -12,7 +12,7 @@ ghost use Rattle.mst_c_sharded.specs.ShardedOpened.{HandsOpened, ShardsOpened, N
 ghost use Rattle.mst_c_sharded.specs.ShardedSplits.{splits_bytes, PacksSplits};
 
 use crate::hand::PaddedShardedHand;
-use crate::held::hand_out_padded;
+use crate::handle_box::hand_out_padded;
 use crate::splits::list_splits;
 use crate::telling::close;
 use mst_c::codes::{BAD_SHAPE, BAD_SPLITS, MEMORY, UNKNOWN_FORMAT};

@@ -1,5 +1,5 @@
 //! What only a snapshot of a sharded map reads, as C is told of it.
-ghost use Rattle.std.specs.Prelude.{◌≡◌, ◌<◌, ◌^◌, length, Some};
+ghost use Rattle.std.specs.Prelude.{◌≡◌, ◌<◌, Some};
 ghost use Rattle.mst_c_sharded.specs.ShardedReading.{unread_code as code_of_unread, number_code, number_after, one_format_code, NextTold, RangeTold, VersionTold, FormatTold};
 ghost use Rattle.mst_c_sharded.specs.ShardedProving.{DirectoryTold};
 

@@ -39,7 +39,7 @@ pub record Breaks {S : Type 0} (takes : Flow S)
   pub rest : p ++ text ≡ taken ++ lost
 
 -- a sink over memory: its bytes, for how many there is room, and how many writes have failed
-pub record Held : Type 0 where
+pub record Collected : Type 0 where
   pub bytes : List ℕ
   pub room : ℕ
   pub failures : ℕ

@@ -71,9 +71,9 @@ pub struct BytesSink<A: Allocator> {
 impl<A: Allocator> Model for BytesSink<A> {
     ghost use Rattle.std.specs.Prelude.{◌≤◌};
     ghost use Rattle.std.specs.Vec.{vec_capacity};
-    ghost use Rattle.mst_devices.specs.Device.{Held};
+    ghost use Rattle.mst_devices.specs.Device.{Collected};
 
-    ghost Value = { Held };
+    ghost Value = { Collected };
 
     ghost view = { λ s. record { bytes = s.bytes.items; room = s.room; failures = s.failures } };
 

@@ -10,7 +10,7 @@ use Rattle.mst_key.specs.declared.history.Edit.{Edit}
 use Rattle.mst_key.specs.declared.history.Edit.TheVariants as edit
 use Rattle.mst_key.specs.declared.format.Format.{Format}
 use Rattle.std.specs.List.{AllByRecursion}
-use Rattle.mst_key.specs.History.{edited, batched, Reply, had, reply, change_of, key_of, IsEdited, IsSmall, singles, History, changed, changed_format, format_after, IsAbout, IsMigration, LeavesAlone, KeepsFormat, after_from, after, events_of, IsPrefix, IsWithinLimits, IsPossible}
+use Rattle.mst_key.specs.History.{edited, batched, had, reply, change_of, key_of, IsEdited, IsSmall, singles, History, changed, changed_format, format_after, IsAbout, IsMigration, LeavesAlone, KeepsFormat, after_from, after, events_of, IsPrefix, IsWithinLimits, IsPossible}
 use Rattle.mst_key.specs.Map.{Pair, IsMap, map_get, put, remove}
 use Rattle.mst_key.proofs.Alls.{alls-append, alls-front}
 use Rattle.mst_key.proofs.MapLaws.{IsMap-nil, IsMap-put, IsMap-remove, map_get-put_same, map_get-remove_same, map_get-put_other, map_get-remove_other}

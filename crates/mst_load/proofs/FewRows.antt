@@ -8,7 +8,7 @@ use Rattle.mst_key.specs.Map.{Pair}
 use Rattle.mst_node.specs.Tree.{Tree, empty, node, Entries, last, entry, entry_count, pairs, entries_pairs, tree, IsMst, IsMstEntries}
 use Rattle.mst_node.specs.Cost.{subtrees, entries_subtrees, is_subtree, new_rows}
 use Rattle.mst_node.specs.Stays.{tree_at, is_kept, has_stayed, rows_first_at, held_below, held}
-use Rattle.mst_node.proofs.HeldLaws.{weigh, weigh_is, weigh-append}
+use Rattle.mst_node.proofs.Weights.{weigh, weigh_is, weigh-append}
 use Rattle.mst_node.proofs.UniqueTree.{pairs_tree, tree_mst}
 
 -- ---- one tree

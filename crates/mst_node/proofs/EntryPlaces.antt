@@ -21,28 +21,29 @@ entries-count format (suc n) bytes p h =
     ∙ ap suc (entries-count format n r1.0.1 r2.0 r2.1)
 
 -- an entry is read after those before it
-pub record Place (format : Format) (bytes : List ℕ) (i : ℕ) (es : List FlatEntry) : Type 0 where
-  pub rest : List ℕ
-  pub entry : FlatEntry × List ℕ
-  pub behind : behind_at format i bytes ≡ Some rest
-  pub reading : entry_at format rest ≡ Some entry
-  pub place : slice_get es i ≡ Some entry.0
+pub record EntryPlace (format : Format) (bytes : List ℕ) (i : ℕ) (es : List FlatEntry) : Type 0
+  where
+    pub rest : List ℕ
+    pub entry : FlatEntry × List ℕ
+    pub behind : behind_at format i bytes ≡ Some rest
+    pub reading : entry_at format rest ≡ Some entry
+    pub place : slice_get es i ≡ Some entry.0
 
 pub place : (format : Format) (n i : ℕ) (bytes : List ℕ) (p : List FlatEntry × List ℕ)
-    → entries_at format n bytes ≡ Some p → i < n → Place format bytes i p.0
+    → entries_at format n bytes ≡ Some p → i < n → EntryPlace format bytes i p.0
 unfolding entries_at behind_at
 place format zero i bytes p h l = absurd (omega arith)
 place format (suc n) zero bytes p h l =
     let r1 = bind_ok (entry_at format bytes) _ p h in
     let r2 = bind_ok (entries_at format n r1.0.1) _ p r1.2 in
-    let P : List FlatEntry × List ℕ → Type 0 = λ q. Place format bytes 0 q.0 in
+    let P : List FlatEntry × List ℕ → Type 0 = λ q. EntryPlace format bytes 0 q.0 in
     subst P (some_same (r1.0.0 ∷ r2.0.0, r2.0.1) p r2.2)
     (record { rest = bytes; entry = r1.0; behind = refl; reading = r1.1; place = refl })
 place format (suc n) (suc i) bytes p h l =
     let r1 = bind_ok (entry_at format bytes) _ p h in
     let r2 = bind_ok (entries_at format n r1.0.1) _ p r1.2 in
     let there = place format n i r1.0.1 r2.0 r2.1 (omega arith) in
-    let P : List FlatEntry × List ℕ → Type 0 = λ q. Place format bytes (suc i) q.0 in
+    let P : List FlatEntry × List ℕ → Type 0 = λ q. EntryPlace format bytes (suc i) q.0 in
     let behind : behind_at format (suc i) bytes ≡ Some there.rest =
     ap (λ (r : Option (FlatEntry × List ℕ)). r >>= λ e. behind_at format i e.1) r1.1
     ∙ there.behind in
@@ -128,11 +129,11 @@ seen-count format n bytes es some e = sym (ap length (sym e) ∙ (parts format n
 
 pub seen-place : (format : Format) (n i : ℕ) (bytes : List ℕ) (es : List FlatEntry)
     → IsSome (body_at format n bytes) → (body_or_empty format n bytes).0 ≡ es → i < length es
-    → Place format bytes i es
+    → EntryPlace format bytes i es
 seen-place format n i bytes es some e l =
     let b = parts format n bytes some in
     let within : i < n = omega (arith, seen-count format n bytes es some e) in
-    subst (Place format bytes i) e
+    subst (EntryPlace format bytes i) e
     (place format n i bytes ((body_or_empty format n bytes).0, b.rest) b.entries within)
 
 pub none-some : {A : Type 0} (r : Option A) (x : A) → r ≡ None → r ≡ Some x → ⊥

@@ -5,7 +5,7 @@ use Rattle.mst_key.specs.declared.format.Format.{Format}
 use Rattle.mst_key.specs.Map.{Pair}
 use Rattle.mst_node.specs.Tree.{Tree, empty, node, Entries, last, entry, entry_count, pairs, entries_pairs, tree, IsMst, IsMstEntries}
 use Rattle.mst_node.specs.Cost.{subtrees, entries_subtrees, same_format, same_tree, same_entries, is_subtree, new_rows}
-use Rattle.mst_node.proofs.HeldLaws.{weigh, weigh_is, weigh-append}
+use Rattle.mst_node.proofs.Weights.{weigh, weigh_is, weigh-append}
 use Rattle.mst_node.proofs.UniqueTree.{pairs_tree, tree_mst}
 
 none_either : (p : Tree → Bool) (xs ys : List Tree) → list_any p xs ≡ false → list_any p ys ≡ false

@@ -1,84 +1,20 @@
 -- What kept versions hold: the last alone, the same versions in another list, and more versions.
-use Rattle.std.proofs.Common.{◌≡◌, ℕ, zero, suc, ◌+◌, ◌<◌, ◌≤◌, ◌==◌, nat_lt, Bool, true, false, not, cond, ◌&&◌, ◌||◌, ◌⊎◌, inl, inr, List, [], ◌∷◌, ◌++◌, length, length-append, take, filter, refl, sym, ap, subst, ◌∙◌, arith, true≢false}
+use Rattle.std.proofs.Common.{◌≡◌, ℕ, zero, suc, ◌+◌, ◌<◌, ◌≤◌, ◌==◌, nat_lt, Bool, true, false, not, cond, ◌&&◌, ◌||◌, inl, inr, List, [], ◌∷◌, length, take, filter, refl, sym, ap, subst, ◌∙◌, arith, true≢false}
 use Rattle.std.specs.Prelude.{◌↔◌, Contains}
-use Rattle.std.specs.List.{list_any, sum_by}
+use Rattle.std.specs.List.{sum_by}
 use Rattle.std.proofs.lemmas.Bool.Decides.{nat_tests}
 use Rattle.std.proofs.lemmas.List.{take_all}
-use Rattle.std.proofs.lemmas.List.Sums.{sum_by-cons}
 use Rattle.mst_key.specs.declared.format.Format.{Format}
 use Rattle.mst_key.specs.History.{History, after, format_after}
 use Rattle.mst_key.specs.Map.{IsAscending}
 use Rattle.mst_key.proofs.Ascending.{IsAscending-after}
-use Rattle.mst_key.proofs.SpanLaws.{contains-cases, contains-nothing, contains-first, contains-later}
-use Rattle.mst_node.specs.Tree.{Tree, empty, node, Entries, last, entry, entry_count, pairs, entries_pairs, tree}
-use Rattle.mst_node.specs.Cost.{subtrees, entries_subtrees, same_tree, is_subtree, top_entries}
+use Rattle.mst_node.specs.Tree.{Tree, pairs, tree}
+use Rattle.mst_node.specs.Cost.{subtrees, is_subtree, top_entries}
 use Rattle.mst_node.specs.Stays.{tree_at, lasts, is_kept, has_stayed, rows_first_at, held_below, held}
 use Rattle.mst_node.proofs.UniqueTree.{pairs_tree, tree_mst}
-use Rattle.mst_node.proofs.SameTrees.{tree_from_same}
-use Rattle.mst_node.proofs.Distinct.{bit, copies, once}
-
--- ---- bools
-
-abbrev SameWhere : Bool → Bool → Type 0
-SameWhere a b = (a ≡ true → b ≡ true) × (b ≡ true → a ≡ true)
-
-same_bool : (a b : Bool) → SameWhere a b → a ≡ b
-same_bool true true is = refl
-same_bool true false is = sym (is.0 refl)
-same_bool false true is = is.1 refl
-same_bool false false is = refl
-
-and_true : (a b : Bool) → (a && b) ≡ true → (a ≡ true) × (b ≡ true)
-and_true true b e = (refl, e)
-and_true false b e = absurd (true≢false (sym e))
-
-true_and : (a b : Bool) → a ≡ true → b ≡ true → (a && b) ≡ true
-true_and true b e f = f
-true_and false b e f = e
-
-or_true : (a b : Bool) → (a || b) ≡ true → (a ≡ true) ⊎ (b ≡ true)
-or_true true b e = inl refl
-or_true false b e = inr e
-
-true_or : (a b : Bool) → (a ≡ true) ⊎ (b ≡ true) → (a || b) ≡ true
-true_or true b e = refl
-true_or false b (inl e) = absurd (true≢false (sym e))
-true_or false b (inr e) = e
-
-up_to : (u w : ℕ) → u ≤ w → (u ≡ w) ⊎ (u < w)
-up_to u w le = go (u == w) refl
-  where
-    go : (b : Bool) → (u == w) ≡ b → (u ≡ w) ⊎ (u < w)
-    go true e = inl (grind (arith, nat_tests, e))
-    go false e = let other : u ≡ w → ⊥ = grind (arith, nat_tests, e) in
-        inr (omega (arith, le, other))
-
--- ---- lists of versions
-
-any_in : (p : ℕ → Bool) (live : List ℕ) → list_any p live ≡ true → (v : ℕ) × Contains live v
-    × (p v ≡ true)
-any_in p [] e = absurd (true≢false (sym e))
-any_in p (u ∷ live) e = elim (or_true (p u) (list_any p live) e) [
-  | inl is ↦ (u, contains-first u live u refl, is)
-  | inr is ↦ let more = any_in p live is in (more.0, contains-later u live more.0 more.1, more.2)
-]
-
-in_any : (p : ℕ → Bool) (live : List ℕ) (v : ℕ) → Contains live v → p v ≡ true → list_any p live
-    ≡ true
-in_any p [] v has is = absurd (contains-nothing v has)
-in_any p (u ∷ live) v has is = true_or (p u) (list_any p live) (elim (contains-cases u live v has) [
-  | inl same ↦ inl (ap p same ∙ is)
-  | inr later ↦ inr (in_any p live v later is)
-])
-
-any_more : (p : ℕ → Bool) (one other : List ℕ) → ((v : ℕ) → Contains one v → Contains other v)
-    → list_any p one ≡ true → list_any p other ≡ true
-any_more p one other more e = let is = any_in p one e in in_any p other is.0 (more is.0 is.1) is.2
-
-any_same : (p : ℕ → Bool) (one other : List ℕ) → ((v : ℕ) → Contains one v ↔ Contains other v)
-    → list_any p one ≡ list_any p other
-any_same p one other same = same_bool (list_any p one) (list_any p other)
-    (any_more p one other (λ v. (same v).0), any_more p other one (λ v. (same v).1))
+use Rattle.mst_node.proofs.Distinct.{copies, once}
+use Rattle.mst_node.proofs.VersionLists.{and_true, true_and, or_true, true_or, up_to, any_in, in_any, any_more, any_same, and_true_same, not_from, from_not}
+use Rattle.mst_node.proofs.Weights.{weigh, weigh_is, all, weigh_all, weigh_none, weigh_weaker, weigh_split, weigh_common}
 
 -- ---- the same versions
 
@@ -99,52 +35,7 @@ module _ (format : Format) (h : History) where
         let before = held_same w in
         λ i. cond (kept i) (first i) 0 + before i
 
--- ---- rows of some of the nodes of a list
-
-abbrev pub weigh : (Tree → Bool) → List Tree → ℕ
-weigh p [] = 0
-weigh p (t ∷ ts) = cond (p t) (top_entries t + 1) 0 + weigh p ts
-
-pub weigh_is : (p : Tree → Bool) (ts : List Tree) → sum_by (λ t. top_entries t + 1) (filter p ts)
-    ≡ weigh p ts
-weigh_is p [] = refl
-weigh_is p (t ∷ ts) = go (p t) (weigh_is p ts)
-  where
-    go : (b : Bool) → sum_by (λ (u : Tree). top_entries u + 1) (filter p ts) ≡ weigh p ts
-        → sum_by (λ (u : Tree). top_entries u + 1) (cond b (t ∷ filter p ts) (filter p ts)) ≡ cond b
-        (top_entries t + 1) 0 + weigh p ts
-    go true e = sum_by-cons (λ (u : Tree). top_entries u + 1) t (filter p ts)
-        ∙ ap (λ n. top_entries t + 1 + n) e
-    go false e = omega (arith, e)
-
-pub weigh-append : (p : Tree → Bool) (xs ys : List Tree) → weigh p (xs ++ ys) ≡ weigh p xs + weigh p
-    ys
-weigh-append p [] ys = omega arith
-weigh-append p (x ∷ xs) ys = omega (arith, weigh-append p xs ys)
-
 -- ---- the last version alone
-
-abbrev all : Tree → Bool
-all t = true
-
-mutual
-  weigh_all : (t : Tree) → weigh all (subtrees t) ≡ length (pairs t) + length (subtrees t)
-  weigh_all empty = refl
-  weigh_all (node g l es) = omega (arith, weigh_below es)
-
-  weigh_below : (es : Entries) → entry_count es + weigh all (entries_subtrees es) ≡ length
-      (entries_pairs es) + length (entries_subtrees es)
-  weigh_below (last child) = omega (arith, weigh_all child)
-  weigh_below (entry child key value rest) =
-      omega (
-        arith,
-        weigh_all child,
-        weigh_below rest,
-        weigh-append all (subtrees child)
-            (entries_subtrees rest),
-        length-append (pairs child) ((key, value) ∷ entries_pairs rest),
-        length-append (subtrees child) (entries_subtrees rest),
-      )
 
 module _ (format : Format) (h : History) where
   none_below : (n w : ℕ) → w ≤ n → held_below format h (n ∷ []) w ≡ 0
@@ -188,109 +79,6 @@ module _ (format : Format) (h : History) where
       omega (arith, next, kept, first, below, same)
 
 -- ---- more versions
-
-weigh_none : (ts : List Tree) → weigh (λ t. false) ts ≡ 0
-weigh_none [] = refl
-weigh_none (t ∷ ts) = omega (arith, weigh_none ts)
-
-weigh_weaker : (p q : Tree → Bool) → ((t : Tree) → p t ≡ true → q t ≡ true) → (ts : List Tree)
-    → weigh p ts ≤ weigh q ts
-weigh_weaker p q weaker [] = omega arith
-weigh_weaker p q weaker (t ∷ ts) = go (p t) (q t) (weaker t) (weigh_weaker p q weaker ts)
-  where
-    go : (a b : Bool) → (a ≡ true → b ≡ true) → weigh p ts ≤ weigh q ts → cond a (top_entries t + 1)
-        0 + weigh p ts ≤ cond b (top_entries t + 1) 0 + weigh q ts
-    go true true is le = omega (arith, le)
-    go true false is le = absurd (true≢false (sym (is refl)))
-    go false true is le = omega (arith, le)
-    go false false is le = omega (arith, le)
-
--- those that one list leaves out are left out by the other, or late
-weigh_split : (s late : Tree → Bool) (ts : List Tree) → weigh (λ t. not (s t)) ts ≤ weigh
-    (λ t. not (late t)) ts + weigh (λ t. late t && not (s t)) ts
-weigh_split s late [] = omega arith
-weigh_split s late (t ∷ ts) = go (s t) (late t) (weigh_split s late ts)
-  where
-    go : (a b : Bool) → weigh (λ t. not (s t)) ts ≤ weigh (λ t. not (late t)) ts + weigh
-        (λ t. late t && not (s t)) ts
-        → cond (not a) (top_entries t + 1) 0 + weigh (λ t. not (s t)) ts ≤ cond (not b)
-        (top_entries t + 1) 0 + weigh (λ t. not (late t)) ts
-        + (cond (b && not a) (top_entries t + 1) 0 + weigh (λ t. late t && not (s t)) ts)
-    go true true le = omega (arith, le)
-    go true false le = omega (arith, le)
-    go false true le = omega (arith, le)
-    go false false le = omega (arith, le)
-
-weigh_either : (a b q : Tree → Bool) (ts : List Tree) → weigh (λ t. (a t || b t) && q t) ts ≤ weigh
-    (λ t. a t && q t) ts + weigh (λ t. b t && q t) ts
-weigh_either a b q [] = omega arith
-weigh_either a b q (t ∷ ts) = go (a t) (b t) (q t) (weigh_either a b q ts)
-  where
-    go : (x y z : Bool) → weigh (λ t. (a t || b t) && q t) ts ≤ weigh (λ t. a t && q t) ts + weigh
-        (λ t. b t && q t) ts
-        → cond ((x || y) && z) (top_entries t + 1) 0 + weigh (λ t. (a t || b t) && q t) ts ≤ cond
-        (x && z) (top_entries t + 1) 0 + weigh (λ t. a t && q t) ts
-        + (cond (y && z) (top_entries t + 1) 0 + weigh (λ t. b t && q t) ts)
-    go true true true le = omega (arith, le)
-    go true false true le = omega (arith, le)
-    go false true true le = omega (arith, le)
-    go false false true le = omega (arith, le)
-    go true true false le = omega (arith, le)
-    go true false false le = omega (arith, le)
-    go false true false le = omega (arith, le)
-    go false false false le = omega (arith, le)
-
-module _ (q : Tree → Bool) where
-  no_copy : (u : Tree) (ts : List Tree) → copies u ts ≡ 0 → weigh (λ t. same_tree t u && q t) ts ≡ 0
-  no_copy u [] none = refl
-  no_copy u (t ∷ ts) none = go (same_tree t u) none (λ z. no_copy u ts z)
-    where
-      go : (b : Bool) → bit b + copies u ts ≡ 0
-          → (copies u ts ≡ 0 → weigh (λ t. same_tree t u && q t) ts ≡ 0) → cond (b && q t)
-          (top_entries t + 1) 0 + weigh (λ t. same_tree t u && q t) ts ≡ 0
-      go true z rest = absurd (omega (arith, z))
-      go false z rest = omega (arith, rest (omega (arith, z)))
-
-  one_copy : (u : Tree) (ts : List Tree) → copies u ts ≤ 1 → weigh (λ t. same_tree t u && q t) ts
-      ≤ cond (q u) (top_entries u + 1) 0
-  one_copy u [] few = omega arith
-  one_copy u (t ∷ ts) few = go (same_tree t u) refl few (λ l. one_copy u ts l)
-    where
-      go : (b : Bool) → same_tree t u ≡ b → bit b + copies u ts ≤ 1
-          → (copies u ts ≤ 1 → weigh (λ t. same_tree t u && q t) ts ≤ cond (q u) (top_entries u + 1)
-          0) → cond (b && q t) (top_entries t + 1) 0 + weigh (λ t. same_tree t u && q t) ts ≤ cond
-          (q u) (top_entries u + 1) 0
-      go true e l rest =
-          let same : cond (q t) (top_entries t + 1) 0 ≡ cond (q u) (top_entries u + 1) 0 =
-          ap (λ (v : Tree). cond (q v) (top_entries v + 1) 0) (tree_from_same t u e) in
-          omega (arith, same, no_copy u ts (omega (arith, l)))
-      go false e l rest = omega (arith, rest (omega (arith, l)))
-
-  -- of trees of which none stands twice, those that stand in another list weigh no more than they
-  -- do there
-  weigh_common : (xs ys : List Tree) → ((u : Tree) → copies u xs ≤ 1)
-      → weigh (λ t. list_any (same_tree t) ys && q t) xs ≤ weigh q ys
-  weigh_common xs [] few = omega (arith, weigh_none xs)
-  weigh_common xs (y ∷ ys) few =
-      omega (
-        arith,
-        one_copy y xs (few y),
-        weigh_common xs ys few,
-        weigh_either (λ t. same_tree t y)
-            (λ t. list_any (same_tree t) ys) q xs,
-      )
-
-and_true_same : (a : Bool) → (a && true) ≡ a
-and_true_same true = refl
-and_true_same false = refl
-
-not_from : (b : Bool) → (b ≡ true → ⊥) → not b ≡ true
-not_from true other = absurd (other refl)
-not_from false other = refl
-
-from_not : (b : Bool) → not b ≡ true → b ≡ true → ⊥
-from_not true is also = true≢false (sym is)
-from_not false is also = true≢false (sym also)
 
 module _ (format : Format) (h : History) where
   abbrev stands : ℕ → Tree → Bool

@@ -3,19 +3,19 @@ use Rattle.std.proofs.Common.{◌≡◌, ℕ, List, ◌∷◌, Option, Some, sym
 use Rattle.std.specs.declared.cmp.Ordering.{Ordering}
 use Rattle.mst_key.specs.Map.{key_cmp}
 use Rattle.mst_node.specs.Text.{FlatEntry}
-use Rattle.mst_node.specs.declared.place.Place.{Place}
-use Rattle.mst_node.specs.declared.place.Place.TheVariants.{Held, Gap}
+use Rattle.mst_node.specs.declared.key_place.KeyPlace.{KeyPlace}
+use Rattle.mst_node.specs.declared.key_place.KeyPlace.TheVariants.{Found, Gap}
 use Rattle.mst_node.specs.Trail.{by_order}
-use Rattle.mst_node.specs.Place.{place_among}
+use Rattle.mst_node.specs.KeyPlace.{place_among}
 
 -- what the order of the key to the next entry's key chooses
 abbrev pub chosen : List ℕ → Option (List ℕ) → Option (List ℕ) → FlatEntry → List FlatEntry
-    → Option (List ℕ) → List ℕ → Ordering → Place
+    → Option (List ℕ) → List ℕ → Ordering → KeyPlace
 chosen k low high e es tail at r = by_order r (Gap e.child (record { low = low; high = Some at }))
-    (Held e.held) (place_among k (Some at) high es tail)
+    (Found e.held) (place_among k (Some at) high es tail)
 
 pub place_step : (k : List ℕ) (low high : Option (List ℕ)) (all es : List FlatEntry) (e : FlatEntry)
-    (tail : Option (List ℕ)) (at : List ℕ) (r : Ordering) (p : Place)
+    (tail : Option (List ℕ)) (at : List ℕ) (r : Ordering) (p : KeyPlace)
     → all ≡ e ∷ es → at ≡ e.key → r ≡ key_cmp k at → place_among k low high all tail ≡ p
     → chosen k low high e es tail at r ≡ p
 place_step k low high all es e tail at r p is at_is order whole =

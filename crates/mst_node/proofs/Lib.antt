@@ -26,5 +26,7 @@ mod Empty
 pub mod SameTrees
 pub mod InTrees
 pub mod Distinct
+mod VersionLists
+pub mod Weights
 pub mod HeldLaws
 pub mod FormatsShareNothing

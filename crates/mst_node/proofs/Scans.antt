@@ -13,13 +13,13 @@ use Rattle.mst_key.specs.Map.{key_cmp}
 use Rattle.mst_node.specs.Text.{FlatEntry, FlatNode, version}
 use Rattle.mst_node.specs.Gaps.{IsBetween}
 use Rattle.mst_node.specs.Grammar.{KeysFit}
-use Rattle.mst_node.specs.Place.{place_among, place_of, LiesWithin}
+use Rattle.mst_node.specs.KeyPlace.{place_among, place_of, LiesWithin}
 use Rattle.mst_node.specs.Reading.{◌>>=◌, child_at, entry_at, entries_at, whole, body_at, node_of, node_at}
 use Rattle.mst_node.specs.Scan.{Stopped, Passing, start, stop_at, pass_at, scan_at, body_scan_at, text_scan_at, first_at, EndsLieIn, place_by}
 use Rattle.mst_node.specs.Trail.{by_order}
-use Rattle.mst_node.specs.declared.place.Place.{Place}
-use Rattle.mst_node.specs.declared.place.Place.TheVariants.{Held, Gap}
-use Rattle.mst_node.specs.declared.place.Span.{Span}
+use Rattle.mst_node.specs.declared.key_place.KeyPlace.{KeyPlace}
+use Rattle.mst_node.specs.declared.key_place.KeyPlace.TheVariants.{Found, Gap}
+use Rattle.mst_node.specs.declared.key_place.Span.{Span}
 use Rattle.mst_node.proofs.FittingKeys.{FitsFrom, fits-all}
 use Rattle.mst_node.proofs.EntryPlaces.{entries-count, none-some}
 use Rattle.mst_node.proofs.ReadIsSpelled.{bind_ok, guard_ok, some_same}
@@ -36,10 +36,10 @@ passing-stopped k p s (e ∷ es) h =
 
 -- what the order to the next entry's key chooses
 abbrev chosen : List ℕ → Option (List ℕ) → Span → FlatEntry → List FlatEntry → Option (List ℕ)
-    → Ordering → Place
+    → Ordering → KeyPlace
 chosen k last span e es tail r =
     by_order r (Gap e.child (record { low = option_or last span.low; high = Some e.key }))
-    (Held e.held) (place_among k (Some e.key) span.high es tail)
+    (Found e.held) (place_among k (Some e.key) span.high es tail)
 
 passing-place : (k : List ℕ) (p : Passing) (es : List FlatEntry) (span : Span)
     (tail : Option (List ℕ)) → p.stop ≡ None → place_by (passing k p es).stop (passing k p es).last

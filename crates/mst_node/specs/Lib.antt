@@ -11,7 +11,7 @@ pub mod Frame
 pub mod Trail
 pub mod Cost
 pub mod Stays
-pub mod Place
+pub mod KeyPlace
 pub mod Scan
 pub mod Found
 pub mod Collision

@@ -16,9 +16,9 @@ use Rattle.mst_node.specs.Seen.{seen}
 use Rattle.mst_node.specs.declared.finding.Coming.{Coming}
 use Rattle.mst_node.specs.declared.finding.Passed.{Passed}
 use Rattle.mst_node.specs.declared.finding.Stop.{Stop}
-use Rattle.mst_node.specs.declared.place.Place.{Place}
-use Rattle.mst_node.specs.declared.place.Place.TheVariants.{Held, Gap}
-use Rattle.mst_node.specs.declared.place.Span.{Span}
+use Rattle.mst_node.specs.declared.key_place.KeyPlace.{KeyPlace}
+use Rattle.mst_node.specs.declared.key_place.KeyPlace.TheVariants.{Found, Gap}
+use Rattle.mst_node.specs.declared.key_place.Span.{Span}
 
 -- the entry at which a search stops, the key before it, and whether the entry has the sought key
 pub record Stopped : Type 0 where
@@ -116,13 +116,13 @@ pub record EndsLieIn (span : Span) (first : Option (List ℕ)) (p : Passing) : T
   pub below : IfSome p.last (λ k. IfSome span.high (λ b. key_cmp k b ≡ Less))
 
 -- where the search stopped, above this bound
-abbrev pub stop_place : Stopped → Option (List ℕ) → Place
+abbrev pub stop_place : Stopped → Option (List ℕ) → KeyPlace
 stop_place s low =
-    if s.here then Held s.entry.held
+    if s.here then Found s.entry.held
     else Gap s.entry.child (record { low = option_or s.low low; high = Some s.entry.key })
 
 -- where the search ended, in a span and before this last child
-abbrev pub place_by : Option Stopped → Option (List ℕ) → Span → Option (List ℕ) → Place
+abbrev pub place_by : Option Stopped → Option (List ℕ) → Span → Option (List ℕ) → KeyPlace
 place_by None last span tail =
     Gap tail (record { low = option_or last span.low; high = span.high })
 place_by (Some s) last span tail = stop_place s span.low

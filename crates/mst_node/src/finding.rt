@@ -11,8 +11,8 @@ ghost use Rattle.mst_node.specs.Found.{IsFound};
 ghost use Rattle.mst_node.specs.Reading.{Gives};
 ghost use Rattle.mst_node.specs.Scan.{seen_passed, seen_stop, start, key_before, first_at, scan_at, scan_from, body_scan_at, text_scan_at, EndsLieIn, Halts, stop_place, place_by, PassedFits, StopFits};
 
+use crate::key_place::{KeyPlace, Span};
 use crate::order::comes_before;
-use crate::place::{Place, Span};
 use crate::reading::{EntryBytes, child_of, entry_of};
 use crate::sinks::format_byte;
 use mst_key::{Format, Key, Value, layer_of};
@@ -25,7 +25,7 @@ pub struct Finding {
     /// Whether all keys of the node lie in the span that was given.
     pub within: bool,
     /// Where the key lies.
-    pub place: Place,
+    pub place: KeyPlace,
 }
 
 /// The entry at which a search stops, the key before it, and whether the entry has the sought key.
@@ -96,13 +96,13 @@ fn is_below(key: Option<&[u8]>, high: &Option<Key>) -> bool
 
 impl<'a> Stop<'a> {
     /// Where the search stopped, above this bound.
-    fn place(self, low: Option<Key>) -> Place
+    fn place(self, low: Option<Key>) -> KeyPlace
         requires limits { StopFits (seen_stop self) }
         ensures place { result ≡ stop_place (seen_stop self.entry) low }
     {
         if self.here {
             match Value::new(self.entry.value) {
-                Ok(value) => Place::Held(value),
+                Ok(value) => KeyPlace::Found(value),
                 Err(_) => unreachable!(),
             }
         } else {
@@ -110,7 +110,7 @@ impl<'a> Stop<'a> {
             let high = bound_of(Some(self.entry.key), None);
             let child = self.entry.child.copied();
             let span = Span { low, high };
-            Place::Gap { child, span }
+            KeyPlace::Gap { child, span }
         }
     }
 }
@@ -126,7 +126,7 @@ impl<'a> Passed<'a> {
     }
 
     /// Where the search ended, in a span and before this last child.
-    fn place(self, span: Span, tail: Option<&[u8; 32]>) -> Place
+    fn place(self, span: Span, tail: Option<&[u8; 32]>) -> KeyPlace
         requires limits { PassedFits (seen_passed self) }
         ensures place { result ≡ place_by (seen_passed self.entry).stop
             (seen_passed self.entry).last span (option_copied tail.entry) }
@@ -138,7 +138,7 @@ impl<'a> Passed<'a> {
                 let high = span.high;
                 let child = tail.copied();
                 let span = Span { low, high };
-                Place::Gap { child, span }
+                KeyPlace::Gap { child, span }
             }
         }
     }

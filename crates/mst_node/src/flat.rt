@@ -8,13 +8,13 @@ ghost use Rattle.mst_key.specs.Map.{key_cmp};
 ghost use Rattle.mst_node.specs.Text.{child_before};
 ghost use Rattle.mst_node.specs.Grammar.{KeysFit};
 ghost use Rattle.mst_node.specs.Reading.{Gives, node_at, body_at};
-ghost use Rattle.mst_node.specs.Place.{place_of, LiesWithin};
+ghost use Rattle.mst_node.specs.KeyPlace.{place_of, LiesWithin};
 ghost use Rattle.mst_node.specs.Seen.{seen};
 ghost use Rattle.mst_node.specs.Held.{held_as, HasSize};
 
 use crate::held::Held;
+use crate::key_place::{KeyPlace, Span};
 use crate::order::comes_before;
-use crate::place::{Place, Span};
 use crate::reading::{EntryBytes, behind, child_of, entry_of};
 use crate::sinks::format_byte;
 use mst_key::{Format, Key, Value, layer_of};
@@ -234,7 +234,7 @@ impl<'a> Flat<'a> {
 
     /// Where the key lies in the node, whose span is given. The entries are gone over once, up to
     /// the place, and no key is hashed.
-    pub fn locate(&self, key: &Key, span: Span) -> Place
+    pub fn locate(&self, key: &Key, span: Span) -> KeyPlace
         ensures place { result ≡ place_of key.now span self.now }
     {
         let Span { mut low, high } = span;
@@ -253,15 +253,15 @@ impl<'a> Flat<'a> {
                         high: Some(at),
                     };
                     let child = entry.child.copied();
-                    return Place::Gap { child, span };
+                    return KeyPlace::Gap { child, span };
                 }
-                Ordering::Equal => return Place::Held(value),
+                Ordering::Equal => return KeyPlace::Found(value),
                 Ordering::Greater => low = Some(at),
             }
             rest = after;
         }
         let child = self.tail().copied();
         let span = Span { low, high };
-        Place::Gap { child, span }
+        KeyPlace::Gap { child, span }
     }
 }

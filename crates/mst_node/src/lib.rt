@@ -35,11 +35,11 @@ mod framing;
 mod grammar;
 mod hashing;
 mod held;
+mod key_place;
 mod laws;
 mod making;
 mod node;
 mod order;
-mod place;
 mod reading;
 mod releasing;
 mod root;
@@ -53,13 +53,13 @@ pub use framing::top_text;
 pub use grammar::{NodeFault, read_text, read_text_in};
 pub use hashing::{digest, empty_digest};
 pub use held::Held;
+pub use key_place::{KeyPlace, Span};
 pub use laws::{
     collision_of_two, held_laws, one_text, one_tree, order_of_tree, text_by_grammar, tree_by_gaps,
 };
 pub use making::{build, build_in};
 pub use node::{Entry, Node};
 pub use order::{ascending, is_map};
-pub use place::{Place, Span};
 pub use releasing::release;
 pub use root::{root_of, root_of_in};
 pub use sinks::{TextBuffer, TextSink, format_byte, take_entry};

@@ -1,5 +1,5 @@
 //! The program, over a source and two sinks.
-ghost use Rattle.std.specs.Prelude.{◌≡◌, ◌<◌, ◌-◌, ◌+◌, ◌^◌, ◌↔◌, ◌⊎◌, OnOk, IfOk, IfErr, IsErrOf, [], Some, None, true, false};
+ghost use Rattle.std.specs.Prelude.{◌≡◌, ◌<◌, ◌-◌, ◌+◌, ◌^◌, ◌⊎◌, OnOk, IfOk, IfErr, IsErrOf, Some, None, true, false};
 ghost use Rattle.mst_command.specs.Programs.{RanScript, RanSharded, RanReplay, RanVerify, Helped, Broke, Comes};
 ghost use Rattle.mst_command.specs.Loading.{IsLoadOf, RanLoad, asks_load};
 ghost use Rattle.mst_command.specs.Commanding.{AsksFor, IsDevice, NamesShape, Untouched, Unread, asks_replay, asks_verify, splits_in};

@@ -10,7 +10,7 @@ use Rattle.mst_key.specs.Bytes.{IsBytes}
 use Rattle.mst_node.specs.Text.{FlatNode, spelling, digest_of, version}
 use Rattle.mst_node.specs.Grammar.{IsFlatNode}
 use Rattle.mst_node.specs.Trail.{framed, framing}
-use Rattle.mst_node.specs.Place.{place_of}
+use Rattle.mst_node.specs.KeyPlace.{place_of}
 use Rattle.mst_proof.specs.declared.fault.ProofFault.{ProofFault}
 use Rattle.mst_proof.specs.declared.fault.ProofFault.TheVariants.{OtherDigest, LayerNotBelow, KeyOutside, OtherValue}
 use Rattle.mst_proof.specs.declared.expected.Expected.{Expected}

@@ -11,7 +11,7 @@ use Rattle.mst_key.proofs.KeyOrder.{by_order, less_chain, greater_from_less, equ
 use Rattle.mst_node.specs.Tree.{Tree, empty, node, Entries, last, entry}
 use Rattle.mst_node.specs.Gaps.{LiesBetween, EntriesLieBetween}
 use Rattle.mst_node.specs.Trail.{by_order as chosen, nodes_met, met_in_gap}
-use Rattle.mst_node.specs.declared.place.Span.{Span}
+use Rattle.mst_node.specs.declared.key_place.Span.{Span}
 use Rattle.mst_proof.specs.Verdict.{is_inside}
 use Rattle.mst_proof.specs.Spans.{spans, spans_in}
 

@@ -8,9 +8,9 @@ use Rattle.mst_node.specs.Tree.{Tree, empty, node, Entries, last, entry, pairs, 
 use Rattle.mst_node.specs.Text.{FlatEntry, child_digest, flat_entries, flat, text, digest}
 use Rattle.mst_node.specs.Gaps.{IsBetween, LiesBetween, EntriesLieBetween}
 use Rattle.mst_node.specs.Trail.{nodes_met, met_in_gap}
-use Rattle.mst_node.specs.declared.place.Place.{Place}
-use Rattle.mst_node.specs.declared.place.Place.TheVariants.{Gap}
-use Rattle.mst_node.specs.declared.place.Span.{Span}
+use Rattle.mst_node.specs.declared.key_place.KeyPlace.{KeyPlace}
+use Rattle.mst_node.specs.declared.key_place.KeyPlace.TheVariants.{Gap}
+use Rattle.mst_node.specs.declared.key_place.Span.{Span}
 use Rattle.mst_node.proofs.ReadIsSpelled.{some_same}
 use Rattle.mst_node.proofs.MapTextsInGrammar.{flat_is}
 use Rattle.mst_proof.specs.declared.expected.Expected.{Expected}
@@ -87,7 +87,8 @@ gap_leads : (format : Format) (n l : ℕ) (k : List ℕ) (low high : Option (Lis
 gap_leads format n l k low high es next few small lies b =
     elim (falls format k low high l es small.mst.2 small.map) [
       | inl h ↦
-          let P : Place → Type 0 = λ p. Says (step_of l p) [] (looked format (entries_pairs es) k)
+          let P : KeyPlace → Type 0 =
+          λ p. Says (step_of l p) [] (looked format (entries_pairs es) k)
           (λ y. Leads k y [] (looked format (entries_pairs es) k)) in
           record {
             nodes = [];
@@ -101,7 +102,7 @@ gap_leads format n l k low high es next few small lies b =
           subst (λ (us : List Tree). AllBytes (map text us)) g.meets b in
           let child = child_leads format n l k g.child g.span next few g.under
           (small_child format k low high l es small g) (g.lies lies) bytes in
-          let Q : Place → Type 0 = λ p. Continues format k (step_of l p) (nodes_met k g.child)
+          let Q : KeyPlace → Type 0 = λ p. Continues format k (step_of l p) (nodes_met k g.child)
           (looked format (pairs g.child) k) in
           let R : List Tree → Type 0 =
           λ us. Continues format k (step_of l (place format k low high es))

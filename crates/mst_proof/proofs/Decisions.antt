@@ -16,8 +16,8 @@ use Rattle.mst_node.specs.Text.{FlatEntry, FlatNode, spelling}
 use Rattle.mst_node.specs.Grammar.{KeysFit, flat_pairs, IsFlatNode, InGrammar}
 use Rattle.mst_node.specs.Gaps.{IsBetween}
 use Rattle.mst_node.specs.Reading.{◌>>=◌, node_at}
-use Rattle.mst_node.specs.Place.{LiesWithin}
-use Rattle.mst_node.specs.declared.place.Span.{Span}
+use Rattle.mst_node.specs.KeyPlace.{LiesWithin}
+use Rattle.mst_node.specs.declared.key_place.Span.{Span}
 use Rattle.mst_node.proofs.ReadIsSpelled.{bind_ok, some_same}
 use Rattle.mst_node.proofs.GrammarIsRead.{read_in_grammar, grammar_read}
 use Rattle.mst_proof.specs.Verdict.{are_rising, do_fit, node_in, is_under, is_inside}

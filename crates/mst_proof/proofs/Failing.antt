@@ -16,10 +16,10 @@ use Rattle.std.proofs.lemmas.Slice.Eq.{bytes_eq-Decides}
 use Rattle.mst_key.specs.Bytes.{IsBytes}
 use Rattle.mst_node.specs.Text.{FlatNode, FlatEntry, spelling, digest_of, version}
 use Rattle.mst_node.specs.Grammar.{IsFlatNode}
-use Rattle.mst_node.specs.Place.{place_of}
+use Rattle.mst_node.specs.KeyPlace.{place_of}
 use Rattle.mst_node.specs.Trail.{answer_text}
-use Rattle.mst_node.specs.declared.place.Place.{Place}
-use Rattle.mst_node.specs.declared.place.Place.TheVariants.{Gap}
+use Rattle.mst_node.specs.declared.key_place.KeyPlace.{KeyPlace}
+use Rattle.mst_node.specs.declared.key_place.KeyPlace.TheVariants.{Gap}
 use Rattle.mst_proof.specs.declared.fault.ProofFault.{ProofFault}
 use Rattle.mst_proof.specs.declared.fault.ProofFault.TheVariants.{Version, CutShort, LeftOver, NoNode, OtherDigest, LayerNotBelow, KeyOutside, Unfinished, TextBehind, OtherValue}
 use Rattle.mst_proof.specs.declared.claim.Claim.{Claim}
@@ -164,7 +164,7 @@ texts_fault format k x (t ∷ ts) fault b (inr is) =
     (λ y. followed format k y ts)) (passed is.0 is.1.0 is.1.1 is.1.2 is.2)
     ∙ placed is.0 is.1.1 is.3 (λ y. texts_fault format k y ts fault b.1)
   where
-    Left : FlatNode → Place → Type 0
+    Left : FlatNode → KeyPlace → Type 0
     Left n p = by_step (step_of n.layer p) (answer_at_end ts) (λ y. followed format k y ts) ≡ Err
         fault
 

@@ -16,21 +16,22 @@ use Rattle.mst_node.specs.Tree.{Tree, empty, Entries, last, entry, pairs, entrie
 use Rattle.mst_node.specs.Text.{child_digest, flat_entries, tail_digest, held_of}
 use Rattle.mst_node.specs.Gaps.{LiesBetween, EntriesLieBetween}
 use Rattle.mst_node.specs.Trail.{by_order, nodes_met, met_in_gap}
-use Rattle.mst_node.specs.Place.{place_among}
-use Rattle.mst_node.specs.declared.place.Place.{Place}
-use Rattle.mst_node.specs.declared.place.Place.TheVariants.{Held, Gap}
-use Rattle.mst_node.specs.declared.place.Span.{Span}
+use Rattle.mst_node.specs.KeyPlace.{place_among}
+use Rattle.mst_node.specs.declared.key_place.KeyPlace.{KeyPlace}
+use Rattle.mst_node.specs.declared.key_place.KeyPlace.TheVariants.{Found, Gap}
+use Rattle.mst_node.specs.declared.key_place.Span.{Span}
 use Rattle.mst_node.proofs.TreeOrder.{all-front, split}
 
 -- the place of the key among the entries
-abbrev pub place : (format : Format) → List ℕ → Option (List ℕ) → Option (List ℕ) → Entries → Place
+abbrev pub place : (format : Format) → List ℕ → Option (List ℕ) → Option (List ℕ) → Entries
+    → KeyPlace
 place format k low high es = place_among k low high (flat_entries format es) (tail_digest es)
 
 -- an entry holds the key with the map's value
 pub record Holding (format : Format) (k : List ℕ) (low high : Option (List ℕ)) (es : Entries) : Type
     0 where
   pub value : List ℕ
-  pub placed : place format k low high es ≡ Held (held_of format value)
+  pub placed : place format k low high es ≡ Found (held_of format value)
   pub looks : map_get (entries_pairs es) k ≡ Some value
   pub entry : held_in k es ≡ Some value
   pub meets : met_in_gap k es ≡ []
@@ -74,10 +75,10 @@ round xs p ys is =
 
 -- what the order of the key to the entry's key chooses
 abbrev chosen : (format : Format) → List ℕ → Option (List ℕ) → Option (List ℕ) → Tree → List ℕ
-    → List ℕ → Entries → Ordering → Place
+    → List ℕ → Entries → Ordering → KeyPlace
 chosen format k low high child key value rest r =
     by_order r (Gap (child_digest child) (record { low = low; high = Some key }))
-    (Held (held_of format value)) (place format k (Some key) high rest)
+    (Found (held_of format value)) (place format k (Some key) high rest)
 
 falls_before : (format : Format) (k : List ℕ) (low high : Option (List ℕ)) (l : ℕ) (child : Tree)
     (key value : List ℕ) (rest : Entries) → IsMstEntries format l (entry child key value rest)

@@ -10,10 +10,10 @@ use Rattle.std.proofs.lemmas.Bool.Decides.{not_from_Decides}
 use Rattle.std.proofs.lemmas.Slice.Eq.{bytes_eq-Decides}
 use Rattle.mst_key.specs.Bytes.{IsBytes}
 use Rattle.mst_node.specs.Text.{FlatNode, FlatEntry, digest_of}
-use Rattle.mst_node.specs.Place.{place_of}
+use Rattle.mst_node.specs.KeyPlace.{place_of}
 use Rattle.mst_node.specs.Trail.{answer_text}
-use Rattle.mst_node.specs.declared.place.Place.{Place}
-use Rattle.mst_node.specs.declared.place.Place.TheVariants.{Gap}
+use Rattle.mst_node.specs.declared.key_place.KeyPlace.{KeyPlace}
+use Rattle.mst_node.specs.declared.key_place.KeyPlace.TheVariants.{Gap}
 use Rattle.mst_node.proofs.EntryPlaces.{none-some}
 use Rattle.mst_proof.specs.declared.fault.ProofFault.{ProofFault}
 use Rattle.mst_proof.specs.declared.fault.ProofFault.TheVariants.{NoNode, OtherDigest, LayerNotBelow, KeyOutside, Unfinished, TextBehind, OtherValue}
@@ -144,7 +144,7 @@ fail_at format k x (t ∷ ts) fault b e =
         ((y : Expected) → followed format k y ts ≡ Err fault → Follows format k y ts fault) → Next p
     placed n (inl h) flat left next =
         let f = ended_fault ts (Some h.entry.held) fault
-        (subst (λ (q : Place). Left (step_of n.layer q))
+        (subst (λ (q : KeyPlace). Left (step_of n.layer q))
         (held_place k x.span n h.before h.entry h.behind flat h.entries h.key) left) in
         inl (
           inl (
@@ -166,7 +166,7 @@ fail_at format k x (t ∷ ts) fault b e =
         let is : IsInGap n k g.before g.behind =
         record { entries = g.entries; lesser = g.lesser; greater = g.greater } in
         in_gap n g.before g.behind is (gap_child g.behind n.tail) refl
-        (subst (λ (q : Place). Left (step_of n.layer q))
+        (subst (λ (q : KeyPlace). Left (step_of n.layer q))
         (gap_place k x.span n g.before g.behind is) left) next
 
     at : (r : Result Step ProofFault) → step_at format k x t ≡ r

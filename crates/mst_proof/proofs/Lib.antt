@@ -11,6 +11,7 @@ pub mod Beside
 pub mod NoOther
 pub mod Named
 pub mod Walks
+pub mod WholeProofs
 pub mod Stepwise
 pub mod Nodewise
 pub mod Around

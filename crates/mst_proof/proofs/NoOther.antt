@@ -9,10 +9,10 @@ use Rattle.mst_key.specs.Bytes.{IsBytes}
 use Rattle.mst_key.specs.Map.{map_get}
 use Rattle.mst_node.specs.Tree.{Tree, empty, node, pairs, entries_pairs}
 use Rattle.mst_node.specs.Text.{FlatNode, digest_of, child_digest, held_of, text, digest}
-use Rattle.mst_node.specs.Place.{place_of}
-use Rattle.mst_node.specs.declared.place.Place.{Place}
-use Rattle.mst_node.specs.declared.place.Place.TheVariants.{Gap}
-use Rattle.mst_node.specs.declared.place.Span.{Span}
+use Rattle.mst_node.specs.KeyPlace.{place_of}
+use Rattle.mst_node.specs.declared.key_place.KeyPlace.{KeyPlace}
+use Rattle.mst_node.specs.declared.key_place.KeyPlace.TheVariants.{Gap}
+use Rattle.mst_node.specs.declared.key_place.Span.{Span}
 use Rattle.mst_proof.specs.declared.claim.Claim.{Claim}
 use Rattle.mst_proof.specs.declared.expected.Step.{Step}
 use Rattle.mst_proof.specs.declared.fault.ProofFault.{ProofFault}
@@ -134,7 +134,7 @@ no_other_same format claim k u ts (node f l es) b small is rest =
         ap (λ (m : FlatNode). step_of m.layer (place_of k x.span m)) (sym same) ∙ p.says in
         let Q : Step → Type 0 = λ s. by_step s (answer_at_end ts) (λ y. followed format k y ts)
         ≡ Ok f.0 in
-        let R : Place → Type 0 = λ q. by_step (step_of l q) (answer_at_end ts)
+        let R : KeyPlace → Type 0 = λ q. by_step (step_of l q) (answer_at_end ts)
         (λ y. followed format k y ts) ≡ Ok f.0 in
         let S : Tree → Type 0 = λ c. ShowsBelow format claim k ts (map_get (entries_pairs es) k) c
         in

@@ -9,10 +9,10 @@ use Rattle.mst_key.proofs.KeyOrder.{by_order, less_chain, greater_from_less, equ
 use Rattle.mst_node.specs.Text.{FlatEntry, FlatNode}
 use Rattle.mst_node.specs.Grammar.{IsFlatNode, flat_pairs}
 use Rattle.mst_node.specs.Trail.{by_order as chosen}
-use Rattle.mst_node.specs.Place.{place_among, place_of}
-use Rattle.mst_node.specs.declared.place.Place.{Place}
-use Rattle.mst_node.specs.declared.place.Place.TheVariants.{Held, Gap}
-use Rattle.mst_node.specs.declared.place.Span.{Span}
+use Rattle.mst_node.specs.KeyPlace.{place_among, place_of}
+use Rattle.mst_node.specs.declared.key_place.KeyPlace.{KeyPlace}
+use Rattle.mst_node.specs.declared.key_place.KeyPlace.TheVariants.{Found, Gap}
+use Rattle.mst_node.specs.declared.key_place.Span.{Span}
 use Rattle.mst_proof.specs.declared.expected.Expected.{Expected}
 use Rattle.mst_proof.specs.Verdict.{step_of, first_expected}
 use Rattle.mst_proof.specs.Accepted.{IsInGap, gap_child, gap_low, gap_high, ShowsValue, ShowsAbsence, LeadsOn, Leads, LeadsFrom, Accepted, held_answer}
@@ -34,14 +34,14 @@ all_above k j (e ∷ es) less a = (less_chain k j e.key less a.0, all_above k j 
 pub held_among : (k : List ℕ) (low high : Option (List ℕ)) (before : List FlatEntry) (e : FlatEntry)
     (behind : List FlatEntry) (tail : Option (List ℕ))
     → IsAscending (flat_pairs (before ++ e ∷ behind)) → e.key ≡ k →
-    place_among k low high (before ++ e ∷ behind) tail ≡ Held e.held
+    place_among k low high (before ++ e ∷ behind) tail ≡ Found e.held
 held_among k low high [] e behind tail rising is =
     ap (λ (o : Ordering). chosen o (Gap e.child (record { low = low; high = Some e.key }))
-    (Held e.held) (place_among k (Some e.key) high behind tail))
+    (Found e.held) (place_among k (Some e.key) high behind tail))
     (equal_from_same k e.key (sym is))
 held_among k low high (b ∷ before) e behind tail rising is =
     ap (λ (o : Ordering). chosen o (Gap b.child (record { low = low; high = Some b.key }))
-    (Held b.held) (place_among k (Some b.key) high (before ++ e ∷ behind) tail))
+    (Found b.held) (place_among k (Some b.key) high (before ++ e ∷ behind) tail))
     (greater_from_less b.key k
     (subst (λ (j : List ℕ). key_cmp b.key j ≡ Less) is
     (above_at b.key before e behind rising.0)))
@@ -55,10 +55,10 @@ pub gap_among : (k : List ℕ) (low high : Option (List ℕ)) (before behind : L
 gap_among k low high [] [] tail lesser greater = refl
 gap_among k low high [] (e ∷ es) tail lesser greater =
     ap (λ (o : Ordering). chosen o (Gap e.child (record { low = low; high = Some e.key }))
-    (Held e.held) (place_among k (Some e.key) high es tail)) greater.0
+    (Found e.held) (place_among k (Some e.key) high es tail)) greater.0
 gap_among k low high (e ∷ before) behind tail lesser greater =
     ap (λ (o : Ordering). chosen o (Gap e.child (record { low = low; high = Some e.key }))
-    (Held e.held) (place_among k (Some e.key) high (before ++ behind) tail))
+    (Found e.held) (place_among k (Some e.key) high (before ++ behind) tail))
     (greater_from_less e.key k lesser.0)
     ∙ gap_among k (Some e.key) high before behind tail lesser.1 greater
 
@@ -120,7 +120,7 @@ located k (e ∷ es) rising =
 
 pub held_place : (k : List ℕ) (span : Span) (n : FlatNode) (before : List FlatEntry) (e : FlatEntry)
     (behind : List FlatEntry) → IsFlatNode n → n.entries ≡ before ++ e ∷ behind → e.key ≡ k
-    → place_of k span n ≡ Held e.held
+    → place_of k span n ≡ Found e.held
 held_place k span n before e behind flat is key =
     ap (λ (es : List FlatEntry). place_among k span.low span.high es n.tail) is
     ∙ held_among k span.low span.high before e behind n.tail
@@ -144,7 +144,7 @@ stepwise format k x (n ∷ ns) a flat l = (
   go l.1 (λ y. stepwise format k y ns a flat.1),
 )
   where
-    Goal : Place → Type 0
+    Goal : KeyPlace → Type 0
     Goal p = step.Says (step_of n.layer p) ns a (λ y. step.Leads k y ns a)
 
     go : ShowsValue k n ns a ⊎ ShowsAbsence k n ns a ⊎ LeadsOn k x.span.low x.span.high n
@@ -182,7 +182,7 @@ nodewise format k x (n ∷ ns) a flat l = (
   go (located k n.entries flat.0.1.keys.rising) l.1 (λ y. nodewise format k y ns a flat.1),
 )
   where
-    Given : Place → Type 0
+    Given : KeyPlace → Type 0
     Given p = step.Says (step_of n.layer p) ns a (λ y. step.Leads k y ns a)
 
     in_gap : (before behind : List FlatEntry) → IsInGap n k before behind → (c : Option (List ℕ))

@@ -13,10 +13,10 @@ use Rattle.mst_node.specs.Text.{FlatNode, spelling, digest_of, child_digest, fla
 use Rattle.mst_node.specs.Grammar.{IsFlatNode}
 use Rattle.mst_node.specs.Collision.{Collision}
 use Rattle.mst_node.specs.Trail.{nodes_met, met_in_gap}
-use Rattle.mst_node.specs.Place.{place_of}
-use Rattle.mst_node.specs.declared.place.Place.{Place}
-use Rattle.mst_node.specs.declared.place.Place.TheVariants.{Gap}
-use Rattle.mst_node.specs.declared.place.Span.{Span}
+use Rattle.mst_node.specs.KeyPlace.{place_of}
+use Rattle.mst_node.specs.declared.key_place.KeyPlace.{KeyPlace}
+use Rattle.mst_node.specs.declared.key_place.KeyPlace.TheVariants.{Gap}
+use Rattle.mst_node.specs.declared.key_place.Span.{Span}
 use Rattle.mst_node.proofs.ReadIsSpelled.{some_same}
 use Rattle.mst_node.proofs.SpelledIsRead.{one_node}
 use Rattle.mst_node.proofs.MapTextsInGrammar.{flat_is}
@@ -156,7 +156,7 @@ sound format (n ∷ ns) k x a (node f layer es) flats b l small d =
         → spelling n ≡ text (node format layer es)
         → Answers format k a (map spelling (n ∷ ns)) (node format layer es)
     same next small says is =
-        let Q : Place → Type 0 = λ p. Says (step_of layer p) ns a (λ y. Leads k y ns a) in
+        let Q : KeyPlace → Type 0 = λ p. Says (step_of layer p) ns a (λ y. Leads k y ns a) in
         elim (falls format k x.span.low x.span.high layer es small.mst.2 small.map) [
           | inl h ↦ inl ((subst Q h.placed says).1 ∙ sym (ap (held_answer format) h.looks))
           | inr g ↦ answer_above format k x.span.low x.span.high layer es a (spelling n)

@@ -6,7 +6,7 @@ use Rattle.std.specs.Str.{bytes_eq}
 use Rattle.std.specs.declared.result.Result.{Result}
 use Rattle.std.specs.declared.result.Result.TheVariants.{Ok, Err}
 use Rattle.mst_node.specs.Text.{FlatNode, digest_of}
-use Rattle.mst_node.specs.Place.{place_of}
+use Rattle.mst_node.specs.KeyPlace.{place_of}
 use Rattle.mst_proof.specs.declared.fault.ProofFault.{ProofFault}
 use Rattle.mst_proof.specs.declared.fault.ProofFault.TheVariants.{NoNode, OtherDigest, LayerNotBelow, KeyOutside}
 use Rattle.mst_proof.specs.declared.expected.Expected.{Expected}

@@ -5,7 +5,7 @@ use Rattle.std.specs.List.{AllByRecursion}
 use Rattle.mst_node.specs.Text.{FlatNode, spelling, digest_of}
 use Rattle.mst_node.specs.Grammar.{IsFlatNode}
 use Rattle.mst_node.specs.Trail.{framing}
-use Rattle.mst_node.specs.Place.{place_of, LiesWithin}
+use Rattle.mst_node.specs.KeyPlace.{place_of, LiesWithin}
 use Rattle.mst_proof.specs.declared.expected.Expected.{Expected}
 use Rattle.mst_proof.specs.declared.expected.Step.{Step}
 use Rattle.mst_proof.specs.declared.expected.Step.TheVariants.{Decided, Onward}

@@ -1,7 +1,7 @@
 -- The nodes of a tree, each with the span in which it stands, and those in whose span a key falls.
 use Rattle.std.specs.Prelude.{ℕ, List, [], ◌∷◌, ◌++◌, Option, Some, None, map, filter}
 use Rattle.mst_node.specs.Tree.{Tree, empty, node, Entries, last, entry}
-use Rattle.mst_node.specs.declared.place.Span.{Span}
+use Rattle.mst_node.specs.declared.key_place.Span.{Span}
 use Rattle.mst_proof.specs.Verdict.{is_inside}
 
 -- each node before those below it; a node in a gap stands between the keys next to the gap

@@ -11,10 +11,10 @@ use Rattle.mst_key.specs.Layer.{layer_in}
 use Rattle.mst_key.specs.Map.{key_cmp, above, below}
 use Rattle.mst_node.specs.Text.{FlatNode, digest_of}
 use Rattle.mst_node.specs.Reading.{◌>>=◌, node_at}
-use Rattle.mst_node.specs.Place.{place_of}
-use Rattle.mst_node.specs.declared.place.Place.{Place}
-use Rattle.mst_node.specs.declared.place.Place.TheVariants.{Held, Gap}
-use Rattle.mst_node.specs.declared.place.Span.{Span}
+use Rattle.mst_node.specs.KeyPlace.{place_of}
+use Rattle.mst_node.specs.declared.key_place.KeyPlace.{KeyPlace}
+use Rattle.mst_node.specs.declared.key_place.KeyPlace.TheVariants.{Found, Gap}
+use Rattle.mst_node.specs.declared.key_place.Span.{Span}
 use Rattle.mst_proof.specs.declared.fault.ProofFault.{ProofFault}
 use Rattle.mst_proof.specs.declared.fault.ProofFault.TheVariants.{NoNode, OtherDigest, LayerNotBelow, KeyOutside, Unfinished, TextBehind, OtherValue}
 use Rattle.mst_proof.specs.declared.expected.Expected.{Expected}
@@ -54,8 +54,8 @@ abbrev pub is_inside : Span → List ℕ → Bool
 is_inside span k = above span.low k && below span.high k
 
 -- the answer that a key's place gives, or what it expects of the next text
-abbrev pub step_of : ℕ → Place → Step
-step_of l (Held v) = Decided (Some v)
+abbrev pub step_of : ℕ → KeyPlace → Step
+step_of l (Found v) = Decided (Some v)
 step_of l (Gap None span) = Decided None
 step_of l (Gap (Some d) span) = Onward (record { digest = d; upper = Some l; span = span })
 

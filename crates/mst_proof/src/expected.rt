@@ -6,7 +6,7 @@ ghost use Rattle.mst_proof.specs.Verdict.{is_under as under, first_expected, ste
 
 use crate::fault::ProofFault;
 use mst_key::{Format, Key, Value};
-use mst_node::{Place, Span, digest, find_in_text};
+use mst_node::{KeyPlace, Span, digest, find_in_text};
 
 /// What is expected of the next text.
 #[derive(Debug, Drop)]
@@ -30,13 +30,13 @@ pub(crate) enum Step {
 
 impl Step {
     /// Of a key's place in a node of this layer.
-    fn of(layer: u8, place: Place) -> Step
+    fn of(layer: u8, place: KeyPlace) -> Step
         ensures step { result ≡ step_from layer place }
     {
         match place {
-            Place::Held(value) => Step::Decided(Some(value)),
-            Place::Gap { child: None, .. } => Step::Decided(None),
-            Place::Gap {
+            KeyPlace::Found(value) => Step::Decided(Some(value)),
+            KeyPlace::Gap { child: None, .. } => Step::Decided(None),
+            KeyPlace::Gap {
                 child: Some(digest),
                 span,
             } => Step::Onward(Expected {

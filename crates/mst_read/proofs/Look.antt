@@ -17,8 +17,8 @@ use Rattle.mst_arena.specs.Standing.{Chain, end, cell, tree_of, entries_of, link
 use Rattle.mst_arena.proofs.Stands.{all-front, all-back}
 use Rattle.mst_node.specs.Trail.{by_order}
 use Rattle.mst_read.specs.Search.{Lies, LiesBehind, place}
-use Rattle.mst_read.specs.declared.lookup.Place.{Place}
-use Rattle.mst_read.specs.declared.lookup.Place.TheVariants.{Held, Gap}
+use Rattle.mst_read.specs.declared.lookup.RowPlace.{RowPlace}
+use Rattle.mst_read.specs.declared.lookup.RowPlace.TheVariants.{Found, Gap}
 use Rattle.mst_read.proofs.Still.{behind_still}
 use Rattle.mst_read.proofs.Descend.{Ahead, Inside, holding}
 
@@ -81,7 +81,7 @@ module _ (format : Format) (content : Content) (k : List ℕ) where
       back : List Pair
       back = entries_pairs (entries_of format c)
 
-      go : (o : Ordering) → key_cmp k key ≡ o → by_order o (Gap (link_of p)) (Held at) (place k c)
+      go : (o : Ordering) → key_cmp k key ≡ o → by_order o (Gap (link_of p)) (Found at) (place k c)
           ≡ Gap link → (place k c ≡ Gap link → Ahead format content l link (Finds k back))
           → Ahead format content l link (Finds k (front ++ (key, v) ∷ back))
       go Less e is further =
@@ -101,7 +101,7 @@ module _ (format : Format) (content : Content) (k : List ℕ) where
             holds =
                 map_get-before front back k key v rise e;
           }
-      go Equal e is further = let no : Held at ≡ Gap link = is in cc
+      go Equal e is further = let no : Found at ≡ Gap link = is in cc
       go Greater e is further =
           let a = further is in
           record {
@@ -114,13 +114,13 @@ module _ (format : Format) (content : Content) (k : List ℕ) where
             holds = a.holds ∙ map_get-behind front back k key v rise e;
           }
 
-  held : (row : ℕ) (c : Chain) → HasRows content (chain_rows format c)
-      → IsAscending (entries_pairs (entries_of format c)) → place k c ≡ Held row
+  value_at : (row : ℕ) (c : Chain) → HasRows content (chain_rows format c)
+      → IsAscending (entries_pairs (entries_of format c)) → place k c ≡ Found row
       → part_at entry_value content row ≡ map_get (entries_pairs (entries_of format c)) k
-  held row (end p) rows rise is = let no : Gap (link_of p) ≡ Held row = is in cc
-  held row (cell at p key v c) rows rise is =
+  value_at row (end p) rows rise is = let no : Gap (link_of p) ≡ Found row = is in cc
+  value_at row (cell at p key v c) rows rise is =
       go (key_cmp k key) refl is
-      (held row c (all-back _ (rows_of format p) (chain_rows format c) rows.1)
+      (value_at row c (all-back _ (rows_of format p) (chain_rows format c) rows.1)
       (IsAscending-back front ((key, v) ∷ back) rise).1)
     where
       front : List Pair
@@ -129,10 +129,10 @@ module _ (format : Format) (content : Content) (k : List ℕ) where
       back : List Pair
       back = entries_pairs (entries_of format c)
 
-      go : (o : Ordering) → key_cmp k key ≡ o → by_order o (Gap (link_of p)) (Held at) (place k c)
-          ≡ Held row → (place k c ≡ Held row → part_at entry_value content row ≡ map_get back k)
+      go : (o : Ordering) → key_cmp k key ≡ o → by_order o (Gap (link_of p)) (Found at) (place k c)
+          ≡ Found row → (place k c ≡ Found row → part_at entry_value content row ≡ map_get back k)
           → part_at entry_value content row ≡ map_get (front ++ (key, v) ∷ back) k
-      go Less e is further = let no : Gap (link_of p) ≡ Held row = is in cc
+      go Less e is further = let no : Gap (link_of p) ≡ Found row = is in cc
       go Equal e is further =
           let same : at ≡ row = cc in
           let there : content row ≡ Some (Entry (link_of p) (first_of c) key v) =
@@ -141,17 +141,18 @@ module _ (format : Format) (content : Content) (k : List ℕ) where
           value ∙ map_get-there front back k key v rise e
       go Greater e is further = further is ∙ map_get-behind front back k key v rise e
 
-  held_there : (row : ℕ) (c : Chain) → HasRows content (chain_rows format c) → place k c ≡ Held row
+  found_there : (row : ℕ) (c : Chain) → HasRows content (chain_rows format c)
+      → place k c ≡ Found row
       → IsSome (part_at entry_value content row)
-  held_there row (end p) rows is = let no : Gap (link_of p) ≡ Held row = is in cc
-  held_there row (cell at p key v c) rows is =
+  found_there row (end p) rows is = let no : Gap (link_of p) ≡ Found row = is in cc
+  found_there row (cell at p key v c) rows is =
       go (key_cmp k key) is
-      (held_there row c (all-back _ (rows_of format p) (chain_rows format c) rows.1))
+      (found_there row c (all-back _ (rows_of format p) (chain_rows format c) rows.1))
     where
-      go : (o : Ordering) → by_order o (Gap (link_of p)) (Held at) (place k c) ≡ Held row
-          → (place k c ≡ Held row → IsSome (part_at entry_value content row))
+      go : (o : Ordering) → by_order o (Gap (link_of p)) (Found at) (place k c) ≡ Found row
+          → (place k c ≡ Found row → IsSome (part_at entry_value content row))
           → IsSome (part_at entry_value content row)
-      go Less is further = let no : Gap (link_of p) ≡ Held row = is in cc
+      go Less is further = let no : Gap (link_of p) ≡ Found row = is in cc
       go Equal is further =
           let same : at ≡ row = cc in
           let there : content row ≡ Some (Entry (link_of p) (first_of c) key v) =
@@ -162,7 +163,7 @@ module _ (format : Format) (content : Content) (k : List ℕ) where
 
 -- what the place at which the search ends says in a node, while the rows are the same
 module _ {format : Format} {content : Content} {links : HeadLinks} (k : List ℕ) (m : List Pair)
-    (d : Inside format content links (Finds k m)) {after : Content} {found : Place}
+    (d : Inside format content links (Finds k m)) {after : Content} {found : RowPlace}
     (same : after ≡ content) (answer : (f : Format) (c : Chain) → LiesBehind f after links c
     → found ≡ place k c) where
   place_is : place k d.chain ≡ found
@@ -175,9 +176,9 @@ module _ {format : Format} {content : Content} {links : HeadLinks} (k : List ℕ
       (place_is ∙ is)) (Finds k m) (λ ps e. e ∙ d.holds)
 
   -- the row that has the key has its value
-  pub value_held : {row : ℕ} → found ≡ Held row → part_at entry_value content row ≡ map_get m k
-  value_held {row} is = held format content k row d.chain d.lies.rows d.rise (place_is ∙ is)
+  pub value_found : {row : ℕ} → found ≡ Found row → part_at entry_value content row ≡ map_get m k
+  value_found {row} is = value_at format content k row d.chain d.lies.rows d.rise (place_is ∙ is)
       ∙ d.holds
 
-  pub value_there : {row : ℕ} → found ≡ Held row → IsSome (part_at entry_value content row)
-  value_there {row} is = held_there format content k row d.chain d.lies.rows (place_is ∙ is)
+  pub value_there : {row : ℕ} → found ≡ Found row → IsSome (part_at entry_value content row)
+  value_there {row} is = found_there format content k row d.chain d.lies.rows (place_is ∙ is)

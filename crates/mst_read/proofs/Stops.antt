@@ -15,13 +15,13 @@ use Rattle.mst_arena.specs.declared.row.HeadLinks.{HeadLinks}
 use Rattle.mst_arena.specs.declared.row.EntryLinks.{EntryLinks}
 use Rattle.mst_arena.specs.declared.sought.Way.TheVariants as way
 use Rattle.mst_arena.specs.declared.sought.Stop.{Stop}
-use Rattle.mst_arena.specs.declared.sought.Stop.TheVariants.{Gap, Held, End}
+use Rattle.mst_arena.specs.declared.sought.Stop.TheVariants.{Gap, Found, End}
 use Rattle.std.proofs.lemmas.Option.{same_Some}
 use Rattle.mst_arena.proofs.Stands.{all-back}
 use Rattle.mst_read.specs.Search.{LiesBehind, chain_links, place, entry_above, gap_placed}
 use Rattle.mst_read.specs.Span.{rest_from}
-use Rattle.mst_read.specs.declared.lookup.Place.{Place}
-use Rattle.mst_read.specs.declared.lookup.Place.TheVariants as at
+use Rattle.mst_read.specs.declared.lookup.RowPlace.{RowPlace}
+use Rattle.mst_read.specs.declared.lookup.RowPlace.TheVariants as at
 use Rattle.mst_read.proofs.Walk.{Onward, at_end}
 use Rattle.mst_read.proofs.Ways.{BeginsAbove}
 
@@ -29,7 +29,7 @@ use Rattle.mst_read.proofs.Ways.{BeginsAbove}
 abbrev pub stop_of : List ℕ → Chain → Stop
 stop_of k (end child) = End
 stop_of k (cell at child key value rest) = by_order (key_cmp k key)
-    (Gap (at + 1) (link_of child) (count_of rest + 1)) (Held (at + 1) (count_of rest + 1))
+    (Gap (at + 1) (link_of child) (count_of rest + 1)) (Found (at + 1) (count_of rest + 1))
     (stop_of k rest)
 
 -- ---- a search over the rows of a chain ends there
@@ -38,7 +38,7 @@ goes_by : (k : List ℕ) (content : Content) (link child left next n : ℕ) (o :
     → stop_from k content n next ≡ Some s
     → by_way link left (stop_from k content n)
     (by_order o (way.Child child) way.Here (way.Next next))
-    ≡ Some (by_order o (Gap link child left) (Held link left) s)
+    ≡ Some (by_order o (Gap link child left) (Found link left) s)
 goes_by k content link child left next n Less s is = refl
 goes_by k content link child left next n Equal s is = refl
 goes_by k content link child left next n Greater s is = is
@@ -73,17 +73,17 @@ stops format content k (cell at child key value rest) rows =
 -- ---- what it tells of the whole node
 
 -- the place of the key, by where the search for it ends and the link of the tree in the last gap
-abbrev pub place_at : ℕ → Stop → Place
+abbrev pub place_at : ℕ → Stop → RowPlace
 place_at tail (Gap link child left) = at.Gap child
-place_at tail (Held link left) = at.Held (link - 1)
+place_at tail (Found link left) = at.Found (link - 1)
 place_at tail End = at.Gap tail
 
-placed_by : (o : Ordering) (tail row child left : ℕ) (s : Stop) (p : Place) → p ≡ place_at tail s
-    → by_order o (at.Gap child) (at.Held row) p
-    ≡ place_at tail (by_order o (Gap (row + 1) child left) (Held (row + 1) left) s)
+placed_by : (o : Ordering) (tail row child left : ℕ) (s : Stop) (p : RowPlace) → p ≡ place_at tail s
+    → by_order o (at.Gap child) (at.Found row) p
+    ≡ place_at tail (by_order o (Gap (row + 1) child left) (Found (row + 1) left) s)
 placed_by Less tail row child left s p is = refl
 placed_by Equal tail row child left s p is = let one : row ≡ row + 1 - 1 = omega arith in
-    ap at.Held one
+    ap at.Found one
 placed_by Greater tail row child left s p is = is
 
 place_is : (k : List ℕ) (c : Chain) → place k c ≡ place_at (tail_of c) (stop_of k c)
@@ -96,13 +96,13 @@ place_is k (cell at child key value rest) =
 abbrev pub part_at_stop : ℕ → ℕ → Stop → ℕ × HeadLinks
 part_at_stop layer tail (Gap link child left) =
     (child, record { layer = layer; count = left; first = link; tail = tail })
-part_at_stop layer tail (Held link left) =
+part_at_stop layer tail (Found link left) =
     (0, record { layer = layer; count = left; first = link; tail = tail })
 part_at_stop layer tail End = (tail, record { layer = layer; count = 0; first = 0; tail = tail })
 
 -- the parts of two stops that are the same
-same_held : {a b m n : ℕ} → Held a m ≡ Held b n → (a ≡ b) × (m ≡ n)
-same_held is = let a = is in (cc, cc)
+same_found : {a b m n : ℕ} → Found a m ≡ Found b n → (a ≡ b) × (m ≡ n)
+same_found is = let a = is in (cc, cc)
 
 same_gap : {a b l r m n : ℕ} → Gap a l m ≡ Gap b r n → (a ≡ b) × (l ≡ r)
 same_gap is = let a = is in (cc, cc)
@@ -118,7 +118,7 @@ cut_by : (o : Ordering) (k : List ℕ) (layer at : ℕ) (child : Placed) (key va
           (rest_from k rest)),
     ) ≡ part_at_stop layer (tail_of rest)
     (by_order o (Gap (at + 1) (link_of child) (count_of rest + 1))
-    (Held (at + 1) (count_of rest + 1))
+    (Found (at + 1) (count_of rest + 1))
     (stop_of k rest))
 cut_by Less k layer at child key value rest is = refl
 cut_by Equal k layer at child key value rest is = refl
@@ -132,7 +132,7 @@ cut_is k layer (cell at child key value rest) =
     cut_by (key_cmp k key) k layer at child key value rest (cut_is k layer rest)
 
 -- an entry that has the key, with the rest behind it
-pub record HeldAt (format : Format) (content : Content) (k : List ℕ) (c : Chain) (link left : ℕ)
+pub record FoundAt (format : Format) (content : Content) (k : List ℕ) (c : Chain) (link left : ℕ)
     : Type 0 where
   pub some : 0 < link
   pub entry : EntryLinks
@@ -145,24 +145,24 @@ pub record HeldAt (format : Format) (content : Content) (k : List ℕ) (c : Chai
   pub rows : HasRows content (chain_rows format rest)
   pub above_is : entry_above (Some k) rest ≡ entry_above (Some k) c
 
-held_at : (format : Format) (content : Content) (k : List ℕ) (c : Chain) (link left : ℕ)
-    → HasRows content (chain_rows format c) → stop_of k c ≡ Held link left
-    → HeldAt format content k c link left
-held_at format content k (end child) link left rows is = absurd cc
-held_at format content k (cell at child key value rest) link left rows is =
-    go (key_cmp k key) refl is (held_at format content k rest link left behind)
+found_at : (format : Format) (content : Content) (k : List ℕ) (c : Chain) (link left : ℕ)
+    → HasRows content (chain_rows format c) → stop_of k c ≡ Found link left
+    → FoundAt format content k c link left
+found_at format content k (end child) link left rows is = absurd cc
+found_at format content k (cell at child key value rest) link left rows is =
+    go (key_cmp k key) refl is (found_at format content k rest link left behind)
   where
     behind : HasRows content (chain_rows format rest)
     behind = all-back _ (rows_of format child) (chain_rows format rest) rows.1
 
     go : (o : Ordering) → key_cmp k key ≡ o
         → by_order o (Gap (at + 1) (link_of child) (count_of rest + 1))
-        (Held (at + 1) (count_of rest + 1)) (stop_of k rest) ≡ Held link left
-        → (stop_of k rest ≡ Held link left → HeldAt format content k rest link left)
-        → HeldAt format content k (cell at child key value rest) link left
+        (Found (at + 1) (count_of rest + 1)) (stop_of k rest) ≡ Found link left
+        → (stop_of k rest ≡ Found link left → FoundAt format content k rest link left)
+        → FoundAt format content k (cell at child key value rest) link left
     go Less order is others = absurd cc
     go Equal order is others =
-        let both = same_held is in
+        let both = same_found is in
         let low : above (Some k) key ≡ false =
         ap is_gt (equal_from_same key k (sym (same_from_equal k key order))) in
         let row : at ≡ link - 1 = omega (arith, both.0) in
@@ -205,7 +205,7 @@ above_gap k (cell at p key value rest) link child left is =
   where
     go : (o : Ordering) → key_cmp k key ≡ o
         → by_order o (Gap (at + 1) (link_of p) (count_of rest + 1))
-        (Held (at + 1) (count_of rest + 1)) (stop_of k rest) ≡ Gap link child left
+        (Found (at + 1) (count_of rest + 1)) (stop_of k rest) ≡ Gap link child left
         → (stop_of k rest ≡ Gap link child left
         → (0 < link) × (Some (link - 1, child) ≡ entry_above (Some k) rest))
         → (0 < link) × (Some (link - 1, child) ≡ entry_above (Some k) (cell at p key value rest))
@@ -228,7 +228,7 @@ above_none k (cell at p key value rest) is = go (key_cmp k key) refl is (above_n
   where
     go : (o : Ordering) → key_cmp k key ≡ o
         → by_order o (Gap (at + 1) (link_of p) (count_of rest + 1))
-        (Held (at + 1) (count_of rest + 1)) (stop_of k rest) ≡ End
+        (Found (at + 1) (count_of rest + 1)) (stop_of k rest) ≡ End
         → (stop_of k rest ≡ End → None ≡ entry_above (Some k) rest)
         → None ≡ entry_above (Some k) (cell at p key value rest)
     go Less order is others = absurd cc
@@ -253,7 +253,7 @@ module _ {format : Format} {content : Content} {links : HeadLinks} {c : Chain}
     stop_is : stop_of k c ≡ s
     stop_is = same_Some (stop_of k c) s (sym stops_lying ∙ found)
 
-    pub place_found : {p : Place} → p ≡ place_at links.tail s → p ≡ place k c
+    pub place_found : {p : RowPlace} → p ≡ place_at links.tail s → p ≡ place k c
     place_found is =
         is ∙ ap (place_at links.tail) (sym stop_is)
         ∙ ap (λ (n : ℕ). place_at n (stop_of k c)) (sym lies.tail) ∙ sym (place_is k c)
@@ -265,9 +265,9 @@ module _ {format : Format} {content : Content} {links : HeadLinks} {c : Chain}
         ∙ ap (λ (n : ℕ). part_at_stop layer n (stop_of k c)) (sym lies.tail)
         ∙ sym (cut_is k layer c)
 
-    pub link_some : {link left : ℕ} → s ≡ Held link left → 0 < link
+    pub link_some : {link left : ℕ} → s ≡ Found link left → 0 < link
     link_some {link} {left} is =
-        (held_at format content k c link left lies.rows (stop_is ∙ is)).some
+        (found_at format content k c link left lies.rows (stop_is ∙ is)).some
 
 -- a search that ended somewhere ends there in the same rows
 pub ends_still : {before after : Content} → after ≡ before → (k : List ℕ) (count first : ℕ)
@@ -321,34 +321,34 @@ module _ {format : Format} {content : Content} {tail next all : ℕ} (k : List �
     pub none_above : s ≡ End → None ≡ entry_above (Some k) whole
     none_above is = above_none k o.rest (ahead_is ∙ is) ∙ o.holds
 
-    module _ {link left : ℕ} (is : s ≡ Held link left) where
-      held : HeldAt format content k o.rest link left
-      held = held_at format content k o.rest link left o.rows (ahead_is ∙ is)
+    module _ {link left : ℕ} (is : s ≡ Found link left) where
+      key_met : FoundAt format content k o.rest link left
+      key_met = found_at format content k o.rest link left o.rows (ahead_is ∙ is)
 
-      pub held_link : 0 < link
-      held_link = held.some
+      pub found_link : 0 < link
+      found_link = key_met.some
 
-      pub held_there : IsSome (part_at entry_links content (link - 1))
-      held_there = let Is : Option EntryLinks → Type 0 = IsSome in subst Is (sym held.here) refl
+      pub found_there : IsSome (part_at entry_links content (link - 1))
+      found_there = let Is : Option EntryLinks → Type 0 = IsSome in subst Is (sym key_met.here) refl
 
-      pub held_left : (0 < left) × (left ≤ all)
-      held_left =
-          let count = held.count in
-          let fewer = held.fewer in
+      pub found_left : (0 < left) × (left ≤ all)
+      found_left =
+          let count = key_met.count in
+          let fewer = key_met.fewer in
           (omega (arith, count), omega (arith, fewer, o.left))
 
-      pub behind_held : {e : EntryLinks} → part_at entry_links content (link - 1) ≡ Some e
+      pub behind_found : {e : EntryLinks} → part_at entry_links content (link - 1) ≡ Some e
           → Onward format content tail e.next 0 (left - 1) (BeginsAbove (Some k) whole)
-      behind_held {e} read =
-          let same : held.entry ≡ e = same_Some held.entry e (sym held.here ∙ read) in
-          let count = held.count in
+      behind_found {e} read =
+          let same : key_met.entry ≡ e = same_Some key_met.entry e (sym key_met.here ∙ read) in
+          let count = key_met.count in
           record {
-            rest = held.rest;
-            first_is = held.first ∙ ap (λ (x : EntryLinks). x.next) same;
-            tail_is = held.tail ∙ o.tail_is;
+            rest = key_met.rest;
+            first_is = key_met.first ∙ ap (λ (x : EntryLinks). x.next) same;
+            tail_is = key_met.tail ∙ o.tail_is;
             left = omega (arith, count);
-            rows = held.rows;
-            holds = held.above_is ∙ o.holds;
+            rows = key_met.rows;
+            holds = key_met.above_is ∙ o.holds;
           }
 
   pub nothing_left : all ≡ 0 → None ≡ entry_above (Some k) whole

@@ -11,7 +11,6 @@ use Rattle.mst_key.proofs.Splits.{IsAscending-front, IsAscending-back, IsAscendi
 use Rattle.mst_node.specs.Tree.{pairs, entries_pairs, IsMstEntries}
 use Rattle.mst_arena.specs.Content.{Content, part_at}
 use Rattle.mst_arena.specs.Row.{entry_links, entry_pair}
-use Rattle.mst_arena.specs.declared.row.EntryLinks.{EntryLinks}
 use Rattle.mst_arena.specs.declared.row.HeadLinks.{HeadLinks}
 use Rattle.mst_arena.specs.declared.row.Row.{Row}
 use Rattle.mst_arena.specs.declared.row.Row.TheVariants.{Entry, Head}

@@ -16,18 +16,20 @@ use Rattle.mst_arena.specs.declared.row.HeadLinks.{HeadLinks}
 use Rattle.mst_arena.specs.Standing.{Placed, none, head, Chain, end, cell, tree_of, entries_of, link_of, first_of, tail_of, count_of, rows_of, chain_rows, HasRows, Stands}
 use Rattle.mst_arena.proofs.Stands.{all-front, all-back}
 use Rattle.mst_read.specs.Search.{Lies, LiesBehind, head_of, place, gap_placed}
-use Rattle.mst_read.specs.declared.lookup.Place.TheVariants.{Held, Gap}
+use Rattle.mst_read.specs.declared.lookup.RowPlace.TheVariants.{Found, Gap}
 use Rattle.mst_read.proofs.Descend.{lies_at, falls, depth}
 
 -- ---- the tree in the gap for a key
 
-pub gap_held : (k : List ℕ) (row : ℕ) (c : Chain) → place k c ≡ Held row → gap_placed k c ≡ none
-gap_held k row (end p) is = let no : Gap (link_of p) ≡ Held row = is in cc
-gap_held k row (cell at p key v c) is = go (key_cmp k key) is (gap_held k row c)
+pub no_gap_where_found : (k : List ℕ) (row : ℕ) (c : Chain) → place k c ≡ Found row → gap_placed k c
+    ≡ none
+no_gap_where_found k row (end p) is = let no : Gap (link_of p) ≡ Found row = is in cc
+no_gap_where_found k row (cell at p key v c) is = go (key_cmp k key) is (no_gap_where_found k row c)
   where
-    go : (o : Ordering) → by_order o (Gap (link_of p)) (Held at) (place k c) ≡ Held row
-        → (place k c ≡ Held row → gap_placed k c ≡ none) → by_order o p none (gap_placed k c) ≡ none
-    go Less is further = let no : Gap (link_of p) ≡ Held row = is in cc
+    go : (o : Ordering) → by_order o (Gap (link_of p)) (Found at) (place k c) ≡ Found row
+        → (place k c ≡ Found row → gap_placed k c ≡ none) → by_order o p none (gap_placed k c)
+        ≡ none
+    go Less is further = let no : Gap (link_of p) ≡ Found row = is in cc
     go Equal is further = refl
     go Greater is further = further is
 
@@ -41,7 +43,7 @@ gap_lies format content k link (cell at p key v c) rows is =
     (gap_lies format content k link c
     (all-back _ (rows_of format p) (chain_rows format c) rows.1))
   where
-    go : (o : Ordering) → by_order o (Gap (link_of p)) (Held at) (place k c) ≡ Gap link
+    go : (o : Ordering) → by_order o (Gap (link_of p)) (Found at) (place k c) ≡ Gap link
         → (place k c ≡ Gap link → Lies format content link (gap_placed k c))
         → Lies format content link (by_order o p none (gap_placed k c))
     go Less is further = let here : link_of p ≡ link =
@@ -49,7 +51,7 @@ gap_lies format content k link (cell at p key v c) rows is =
           at = here;
           rows = all-front _ (rows_of format p) (chain_rows format c) rows.1;
         }
-    go Equal is further = let no : Held at ≡ Gap link = is in cc
+    go Equal is further = let no : Found at ≡ Gap link = is in cc
     go Greater is further = further is
 
 -- what the gap's tree has: its rows, a layer below the node's, and the rest of the trail

@@ -1,7 +1,7 @@
 -- Whether the key of an entry is below a bound, and the first key above one.
 use Rattle.std.proofs.Common.{◌≡◌, ◌-◌, ◌<◌, ℕ, true, false, List, Option, Some, None, IsSome, refl, ◌∙◌, sym, ap, subst, arith, is_lt}
 use Rattle.mst_key.specs.declared.format.Format.{Format}
-use Rattle.mst_key.specs.Map.{above, below}
+use Rattle.mst_key.specs.Map.{below}
 use Rattle.mst_arena.specs.Content.{Content, part_at}
 use Rattle.mst_arena.specs.Row.{entry_links}
 use Rattle.mst_arena.specs.Ways.{entry_way, way_at}

@@ -8,8 +8,8 @@ use Rattle.mst_arena.specs.Content.{Content}
 use Rattle.mst_arena.specs.Standing.{Placed, none, head, Chain, end, cell, link_of, first_of, tail_of, count_of, rows_of, chain_rows, HasRows, Stands}
 use Rattle.mst_arena.specs.declared.row.HeadLinks.{HeadLinks}
 use Rattle.mst_arena.specs.declared.row.Root.{Root}
-use Rattle.mst_read.specs.declared.lookup.Place.{Place}
-use Rattle.mst_read.specs.declared.lookup.Place.TheVariants.{Held, Gap}
+use Rattle.mst_read.specs.declared.lookup.RowPlace.{RowPlace}
+use Rattle.mst_read.specs.declared.lookup.RowPlace.TheVariants.{Found, Gap}
 
 -- the rows stand for some map at the root
 abbrev pub MapStands : Content → Root → Type 0
@@ -63,10 +63,10 @@ head_of (head at layer chain) = Some (chain_links layer chain)
 -- ---- where a search ends
 
 -- the row that has the key, or the link of the tree in the gap in which the key would lie
-abbrev pub place : List ℕ → Chain → Place
+abbrev pub place : List ℕ → Chain → RowPlace
 place k (end child) = Gap (link_of child)
 place k (cell at child key value rest) =
-    by_order (key_cmp k key) (Gap (link_of child)) (Held at) (place k rest)
+    by_order (key_cmp k key) (Gap (link_of child)) (Found at) (place k rest)
 
 -- the row of the first entry whose key is above the bound, and the link of the tree in the gap
 -- before it

@@ -34,7 +34,7 @@ fn first_above<R: Rows>(rows: &mut R, head: &HeadLinks, bound: &Sought) -> Optio
     while count > 0 {
         match rows.search(first, count, bound) {
             Stop::Gap { link, child, .. } => return Some((link - 1, child)),
-            Stop::Held { link, left } => {
+            Stop::Found { link, left } => {
                 first = rows.links(link - 1).next;
                 count = left - 1;
             }

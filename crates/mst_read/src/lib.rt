@@ -30,7 +30,7 @@ mod roots;
 pub use descent::head_at;
 pub use following::{next, next_below};
 pub use laws::each_map_may_be_read;
-pub use lookup::{Place, get, get_below, seek};
+pub use lookup::{RowPlace, get, get_below, seek};
 pub use proving::{prove, prove_below};
 pub use ranges::{range, range_below};
 pub use roots::root;

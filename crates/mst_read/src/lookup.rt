@@ -11,25 +11,25 @@ use mst_key::{Key, Value};
 
 /// Where a search in a node ends.
 #[derive(Clone, Copy, Debug)]
-pub enum Place {
+pub enum RowPlace {
     /// The row of the entry that has the key.
-    Held(u32),
+    Found(u32),
     /// The link of the tree in the gap in which the key would lie.
     Gap(u32),
 }
 
 /// Searches the entries of a node, from the least key on.
 #[inline(always)]
-pub fn seek<R: Rows>(rows: &mut R, head: &HeadLinks, key: &Sought) -> Place
+pub fn seek<R: Rows>(rows: &mut R, head: &HeadLinks, key: &Sought) -> RowPlace
     requires lies { ChainLies (R.content rows.old) head.now }
     ensures place { (f : Format) (c : Chain) → LiesBehind f (R.content rows.old) head.now c
         → result ≡ place key.now c }
     ensures same { rows.new ≡ rows.old }
 {
     match rows.search(head.first, head.count, key) {
-        Stop::Gap { child, .. } => Place::Gap(child),
-        Stop::Held { link, .. } => Place::Held(link - 1),
-        Stop::End => Place::Gap(head.tail),
+        Stop::Gap { child, .. } => RowPlace::Gap(child),
+        Stop::Found { link, .. } => RowPlace::Found(link - 1),
+        Stop::End => RowPlace::Gap(head.tail),
     }
 }
 
@@ -49,8 +49,8 @@ pub fn get_below<R: Rows>(rows: &mut R, link: u32, key: &Key) -> Option<Value>
     let mut top = head_at(rows, link);
     while let Some(head) = top {
         match seek(rows, &head, &sought) {
-            Place::Held(row) => return Some(rows.value(row)),
-            Place::Gap(link) => top = head_at(rows, link),
+            RowPlace::Found(row) => return Some(rows.value(row)),
+            RowPlace::Gap(link) => top = head_at(rows, link),
         }
     }
     None

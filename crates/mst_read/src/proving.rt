@@ -13,7 +13,7 @@ ghost use Rattle.mst_read.specs.Search.{ChainLies, Lies, LiesBehind, StandsBelow
 
 use crate::buffer::NodeBuffer;
 use crate::descent::head_at;
-use crate::lookup::{Place, get_below, seek};
+use crate::lookup::{RowPlace, get_below, seek};
 use mst_arena::{HeadLinks, Root, Rows, Sought};
 use mst_key::{Format, Key, Memory, Value};
 use mst_node::{TextSink, format_byte};
@@ -96,8 +96,8 @@ fn gap_met<R: Rows>(rows: &mut R, head: &HeadLinks, key: &Sought) -> Option<Head
     ensures same { rows.new ≡ rows.old }
 {
     match seek(rows, head, key) {
-        Place::Held(_row) => None,
-        Place::Gap(link) => head_at(rows, link),
+        RowPlace::Found(_row) => None,
+        RowPlace::Gap(link) => head_at(rows, link),
     }
 }
 

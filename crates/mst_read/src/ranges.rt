@@ -1,11 +1,11 @@
 //! The pairs between two bounds.
-ghost use Rattle.std.specs.Prelude.{◌≡◌, ◌≤◌, ◌<◌, ◌⊎◌, true, false, List, ℕ, None, Some, [], ◌∷◌, length, vec_capacity, OnOk, IfOk, IsSome};
+ghost use Rattle.std.specs.Prelude.{◌≡◌, ◌≤◌, ◌<◌, ◌⊎◌, true, false, List, None, Some, length, vec_capacity, OnOk, IfOk, IsSome};
 ghost use Rattle.std.specs.Option.{option_copied};
 ghost use Rattle.mst_key.specs.declared.format.Format.{Format};
 ghost use Rattle.mst_key.specs.Map.{Pair, below, map_range};
 ghost use Rattle.mst_node.specs.Tree.{pairs, entries_pairs};
 ghost use Rattle.mst_arena.specs.Content.{part_at};
-ghost use Rattle.mst_arena.specs.Row.{entry_links, entry_value};
+ghost use Rattle.mst_arena.specs.Row.{entry_links};
 ghost use Rattle.mst_arena.specs.declared.row.EntryLinks.{EntryLinks};
 ghost use Rattle.mst_arena.specs.Standing.{Placed, Chain, Stands, tree_of, entries_of, link_of};
 ghost use Rattle.mst_read.specs.Search.{ChainLies, LiesBehind, LinkStands, MapStands, StandsBelow, chain_links, gap_placed};
@@ -52,7 +52,7 @@ fn part_from<R: Rows>(rows: &mut R, head: &HeadLinks, from: &Sought) -> (u32, He
 {
     match rows.search(head.first, head.count, from) {
         Stop::Gap { link, child, left } => (child, part_of(head, link, left)),
-        Stop::Held { link, left } => (0, part_of(head, link, left)),
+        Stop::Found { link, left } => (0, part_of(head, link, left)),
         Stop::End => (head.tail, part_of(head, 0, 0)),
     }
 }

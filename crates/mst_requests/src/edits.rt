@@ -1,5 +1,5 @@
 //! The edits of a batch, as the fields of a line spell them.
-ghost use Rattle.std.specs.Prelude.{◌≡◌, ◌≤◌, ◌<◌, length, MatchOption, MatchResult, IfSome, IfOk, IfErr, Some, None};
+ghost use Rattle.std.specs.Prelude.{◌≡◌, ◌≤◌, ◌<◌, length, MatchOption, IfSome, IfOk, IfErr, Some, None};
 ghost use Rattle.mst_lines.specs.Lines.{longest_line};
 ghost use Rattle.mst_requests.specs.Fields.{fields_of, fields_behind, bytes_of};
 ghost use Rattle.mst_requests.specs.Batches.{put_edit, remove_edit, before, edits_in, edits_read, told};

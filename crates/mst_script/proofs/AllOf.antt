@@ -101,27 +101,27 @@ settled_numbers ps hs qs ks t = numbers-append qs ks ∙ ap (λ (l : List ℕ). 
     ∙ sym (numbers-append ps hs)
 
 -- they settled
-pub all_settled : (s : StoreId) (r t : Roster) → Settled r.free r.held t.free t.held
+pub all_settled : (s : StoreId) (r t : Roster) → Settled r.free r.pinned t.free t.pinned
     → AreAllOf s (everyone r) → AreAllOf s (everyone t)
 all_settled s r t st w = record {
-  of_one = All-append (λ (p : Known). p.store ≡ s) t.free t.held
+  of_one = All-append (λ (p : Known). p.store ≡ s) t.free t.pinned
       (subst (All (λ p. p.store ≡ s)) (sym st.now)
       (All-map (λ (p : Known). p.store ≡ s) (having_seen st.log) r.free
-      (front_of (λ (p : Known). p.store ≡ s) r.free r.held w.of_one)))
+      (front_of (λ (p : Known). p.store ≡ s) r.free r.pinned w.of_one)))
       (subst (All (λ p. p.store ≡ s)) (sym st.still)
-      (All-map (λ (p : Known). p.store ≡ s) (having_asked 3) r.held
-      (back_of (λ (p : Known). p.store ≡ s) r.free r.held w.of_one)));
+      (All-map (λ (p : Known). p.store ≡ s) (having_asked 3) r.pinned
+      (back_of (λ (p : Known). p.store ≡ s) r.free r.pinned w.of_one)));
   complete = λ n low high. subst (λ (l : List ℕ). Contains l n)
-      (sym (settled_numbers r.free r.held t.free t.held st)) (w.complete n low high);
+      (sym (settled_numbers r.free r.pinned t.free t.pinned st)) (w.complete n low high);
 }
 
 -- where no one of them pins a version
-pub all_free : (s : StoreId) (r : Roster) → r.held ≡ [] → AreAllOf s (everyone r)
+pub all_free : (s : StoreId) (r : Roster) → r.pinned ≡ [] → AreAllOf s (everyone r)
     → AreAllOf s r.free
 all_free s r none w =
     subst (AreAllOf s) (ap (λ (l : List Known). r.free ++ l) none ∙ append-nil r.free) w
 
-pub all_free_again : (s : StoreId) (r : Roster) → r.held ≡ [] → AreAllOf s r.free
+pub all_free_again : (s : StoreId) (r : Roster) → r.pinned ≡ [] → AreAllOf s r.free
     → AreAllOf s (everyone r)
 all_free_again s r none w =
     subst (AreAllOf s) (sym (ap (λ (l : List Known). r.free ++ l) none ∙ append-nil r.free)) w

@@ -13,11 +13,11 @@ use Rattle.mst_script.proofs.Knowing.{knows_none}
 use Rattle.mst_script.proofs.Settling.{settled_gathers, gathers_settled, shows_settled, still_there}
 
 -- they settled, and none of them pins a version
-pub first_shown : (s t : Roster) → s.held ≡ [] → (st : Settled s.free s.held t.free t.held)
+pub first_shown : (s t : Roster) → s.pinned ≡ [] → (st : Settled s.free s.pinned t.free t.pinned)
     → Shows (with_no_pins st.log) t
-first_shown s t none st = shows_settled (with_no_pins st.log) s t st refl (knows_none s.held none)
+first_shown s t none st = shows_settled (with_no_pins st.log) s t st refl (knows_none s.pinned none)
 
-pub first_gathers : (s t : Roster) → s.held ≡ [] → (st : Settled s.free s.held t.free t.held)
+pub first_gathers : (s t : Roster) → s.pinned ≡ [] → (st : Settled s.free s.pinned t.free t.pinned)
     → Gathers st.log s.free
 first_gathers s t none st =
     subst (Gathers st.log) (ap (λ (l : List Known). s.free ++ l) none ∙ append-nil s.free)
@@ -31,7 +31,7 @@ all_freed store r s a all =
 
 -- all pins were ended, and then all settled
 pub last_saw : (m : Machine) (r s t : Roster) → Shows m r → AllFreed r s
-    → (st : Settled s.free s.held t.free t.held) → AllSaw m.history t.free
+    → (st : Settled s.free s.pinned t.free t.pinned) → AllSaw m.history t.free
 last_saw m r s t shows a st =
     let free : everyone s ≡ s.free = ap (λ (l : List Known). s.free ++ l) a.none ∙ append-nil s.free
     in

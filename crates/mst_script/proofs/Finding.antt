@@ -13,11 +13,11 @@ use Rattle.mst_script.proofs.Lines.{now_back, now_front}
 
 -- some pass has the number
 pub not_there : (r : Roster) (n : ℕ) → Contains (numbers (everyone r)) n → IsNowhere r.free n
-    → IsNowhere r.held n → ⊥
+    → IsNowhere r.pinned n → ⊥
 not_there r n has a b =
     All-contains (λ (m : ℕ). m ≢ n) (numbers (everyone r)) n
     (All-map (λ (m : ℕ). m ≢ n) (λ (p : Known). p.number) (everyone r)
-    (All-append (λ (p : Known). p.number ≢ n) r.free r.held a b)) has refl
+    (All-append (λ (p : Known). p.number ≢ n) r.free r.pinned a b)) has refl
 
 -- none of the first passes has the number
 abbrev pub IsNotYet : List Known → ℕ → ℕ → Type 0
@@ -41,10 +41,10 @@ found_at ps qs place n p l is e same = subst (λ (xs : List Known). IsPlace xs n
     (l, at_read ps (λ (x : Known). x.number ≡ n) place p l is e)
 
 -- the last of those with a pin is now the last of the free ones
-pub one_freed : (all free held now rest : List Known) (p q : Known) → IsPermutation all
-    (free ++ held) → held ≡ rest ++ p ∷ [] → now ≡ free ++ q ∷ [] → q ≡ p → IsPermutation all
+pub one_freed : (all free pinned now rest : List Known) (p q : Known) → IsPermutation all
+    (free ++ pinned) → pinned ≡ rest ++ p ∷ [] → now ≡ free ++ q ∷ [] → q ≡ p → IsPermutation all
     (now ++ rest)
-one_freed all free held now rest p q moved out put same =
+one_freed all free pinned now rest p q moved out put same =
     let before : IsPermutation all (p ∷ (free ++ rest)) =
     IsPermutation-trans all (free ++ (rest ++ p ∷ [])) (p ∷ (free ++ rest))
     (subst (λ (l : List Known). IsPermutation all (free ++ l)) out moved) (now_back free rest p)

@@ -71,8 +71,8 @@ times_moved n ps qs moved = sum_by-IsPermutation (λ (j : ℕ). cond (j == n) 1 
 
 -- ---- nothing is pinned
 
-pub knows_none : (held : List Known) → held ≡ [] → KnowsPins (λ n. None) held
-knows_none held none = subst (KnowsPins (λ n. None)) (sym none) (record {
+pub knows_none : (passes : List Known) → passes ≡ [] → KnowsPins (λ n. None) passes
+knows_none passes none = subst (KnowsPins (λ n. None)) (sym none) (record {
   own = All-nil SawItself;
   pins = All-nil (λ (p : Known). None ≡ Some (length p.seen));
   others = λ n a. refl;
@@ -88,26 +88,27 @@ nowhere_before n (p ∷ ps) a = All-cons (λ (x : Known). x.number ≢ n) p ps
     (nowhere_before n ps
     (All-tail (λ (x : Known). x.number ≢ n) (having_asked 3 p) (map (having_asked 3) ps) a))
 
-pub knows_asked : (pinned : ℕ → Option ℕ) (held now : List Known) → now ≡ map (having_asked 3) held
-    → KnowsPins pinned held → KnowsPins pinned now
-knows_asked pinned held now is k = subst (KnowsPins pinned) (sym is) (record {
-  own = All-map SawItself (having_asked 3) held k.own;
-  pins = All-map (λ (p : Known). pinned p.number ≡ Some (length p.seen)) (having_asked 3) held
+pub knows_asked : (pinned : ℕ → Option ℕ) (passes now : List Known) → now ≡ map (having_asked 3)
+    passes
+    → KnowsPins pinned passes → KnowsPins pinned now
+knows_asked pinned passes now is k = subst (KnowsPins pinned) (sym is) (record {
+  own = All-map SawItself (having_asked 3) passes k.own;
+  pins = All-map (λ (p : Known). pinned p.number ≡ Some (length p.seen)) (having_asked 3) passes
       k.pins;
-  others = λ n a. k.others n (nowhere_before n held a);
-  once = λ n. subst (λ (ns : List ℕ). times n ns ≤ 1) (sym (asked_numbers 3 held)) (k.once n);
+  others = λ n a. k.others n (nowhere_before n passes a);
+  once = λ n. subst (λ (ns : List ℕ). times n ns ≤ 1) (sym (asked_numbers 3 passes)) (k.once n);
 })
 
 -- ---- a pass pinned a version
 
-pub knows_pin : (pinned : ℕ → Option ℕ) (held : List Known) (n : ℕ) (q : Known)
-    → KnowsPins pinned held → IsNowhere held n → q.number ≡ n → SawItself q →
-    KnowsPins (pinned_now n (Some (length q.seen)) pinned) (held ++ q ∷ [])
-knows_pin pinned held n q k nowhere number itself = let now =
+pub knows_pin : (pinned : ℕ → Option ℕ) (passes : List Known) (n : ℕ) (q : Known)
+    → KnowsPins pinned passes → IsNowhere passes n → q.number ≡ n → SawItself q →
+    KnowsPins (pinned_now n (Some (length q.seen)) pinned) (passes ++ q ∷ [])
+knows_pin pinned passes n q k nowhere number itself = let now =
     pinned_now n (Some (length q.seen)) pinned in record {
-      own = All-push SawItself held q k.own itself;
-      pins = All-push (λ (p : Known). now p.number ≡ Some (length p.seen)) held q
-          (λ i d l. now_other n (get_or held i d).number (Some (length q.seen)) pinned
+      own = All-push SawItself passes q k.own itself;
+      pins = All-push (λ (p : Known). now p.number ≡ Some (length p.seen)) passes q
+          (λ i d l. now_other n (get_or passes i d).number (Some (length q.seen)) pinned
           (nowhere i d l)
           ∙ k.pins i d l)
           (now_there n q.number (Some (length q.seen)) pinned number);
@@ -115,40 +116,42 @@ knows_pin pinned held n q k nowhere number itself = let now =
       once = λ j. once_again j;
     }
   where
-    front_nowhere : (j : ℕ) → IsNowhere (held ++ q ∷ []) j → IsNowhere held j
-    front_nowhere j a = front_of (λ (x : Known). x.number ≢ j) held (q ∷ []) a
+    front_nowhere : (j : ℕ) → IsNowhere (passes ++ q ∷ []) j → IsNowhere passes j
+    front_nowhere j a = front_of (λ (x : Known). x.number ≢ j) passes (q ∷ []) a
 
-    back_other : (j : ℕ) → IsNowhere (held ++ q ∷ []) j → q.number ≢ j
+    back_other : (j : ℕ) → IsNowhere (passes ++ q ∷ []) j → q.number ≢ j
     back_other j a = All-head (λ (x : Known). x.number ≢ j) q []
-        (back_of (λ (x : Known). x.number ≢ j) held (q ∷ []) a)
+        (back_of (λ (x : Known). x.number ≢ j) passes (q ∷ []) a)
 
-    other_pins : (j : ℕ) → IsNowhere (held ++ q ∷ []) j → pinned_now n (Some (length q.seen)) pinned
+    other_pins : (j : ℕ) → IsNowhere (passes ++ q ∷ []) j → pinned_now n (Some (length q.seen))
+        pinned
         j ≡ None
     other_pins j a = now_other n j (Some (length q.seen)) pinned
         (λ e. back_other j a (number ∙ sym e)) ∙ k.others j (front_nowhere j a)
 
-    last_is : (j : ℕ) → times j (numbers (held ++ q ∷ [])) ≡ times j (numbers held) + flag
+    last_is : (j : ℕ) → times j (numbers (passes ++ q ∷ [])) ≡ times j (numbers passes) + flag
         (q.number == j)
-    last_is j = ap (times j) (numbers-append held (q ∷ [])) ∙ times_last j q.number (numbers held)
+    last_is j = ap (times j) (numbers-append passes (q ∷ [])) ∙ times_last j q.number
+        (numbers passes)
 
-    once_again : (j : ℕ) → times j (numbers (held ++ q ∷ [])) ≤ 1
+    once_again : (j : ℕ) → times j (numbers (passes ++ q ∷ [])) ≤ 1
     once_again j = dite (ℕ_discrete q.number j)
         (λ (is : q.number ≡ j). omega (
           arith,
           last_is j,
           one_there q.number j is,
-          nowhere_times j held
-              (subst (IsNowhere held) (sym number ∙ is) nowhere),
+          nowhere_times j passes
+              (subst (IsNowhere passes) (sym number ∙ is) nowhere),
         ))
         (λ (other : q.number ≢ j). omega (arith, last_is j, none_there q.number j other, k.once j))
 
 -- ---- a pass ended its pin
 
-pub knows_unpin : (pinned : ℕ → Option ℕ) (held rest : List Known) (p : Known)
-    → KnowsPins pinned held → IsPermutation held (p ∷ rest)
+pub knows_unpin : (pinned : ℕ → Option ℕ) (passes rest : List Known) (p : Known)
+    → KnowsPins pinned passes → IsPermutation passes (p ∷ rest)
     → KnowsPins (pinned_now p.number None pinned) rest
-knows_unpin pinned held rest p k moved = record {
-  own = All-tail SawItself p rest (All-permutation SawItself held (p ∷ rest) moved k.own);
+knows_unpin pinned passes rest p k moved = record {
+  own = All-tail SawItself p rest (All-permutation SawItself passes (p ∷ rest) moved k.own);
   pins = λ i d l. now_other p.number (get_or rest i d).number None pinned (alone i d l)
       ∙ others_pin i d l;
   others = λ j a. other_pins j a;
@@ -161,39 +164,39 @@ knows_unpin pinned held rest p k moved = record {
         (omega (
           arith,
           k.once p.number,
-          times_moved p.number held (p ∷ rest) moved,
+          times_moved p.number passes (p ∷ rest) moved,
           times_own p.number p.number (numbers rest) refl,
         ))
 
     others_pin : All (λ (x : Known). pinned x.number ≡ Some (length x.seen)) rest
     others_pin = All-tail (λ (x : Known). pinned x.number ≡ Some (length x.seen)) p rest
-        (All-permutation (λ (x : Known). pinned x.number ≡ Some (length x.seen)) held (p ∷ rest)
+        (All-permutation (λ (x : Known). pinned x.number ≡ Some (length x.seen)) passes (p ∷ rest)
         moved k.pins)
 
-    held_nowhere : (j : ℕ) → IsNowhere rest j → j ≢ p.number → IsNowhere held j
-    held_nowhere j a other = All-permutation (λ (x : Known). x.number ≢ j) (p ∷ rest) held
-        (IsPermutation-sym held (p ∷ rest) moved)
+    nowhere_held : (j : ℕ) → IsNowhere rest j → j ≢ p.number → IsNowhere passes j
+    nowhere_held j a other = All-permutation (λ (x : Known). x.number ≢ j) (p ∷ rest) passes
+        (IsPermutation-sym passes (p ∷ rest) moved)
         (All-cons (λ (x : Known). x.number ≢ j) p rest (λ e. other (sym e)) a)
 
     other_pins : (j : ℕ) → IsNowhere rest j → pinned_now p.number None pinned j ≡ None
     other_pins j a = dite (ℕ_discrete j p.number)
         (λ (is : j ≡ p.number). now_there p.number j None pinned is)
         (λ (other : j ≢ p.number). now_other p.number j None pinned other
-        ∙ k.others j (held_nowhere j a other))
+        ∙ k.others j (nowhere_held j a other))
 
     fewer : (j : ℕ) → times j (numbers rest) ≤ 1
     fewer j = dite (ℕ_discrete p.number j)
         (λ (is : p.number ≡ j). omega (
           arith,
           k.once j,
-          times_moved j held (p ∷ rest) moved,
+          times_moved j passes (p ∷ rest) moved,
           times_own j p.number
               (numbers rest) is,
         ))
         (λ (other : p.number ≢ j). omega (
           arith,
           k.once j,
-          times_moved j held (p ∷ rest) moved,
+          times_moved j passes (p ∷ rest) moved,
           times_other j p.number
               (numbers rest) other,
         ))

@@ -29,8 +29,8 @@ nothing_yet store start g = nobody (new_passes store) start g.alone
 -- the passes r settled as s, did what the lines asked as t, and were released as v
 module _ {S W : Type 0} (gives : S → List ℕ → S → Type 0) (takes : W → List ℕ → W → Type 0)
     (failures : W → ℕ) where
-  pub ran_script : (store : StoreId) (b c : S) (w x : W) (r s t v : Roster) → r.held ≡ []
-      → Settled r.free r.held s.free s.held → Ran gives takes (Serves store) b w s c x t
+  pub ran_script : (store : StoreId) (b c : S) (w x : W) (r s t v : Roster) → r.pinned ≡ []
+      → Settled r.free r.pinned s.free s.pinned → Ran gives takes (Serves store) b w s c x t
       → Released t v →
       RanScript gives takes store b w r.free c x v.free
   ran_script store b c w x r s t v none first a end = let all =
@@ -50,8 +50,9 @@ module _ {S W : Type 0} (gives : S → List ℕ → S → Type 0) (takes : W →
         seen = last_saw all.0 t end.s v all.2 end.freed end.settled;
       }
 
-  pub stopped_script : (store : StoreId) (b c : S) (w x : W) (r s t v : Roster) → r.held ≡ []
-      → Settled r.free r.held s.free s.held → Stopped gives takes failures (Serves store) b w s c x
+  pub stopped_script : (store : StoreId) (b c : S) (w x : W) (r s t v : Roster) → r.pinned ≡ []
+      → Settled r.free r.pinned s.free s.pinned → Stopped gives takes failures (Serves store) b w s
+      c x
       t → Released t v →
       StoppedScript gives takes failures store b w r.free c x v.free
   stopped_script store b c w x r s t v none first a end = let all =

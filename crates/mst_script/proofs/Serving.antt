@@ -72,12 +72,12 @@ asks_others : (command : Command) (r s : Roster) (place : ℕ) (text : List ℕ)
     (a.q ∷ os)
 asks_others command r s place text within a =
     let o = others_at r.free place a.p a.q within (a.here a.p) in (
-      o.0 ++ r.held,
-      IsPermutation-append_left r.held r.free (a.p ∷ o.0) o.1,
-      subst (λ (l : List Known). IsPermutation l (a.q ∷ (o.0 ++ r.held)))
-          (sym (ap (λ (l : List Known). l ++ s.held) a.free
-          ∙ ap (λ (l : List Known). set r.free place a.q ++ l) a.held))
-          (IsPermutation-append_left r.held (set r.free place a.q) (a.q ∷ o.0) o.2),
+      o.0 ++ r.pinned,
+      IsPermutation-append_left r.pinned r.free (a.p ∷ o.0) o.1,
+      subst (λ (l : List Known). IsPermutation l (a.q ∷ (o.0 ++ r.pinned)))
+          (sym (ap (λ (l : List Known). l ++ s.pinned) a.free
+          ∙ ap (λ (l : List Known). set r.free place a.q ++ l) a.pinned))
+          (IsPermutation-append_left r.pinned (set r.free place a.q) (a.q ∷ o.0) o.2),
     )
 
 pub all_asked : (store : StoreId) (command : Command) (r s : Roster) (place : ℕ) (text : List ℕ)
@@ -88,7 +88,7 @@ all_asked store command r s place text within a all = let o =
     all_changed store (everyone r) (everyone s) o.0 a.p a.q o.1 o.2 a.asked.turn.same all
 
 pub does_ask : (store : StoreId) (n : ℕ) (command : Command) (r s : Roster) (place : ℕ)
-    (text : List ℕ) → AreAllOf store (everyone r) → IsPlace r.free n place → IsNowhere r.held n
+    (text : List ℕ) → AreAllOf store (everyone r) → IsPlace r.free n place → IsNowhere r.pinned n
     → is_pin command ≡ false →
     AsksFree command r place text s → Does store n command r text s
 does_ask store n command r s place text all at nowhere other a = λ m shows t st.
@@ -101,7 +101,7 @@ does_ask store n command r s place text all at nowhere other a = λ m shows t st
     (gathers_moved st.log (everyone s) (a.q ∷ o.0) o.2 (settled_gathers s t st)) in
     let new : Machine = record { history = m.history ++ a.asked.t; pinned = m.pinned } in
     let of_store : a.p.store ≡ store = ap (λ (x : Known). x.store) (sym (a.here a.p))
-    ∙ front_of (λ (x : Known). x.store ≡ store) r.free r.held all.of_one place a.p at.0 in
+    ∙ front_of (λ (x : Known). x.store ≡ store) r.free r.pinned all.of_one place a.p at.0 in
     let of_number : a.p.number ≡ n = ap (λ (x : Known). x.number) (sym (a.here a.p)) ∙ at.1 a.p in
     let now : a.q.seen ≡ new.history = turn.seen ∙ ap (λ (x : History). x ++ a.asked.t) both.0 in
     let acts = acts_there store n command text a.p a.q a.asked.log m.history new.history of_store
@@ -109,7 +109,7 @@ does_ask store n command r s place text all at nowhere other a = λ m shows t st
       new,
       step_free store n command m new text (shows.pins.others n nowhere)
           (free_step store n command m new text other acts refl),
-      shows_settled new s t st both.1 (subst (KnowsPins m.pinned) (sym a.held) shows.pins),
+      shows_settled new s t st both.1 (subst (KnowsPins m.pinned) (sym a.pinned) shows.pins),
     )
 
 -- ---- a pass that pins a version read it, or was refused
@@ -138,7 +138,7 @@ version_seen g h b = ap (take (length g)) b.1 ∙ take-append_seam g b.0
 
 -- what the machine knows of the pass at this place
 pinned_at : (m : Machine) (r : Roster) (n place : ℕ) (p : Known) → Shows m r
-    → IsPlace r.held n place → get_or r.held place p ≡ p → (m.pinned n ≡ Some (length p.seen))
+    → IsPlace r.pinned n place → get_or r.pinned place p ≡ p → (m.pinned n ≡ Some (length p.seen))
     × (p.number ≡ n) × IsPrefix p.seen m.history
 pinned_at m r n place p shows at here =
     let number : p.number ≡ n = ap (λ (x : Known). x.number) (sym here) ∙ at.1 p in (
@@ -146,7 +146,7 @@ pinned_at m r n place p shows at here =
           ∙ ap (λ (x : Known). Some (length x.seen)) here,
       number,
       subst (λ (x : Known). IsPrefix x.seen m.history) here
-          (back_of (λ (x : Known). IsPrefix x.seen m.history) r.free r.held shows.gathered.later
+          (back_of (λ (x : Known). IsPrefix x.seen m.history) r.free r.pinned shows.gathered.later
           place p at.0),
     )
 
@@ -156,7 +156,7 @@ all_recalled store command r s place text a all =
     subst (λ (x : Roster). AreAllOf store (everyone x)) (sym a.same) all
 
 pub does_recall : (store : StoreId) (n : ℕ) (command : Command) (r s : Roster) (place : ℕ)
-    (text : List ℕ) → AreAllOf store (everyone r) → IsPlace r.held n place → is_unpin command
+    (text : List ℕ) → AreAllOf store (everyone r) → IsPlace r.pinned n place → is_unpin command
     ≡ false → AsksPinned command r place text s → Does store n command r text s
 does_recall store n command r s place text all at other a = λ m shows t st.
     let k = pinned_at m r n place a.p shows at (a.here a.p) in
@@ -164,7 +164,7 @@ does_recall store n command r s place text all at other a = λ m shows t st.
     subst (λ (x : Roster). IsPermutation (everyone r) (everyone x)) (sym a.same)
     (IsPermutation-refl (everyone r)) in
     let of_store : a.p.store ≡ store = ap (λ (x : Known). x.store) (sym (a.here a.p))
-    ∙ back_of (λ (x : Known). x.store ≡ store) r.free r.held all.of_one place a.p at.0 in
+    ∙ back_of (λ (x : Known). x.store ≡ store) r.free r.pinned all.of_one place a.p at.0 in
     let seen = take (length a.p.seen) m.history in
     let recalls : Recalls command (format_after store.format seen) (after seen) text =
     subst (λ (h : History). Recalls command (format_after store.format h) (after h) text)
@@ -175,7 +175,7 @@ does_recall store n command r s place text all at other a = λ m shows t st.
       step_pinned store n (length a.p.seen) command m m text k.0
           (pinned_step store n (length a.p.seen) command m text other recalls),
       shows_settled m s t st (still_there m r s t shows moved st)
-          (subst (λ (x : Roster). KnowsPins m.pinned x.held) (sym a.same) shows.pins),
+          (subst (λ (x : Roster). KnowsPins m.pinned x.pinned) (sym a.same) shows.pins),
     )
 
 -- ---- a free pass pinned a version
@@ -186,11 +186,12 @@ pins_others : (r s : Roster) (place version : ℕ) → place < length r.free
     (a.q ∷ os)
 pins_others r s place version within a =
     let rest = swap_remove r.free place a.p in (
-      rest ++ r.held,
-      moved_back r.free r.held rest a.p (IsPermutation-swap_remove r.free place a.p within a.here),
-      subst (λ (l : List Known). IsPermutation l (a.q ∷ (rest ++ r.held)))
-          (sym (ap (λ (l : List Known). l ++ s.held) a.free ∙ ap (λ (l : List Known). rest ++ l)
-          a.held)) (now_back rest r.held a.q),
+      rest ++ r.pinned,
+      moved_back r.free r.pinned rest a.p
+          (IsPermutation-swap_remove r.free place a.p within a.here),
+      subst (λ (l : List Known). IsPermutation l (a.q ∷ (rest ++ r.pinned)))
+          (sym (ap (λ (l : List Known). l ++ s.pinned) a.free ∙ ap (λ (l : List Known). rest ++ l)
+          a.pinned)) (now_back rest r.pinned a.q),
     )
 
 pub all_pinned : (store : StoreId) (r s : Roster) (place version : ℕ) → place < length r.free
@@ -199,7 +200,7 @@ all_pinned store r s place version within a all = let o = pins_others r s place 
     all_changed store (everyone r) (everyone s) o.0 a.p a.q o.1 o.2 a.looks.same all
 
 pub does_pin : (store : StoreId) (n : ℕ) (command : Command) (r s : Roster) (place version : ℕ)
-    (text : List ℕ) → IsPlace r.free n place → IsNowhere r.held n → is_pin command ≡ true
+    (text : List ℕ) → IsPlace r.free n place → IsNowhere r.pinned n → is_pin command ≡ true
     → text ≡ line_of (pinned_words version) →
     Pins r place version s → Does store n command r text s
 does_pin store n command r s place version text at nowhere pin is a = λ m shows t st.
@@ -212,17 +213,17 @@ does_pin store n command r s place version text at nowhere pin is a = λ m shows
     (gathers_moved st.log (everyone s) (a.q ∷ o.0) o.2 (settled_gathers s t st)) in
     let new : Machine = with_pin n (Some (length m.history)) m in
     let number : a.q.number ≡ n = a.looks.same.1 ∙ ap (λ (x : Known). x.number) a.here ∙ at.1 a.p in
-    let knows : KnowsPins new.pinned (r.held ++ a.q ∷ []) =
+    let knows : KnowsPins new.pinned (r.pinned ++ a.q ∷ []) =
     subst (λ (h : History). KnowsPins (with_pin n (Some (length h)) m).pinned
-    (r.held ++ a.q ∷ [])) both.0
-    (knows_pin m.pinned r.held n a.q shows.pins nowhere number a.looks.own) in
+    (r.pinned ++ a.q ∷ [])) both.0
+    (knows_pin m.pinned r.pinned n a.q shows.pins nowhere number a.looks.own) in
     let said : text ≡ line_of (pinned_words (length m.history)) =
     is ∙ ap (λ (k : ℕ). line_of (pinned_words k)) (a.version_is ∙ ap length both.0) in (
       new,
       step_free store n command m new text (shows.pins.others n nowhere)
           (pin_step store n command m text pin said),
       shows_settled new s t st (both.1 ∙ append-nil m.history)
-          (subst (KnowsPins new.pinned) (sym a.held) knows),
+          (subst (KnowsPins new.pinned) (sym a.pinned) knows),
     )
   where
     pin_step : (store : StoreId) (p : ℕ) (c : Command) (m : Machine) (text : List ℕ)
@@ -245,45 +246,47 @@ does_pin store n command r s place version text at nowhere pin is a = λ m shows
 
 -- ---- a pass ended its pin
 
-unpins_others : (r s : Roster) (place : ℕ) → place < length r.held → (a : Unpins r place s)
+unpins_others : (r s : Roster) (place : ℕ) → place < length r.pinned → (a : Unpins r place s)
     → (os : List Known) × IsPermutation (everyone r) (a.p ∷ os) × IsPermutation (everyone s)
     (a.p ∷ os)
 unpins_others r s place within a =
-    let rest = swap_remove r.held place a.p in (
+    let rest = swap_remove r.pinned place a.p in (
       r.free ++ rest,
-      moved_front r.free r.held rest a.p (IsPermutation-swap_remove r.held place a.p within a.here),
+      moved_front r.free r.pinned rest a.p
+          (IsPermutation-swap_remove r.pinned place a.p within a.here),
       subst (λ (l : List Known). IsPermutation l (a.p ∷ (r.free ++ rest)))
-          (sym (ap (λ (l : List Known). l ++ s.held) a.free
-          ∙ ap (λ (l : List Known). (r.free ++ a.p ∷ []) ++ l) a.held)) (now_front r.free rest a.p),
+          (sym (ap (λ (l : List Known). l ++ s.pinned) a.free
+          ∙ ap (λ (l : List Known). (r.free ++ a.p ∷ []) ++ l) a.pinned))
+          (now_front r.free rest a.p),
     )
 
-unpins_moved : (r s : Roster) (place : ℕ) → place < length r.held → Unpins r place s
+unpins_moved : (r s : Roster) (place : ℕ) → place < length r.pinned → Unpins r place s
     → IsPermutation (everyone r) (everyone s)
 unpins_moved r s place within a = let o = unpins_others r s place within a in
     IsPermutation-trans (everyone r) (a.p ∷ o.0) (everyone s) o.1
     (IsPermutation-sym (everyone s) (a.p ∷ o.0) o.2)
 
-pub all_unpinned : (store : StoreId) (r s : Roster) (place : ℕ) → place < length r.held
+pub all_unpinned : (store : StoreId) (r s : Roster) (place : ℕ) → place < length r.pinned
     → Unpins r place s → AreAllOf store (everyone r) → AreAllOf store (everyone s)
 all_unpinned store r s place within a all = all_moved store (everyone r) (everyone s)
     (unpins_moved r s place within a) all
 
 pub does_unpin : (store : StoreId) (n : ℕ) (command : Command) (r s : Roster) (place : ℕ)
-    (text : List ℕ) → IsPlace r.held n place → is_unpin command ≡ true
+    (text : List ℕ) → IsPlace r.pinned n place → is_unpin command ≡ true
     → text ≡ line_of (codes "unpinned") → Unpins r place s → Does store n command r text s
 does_unpin store n command r s place text at unpin said a = λ m shows t st.
     let k = pinned_at m r n place a.p shows at (sym a.here) in
     let new : Machine = with_pin n None m in
-    let rest = swap_remove r.held place a.p in
+    let rest = swap_remove r.pinned place a.p in
     let knows : KnowsPins new.pinned rest =
     subst (λ (i : ℕ). KnowsPins (with_pin i None m).pinned rest) k.1
-    (knows_unpin m.pinned r.held rest a.p shows.pins
-    (IsPermutation-swap_remove r.held place a.p at.0 a.here)) in (
+    (knows_unpin m.pinned r.pinned rest a.p shows.pins
+    (IsPermutation-swap_remove r.pinned place a.p at.0 a.here)) in (
       new,
       step_pinned store n (length a.p.seen) command m new text k.0
           (unpin_step store n (length a.p.seen) command m text unpin said),
       shows_settled new s t st (still_there m r s t shows (unpins_moved r s place at.0 a) st)
-          (subst (KnowsPins new.pinned) (sym a.held) knows),
+          (subst (KnowsPins new.pinned) (sym a.pinned) knows),
     )
   where
     unpin_step : (store : StoreId) (p n : ℕ) (c : Command) (m : Machine) (text : List ℕ)
@@ -310,7 +313,7 @@ does_unpin store n command r s place text at unpin said a = λ m shows t st.
 pub line_served : (store : StoreId) (n : ℕ) (r s t : Roster) (line : Option (List ℕ))
     (text : List ℕ) (asks : Result Request Fault) (request : Request) → n ≡ store.passes
     → asks ≡ asked n line → asks ≡ Ok request →
-    Does store request.pass request.command r text s → Settled s.free s.held t.free t.held
+    Does store request.pass request.command r text s → Settled s.free s.pinned t.free t.pinned
     → Serves store r line text t
 line_served store n r s t line text asks request count by is does st = λ m shows.
     let same : asked store.passes line ≡ Ok request = ap (λ (i : ℕ). asked i line) (sym count)

@@ -12,8 +12,8 @@ use Rattle.mst_requests.specs.declared.request.Command.{Command}
 use Rattle.mst_requests.specs.declared.request.Command.TheVariants.{Pin, Unpin}
 use Rattle.mst_node.specs.Tree.{tree}
 use Rattle.mst_node.specs.Trail.{proof_text}
-use Rattle.mst_script.specs.declared.passes.Place.{Place}
-use Rattle.mst_script.specs.declared.passes.Place.TheVariants.{Free, Held}
+use Rattle.mst_script.specs.declared.passes.PassPlace.{PassPlace}
+use Rattle.mst_script.specs.declared.passes.PassPlace.TheVariants.{Free, Pinned}
 use Rattle.mst_script.specs.Machine.{Machine, LacksMemory, Acts, Recalls, Step, Line, top_words}
 use Rattle.mst_requests.specs.Texts.{line_of}
 
@@ -41,13 +41,13 @@ pub record AllSaw (h : History) (ps : List Known) : Type 0 where
 -- that pins one has seen the history at its pin
 pub record Roster : Type 0 where
   pub free : List Known
-  pub held : List Known
+  pub pinned : List Known
 
 abbrev pub roster : List Known → List Known → Roster
-roster free held = record { free = free; held = held }
+roster free pinned = record { free = free; pinned = pinned }
 
 abbrev pub everyone : Roster → List Known
-everyone r = r.free ++ r.held
+everyone r = r.free ++ r.pinned
 
 -- the pass has seen its own events
 abbrev pub SawItself : Known → Type 0
@@ -59,18 +59,18 @@ IsNowhere ps number = All (λ p. p.number ≢ number) ps
 
 -- which version each of these passes pins, and none where no one of them has the number; no two of
 -- them have one number
-pub record KnowsPins (pinned : ℕ → Option ℕ) (held : List Known) : Type 0 where
-  pub own : All SawItself held
-  pub pins : All (λ p. pinned p.number ≡ Some (length p.seen)) held
-  pub others : (n : ℕ) → IsNowhere held n → pinned n ≡ None
-  pub once : (n : ℕ) → count_by (λ k. k == n) (numbers held) ≤ 1
+pub record KnowsPins (pinned : ℕ → Option ℕ) (passes : List Known) : Type 0 where
+  pub own : All SawItself passes
+  pub pins : All (λ p. pinned p.number ≡ Some (length p.seen)) passes
+  pub others : (n : ℕ) → IsNowhere passes n → pinned n ≡ None
+  pub once : (n : ℕ) → count_by (λ k. k == n) (numbers passes) ≤ 1
 
 -- the passes are in this state of the machine: the free ones have seen its whole history, and the
 -- others pin what it says
 pub record Shows (m : Machine) (r : Roster) : Type 0 where
   pub seen : All (λ p. p.seen ≡ m.history) r.free
   pub gathered : Gathers m.history (everyone r)
-  pub pins : KnowsPins m.pinned r.held
+  pub pins : KnowsPins m.pinned r.pinned
 
 -- the pass saw a history that begins with all that it had seen, and added these events to it
 pub record Turn (log t : History) (p q : Known) : Type 0 where
@@ -112,7 +112,7 @@ Serves store r line text s =
 -- the same for what the pass p is asked for, once the passes that result have settled
 abbrev pub Does : StoreId → ℕ → Command → Roster → List ℕ → Roster → Type 0
 Does store p command r text s =
-    (m : Machine) → Shows m r → (t : Roster) → Settled s.free s.held t.free t.held
+    (m : Machine) → Shows m r → (t : Roster) → Settled s.free s.pinned t.free t.pinned
     → (new : Machine) × Step store p command m text new × Shows new t
 
 -- at this place stands the pass with this number
@@ -122,9 +122,9 @@ IsPlace ps number place =
 
 -- where the pass with this number was found: among those that pin a version, and where none of them
 -- has the number, among the free ones
-abbrev pub IsFound : Roster → ℕ → Place → Type 0
-IsFound r number (Held place) = IsPlace r.held number place
-IsFound r number (Free place) = IsPlace r.free number place × IsNowhere r.held number
+abbrev pub IsFound : Roster → ℕ → PassPlace → Type 0
+IsFound r number (Pinned place) = IsPlace r.pinned number place
+IsFound r number (Free place) = IsPlace r.free number place × IsNowhere r.pinned number
 
 -- the free pass at this place did what it was asked for
 pub record AsksFree (command : Command) (r : Roster) (place : ℕ) (text : List ℕ)
@@ -134,13 +134,13 @@ pub record AsksFree (command : Command) (r : Roster) (place : ℕ) (text : List 
   pub here : (d : Known) → slice_index_or r.free place d ≡ p
   pub asked : Asked command p text q
   pub free : s.free ≡ slice_set r.free place q
-  pub held : s.held ≡ r.held
+  pub pinned : s.pinned ≡ r.pinned
 
 -- the pass at this place read the version that it pins, or was refused
 pub record AsksPinned (command : Command) (r : Roster) (place : ℕ) (text : List ℕ)
     (s : Roster) : Type 0 where
   pub p : Known
-  pub here : (d : Known) → slice_index_or r.held place d ≡ p
+  pub here : (d : Known) → slice_index_or r.pinned place d ≡ p
   pub recalls : Recalls command (format_seen p) (after p.seen) text
   pub same : s ≡ r
 
@@ -152,22 +152,22 @@ pub record Pins (r : Roster) (place : ℕ) (version : ℕ) (s : Roster) : Type 0
   pub looks : Looks p q
   pub version_is : version ≡ length q.seen
   pub free : s.free ≡ swap_remove r.free place p
-  pub held : s.held ≡ r.held ++ q ∷ []
+  pub pinned : s.pinned ≡ r.pinned ++ q ∷ []
 
 -- the pass at this place ended its pin
 pub record Unpins (r : Roster) (place : ℕ) (s : Roster) : Type 0 where
   pub p : Known
-  pub here : p ≡ slice_index_or r.held place p
+  pub here : p ≡ slice_index_or r.pinned place p
   pub free : s.free ≡ r.free ++ p ∷ []
-  pub held : s.held ≡ swap_remove r.held place p
+  pub pinned : s.pinned ≡ swap_remove r.pinned place p
 
 -- all pins were ended
 pub record AllFreed (r s : Roster) : Type 0 where
-  pub none : s.held ≡ []
+  pub none : s.pinned ≡ []
   pub same : IsPermutation (everyone r) s.free
 
 -- all pins were ended, and then all passes settled
 pub record Released (r t : Roster) : Type 0 where
   pub s : Roster
   pub freed : AllFreed r s
-  pub settled : Settled s.free s.held t.free t.held
+  pub settled : Settled s.free s.pinned t.free t.pinned

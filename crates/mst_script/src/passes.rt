@@ -14,11 +14,11 @@ use std::marker::Model;
 
 /// Where a pass is, among the free passes or among those that pin a version.
 #[derive(Clone, Copy, Debug, PartialEq, Eq)]
-pub enum Place {
+pub enum PassPlace {
     /// At this place of the free passes.
     Free(usize),
     /// At this place of those that pin a version.
-    Held(usize),
+    Pinned(usize),
 }
 
 /// The passes of a store, each of them free or with a pin.
@@ -27,7 +27,7 @@ pub enum Place {
 #[derive(Drop)]
 pub struct Passes<'a, A: Allocator, B: Allocator + Copy> {
     free: Vec<Pass<'a, B>, B>,
-    held: Vec<Pinned<'a, B>, A>,
+    pinned: Vec<Pinned<'a, B>, A>,
 }
 
 /// Contracts see what is known of the passes on either side.
@@ -37,52 +37,52 @@ impl<'a, A: Allocator, B: Allocator + Copy> Model for Passes<'a, A, B> {
 
     ghost Value = { Roster };
 
-    ghost view = { λ p. roster p.free.items p.held.items };
+    ghost view = { λ p. roster p.free.items p.pinned.items };
 
-    ghost invariant = { λ p. (vec_len p.free + vec_len p.held ≤ vec_capacity p.free)
-        × (vec_len p.free + vec_len p.held ≤ vec_capacity p.held) };
+    ghost invariant = { λ p. (vec_len p.free + vec_len p.pinned ≤ vec_capacity p.free)
+        × (vec_len p.free + vec_len p.pinned ≤ vec_capacity p.pinned) };
 }
 
 impl<'a, A: Allocator, B: Allocator + Copy> Passes<'a, A, B> {
     /// Free passes, and an empty list with room for as many that pin a version.
-    pub fn new(free: Vec<Pass<'a, B>, B>, held: Vec<Pinned<'a, B>, A>) -> Self
-        requires empty { held.items ≡ [] }
-        requires room { vec_len free ≤ vec_capacity held }
+    pub fn new(free: Vec<Pass<'a, B>, B>, pinned: Vec<Pinned<'a, B>, A>) -> Self
+        requires empty { pinned.items ≡ [] }
+        requires room { vec_len free ≤ vec_capacity pinned }
         ensures free { result.free ≡ free.entry.items }
-        ensures none { result.held ≡ [] }
+        ensures none { result.pinned ≡ [] }
     {
-        Passes { free, held }
+        Passes { free, pinned }
     }
 
     /// Returns the free passes, if no pass has a pin.
     pub fn into_free(self) -> Vec<Pass<'a, B>, B>
         ensures free { result.items ≡ self.entry.free }
     {
-        let Passes { free, held: _ } = self;
+        let Passes { free, pinned: _ } = self;
         free
     }
 
     /// Lets all passes settle.
     pub fn settle(&mut self)
         requires whole { AreAllPasses (everyone self.old) }
-        ensures settled { Settled self.old.free self.old.held self.new.free self.new.held }
+        ensures settled { Settled self.old.free self.old.pinned self.new.free self.new.pinned }
     {
-        settle(self.free.as_mut_slice(), self.held.as_mut_slice());
+        settle(self.free.as_mut_slice(), self.pinned.as_mut_slice());
     }
 
     /// Where the pass with this number is.
-    pub fn find(&self, number: u32) -> Place
+    pub fn find(&self, number: u32) -> PassPlace
         requires there { Contains (numbers (everyone self.now)) number }
         ensures found { IsFound self.now number result }
     {
-        for (place, pinned) in self.held.as_slice().iter().enumerate() {
+        for (place, pinned) in self.pinned.as_slice().iter().enumerate() {
             if pinned.number() == number {
-                return Place::Held(place);
+                return PassPlace::Pinned(place);
             }
         }
         for (place, pass) in self.free.as_slice().iter().enumerate() {
             if pass.number() == number {
-                return Place::Free(place);
+                return PassPlace::Free(place);
             }
         }
         unreachable!()
@@ -109,11 +109,11 @@ impl<'a, A: Allocator, B: Allocator + Copy> Passes<'a, A, B> {
         place: usize,
         command: &Command<'_>,
     ) -> Answer<C>
-        requires place { place < length self.old.held }
+        requires place { place < length self.old.pinned }
         requires other { is_unpin command.now ≡ false }
         ensures asked { AsksPinned command.now self.old place (text_of result) self.new }
     {
-        recall(alloc, &mut self.held[place], command)
+        recall(alloc, &mut self.pinned[place], command)
     }
 
     /// Pins the current version by the free pass at this place, and returns the version's number.
@@ -123,16 +123,16 @@ impl<'a, A: Allocator, B: Allocator + Copy> Passes<'a, A, B> {
     {
         let pinned = self.free.swap_remove(place).pin();
         let version = pinned.version();
-        self.held.push_reserved(pinned);
+        self.pinned.push_reserved(pinned);
         version
     }
 
     /// Ends the pin of the pass at this place.
     pub fn unpin(&mut self, place: usize)
-        requires place { place < length self.old.held }
+        requires place { place < length self.old.pinned }
         ensures unpins { Unpins self.old place self.new }
     {
-        let pass = self.held.swap_remove(place).unpin();
+        let pass = self.pinned.swap_remove(place).unpin();
         self.free.push_reserved(pass);
     }
 
@@ -140,7 +140,7 @@ impl<'a, A: Allocator, B: Allocator + Copy> Passes<'a, A, B> {
     fn unpin_all(&mut self)
         ensures freed { AllFreed self.old self.new }
     {
-        while let Some(pinned) = self.held.pop() {
+        while let Some(pinned) = self.pinned.pop() {
             self.free.push_reserved(pinned.unpin());
         }
     }

@@ -124,7 +124,7 @@ fn settle_and_drive<S: Source, W: Sink, A: Allocator + Copy, B: Allocator + Copy
     requires pending { pending.old ≡ [] }
     requires reader { reader.old ≡ [] }
     requires whole { AreAllOf store.now passes.old.free }
-    requires free { passes.old.held ≡ [] }
+    requires free { passes.old.pinned ≡ [] }
     ensures whole { AreAllOf store.now passes.new.free }
     ensures ok { OnOk result (RanScript S.gives W.takes store.now
         source.old sink.old passes.old.free source.new sink.new passes.new.free) }
@@ -185,12 +185,12 @@ pub fn run<S: Source, W: Sink, A: Allocator + Copy, B: Allocator + Copy>(
         Ok(reader) => reader,
         Err(refused) => return Err(RunFault::Memory(Memory::from(refused))),
     };
-    let held = match Vec::with_capacity(alloc, passes.len()) {
-        Ok(held) => held,
+    let pinned = match Vec::with_capacity(alloc, passes.len()) {
+        Ok(pinned) => pinned,
         Err(refused) => return Err(RunFault::Memory(Memory::from(refused))),
     };
     let none = Vec::new(*passes.allocator());
-    let mut all = Passes::new(mem::replace(passes, none), held);
+    let mut all = Passes::new(mem::replace(passes, none), pinned);
     let driven = settle_and_drive(
         alloc,
         source,

@@ -4,7 +4,7 @@ ghost use Rattle.mst_requests.specs.Answers.{text_of};
 ghost use Rattle.mst_requests.specs.Grammar.{IsDealt};
 ghost use Rattle.mst_script.specs.Serving.{AreAllOf, everyone, is_pin as asks_pin, is_unpin as asks_unpin, Does, Serves};
 
-use crate::passes::{Passes, Place};
+use crate::passes::{PassPlace, Passes};
 use mst_lines::LineBuffer;
 use mst_requests::{Answer, Command, Request, request_in};
 use mst_store::Store;
@@ -39,13 +39,13 @@ fn answer<A: Allocator + Copy, B: Allocator, C: Allocator + Copy>(
 {
     let command = &request.command;
     match passes.find(request.pass) {
-        Place::Free(place) => {
+        PassPlace::Free(place) => {
             if is_pin(command) {
                 return Answer::Pinned(passes.pin(place));
             }
             passes.ask(alloc, place, command)
         }
-        Place::Held(place) => {
+        PassPlace::Pinned(place) => {
             if is_unpin(command) {
                 passes.unpin(place);
                 return Answer::Unpinned;

@@ -6,7 +6,7 @@ use Rattle.mst_key.specs.Map.{Pair}
 use Rattle.mst_key.specs.History.{changed, changed_format}
 use Rattle.mst_node.specs.Tree.{Tree, empty, node, Entries, last, entry, entry_count, pairs, entries_pairs, tree, IsMst, IsMstEntries}
 use Rattle.mst_node.specs.Cost.{subtrees, entries_subtrees, is_subtree, new_rows}
-use Rattle.mst_node.proofs.HeldLaws.{weigh, weigh_is, weigh-append}
+use Rattle.mst_node.proofs.Weights.{weigh, weigh_is, weigh-append}
 use Rattle.mst_node.proofs.UniqueTree.{pairs_tree, tree_mst}
 use Rattle.mst_path.proofs.lemmas.trees.Nodes.{nodes_le}
 use Rattle.mst_versions.specs.Writes.{rows_of, rows_taken}

@@ -1,5 +1,5 @@
 //! The parts of a proof of a sharded map, each borrowed from its bytes.
-ghost use Rattle.std.specs.Prelude.{◌≡◌, IfOk, IfErr, IfSome};
+ghost use Rattle.std.specs.Prelude.{◌≡◌, IfOk, IfErr};
 ghost use Rattle.std.specs.declared.result.Result.TheVariants.{Ok, Err};
 ghost use Rattle.mst_node.specs.Reading.{Gives};
 ghost use Rattle.mst_proof.specs.Frame.{text_at};

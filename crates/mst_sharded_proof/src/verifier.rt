@@ -7,7 +7,7 @@ ghost use Rattle.mst_node.specs.Collision.{HasCollision};
 ghost use Rattle.mst_sharded_proof.specs.Accepted.{ShardedAccepted};
 ghost use Rattle.mst_sharded_proof.specs.Frame.{sharded_proof};
 ghost use Rattle.mst_sharded_proof.specs.Theorem.{HasShardedRoot, directory_tree, shard_tree, sharded_texts};
-ghost use Rattle.mst_sharded_proof.specs.Verdict.{is_below as below, placed, listed as listed_by, answered as answered_by, judgement, sharded_verdict};
+ghost use Rattle.mst_sharded_proof.specs.Verdict.{is_below as below, placed, listed as listed_by, answered as answered_by, sharded_verdict};
 
 use crate::fault::ShardedFault;
 use crate::frame::Parts;

@@ -1,5 +1,5 @@
 //! The handles of a sharded map while they serve a script.
-ghost use Rattle.std.specs.Prelude.{◌≡◌, ◌≤◌, length, vec_len, vec_capacity, IfOk, OnOk};
+ghost use Rattle.std.specs.Prelude.{◌≡◌, IfOk};
 ghost use Rattle.mst_sharded_script.specs.States.{Free, are_free};
 
 use mst_key::Memory;

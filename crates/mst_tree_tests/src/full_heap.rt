@@ -6,7 +6,7 @@ use crate::proving::THREE_PROOF;
 use linked_list_allocator::LocalHeap;
 use mst_key::{Key, Value};
 use mst_node::{
-    Place, Span, ascending, digest, empty_digest, is_map, read_text, root_of, top_text,
+    KeyPlace, Span, ascending, digest, empty_digest, is_map, read_text, root_of, top_text,
 };
 use mst_proof::{ProofFault, verify};
 use std::alloc::Global;
@@ -39,8 +39,8 @@ fn holds(text: &[u8], key: &Key, value: &Value) -> bool {
         return false;
     }
     match flat.locate(key, Span::all()) {
-        Place::Held(held) => held == *value,
-        Place::Gap { .. } => false,
+        KeyPlace::Found(held) => held == *value,
+        KeyPlace::Gap { .. } => false,
     }
 }
 
@@ -50,8 +50,8 @@ fn has_gap(text: &[u8], key: &Key, wanted: [u8; 32]) -> bool {
         return false;
     };
     match flat.locate(key, Span::all()) {
-        Place::Held(_) => false,
-        Place::Gap { child, .. } => child == Some(wanted),
+        KeyPlace::Found(_) => false,
+        KeyPlace::Gap { child, .. } => child == Some(wanted),
     }
 }
 

@@ -11,7 +11,7 @@ use Rattle.mst_node.specs.Text.{FlatNode, digest_of}
 use Rattle.mst_node.proofs.MapTextsInGrammar.{sha256_digest}
 use Rattle.mst_proof.specs.declared.fault.ProofFault.{ProofFault}
 use Rattle.mst_proof.specs.declared.fault.ProofFault.TheVariants.{OtherDigest}
-use Rattle.mst_node.specs.Place.{place_of}
+use Rattle.mst_node.specs.KeyPlace.{place_of}
 use Rattle.mst_proof.specs.Frame.{◌>>◌, text_at, texts_at, claim_at}
 use Rattle.mst_proof.specs.Verdict.{step_at, step_of, step_in_node, node_in, first_expected, unless, by_step, answer_at_end, followed, settled}
 use Rattle.mst_verifier.specs.declared.question.Refusal.TheVariants.{Root}

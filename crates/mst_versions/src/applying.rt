@@ -1,5 +1,5 @@
 //! A batch of edits: all of them are made in free rows in one turn, and one version is published.
-ghost use Rattle.std.specs.Prelude.{◌≡◌, ◌<◌, ◌≤◌, length, IfOk, IfErr, OnErr, IsErrOf};
+ghost use Rattle.std.specs.Prelude.{◌≡◌, ◌<◌, length, IfOk, IfErr, OnErr, IsErrOf};
 ghost use Rattle.mst_key.specs.declared.history.Change.TheVariants as change;
 ghost use Rattle.mst_key.specs.History.{done};
 ghost use Rattle.mst_arena.specs.Lives.{last_version};
@@ -12,8 +12,8 @@ ghost use Rattle.mst_versions.specs.Writes.{Made, KeepsPass, WroteAtSeat};
 ghost use Rattle.mst_versions.specs.Applying.{LacksEdits, RefusesBatch};
 
 use crate::faults::ApplyFault;
+use crate::finishing::publish;
 use crate::numbers::Numbers;
-use crate::publishing::publish;
 use crate::turn::{NotBegun, Turn, begin_write, give_back};
 use mst_arena::Root;
 use mst_batch::NotApplied;

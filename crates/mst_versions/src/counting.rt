@@ -1,5 +1,5 @@
 //! How many rows the map of the current version takes, and how many are free to the next write.
-ghost use Rattle.std.specs.Prelude.{◌≡◌, ◌≤◌, ◌%◌, Some, IfSome, IfOk, OnErr};
+ghost use Rattle.std.specs.Prelude.{◌≡◌, ◌%◌, Some, IfSome, IfOk, OnErr};
 ghost use Rattle.mst_words.specs.Access.{IsSameSeat};
 ghost use Rattle.mst_words.specs.Steps.{IsFree, Misses};
 ghost use Rattle.mst_versions.specs.Resting.{IsResting};

@@ -21,9 +21,9 @@
 pub mod applying;
 pub mod counting;
 mod faults;
+mod finishing;
 pub mod migrating;
 mod numbers;
-mod publishing;
 pub mod reading;
 pub mod roots;
 pub mod turn;

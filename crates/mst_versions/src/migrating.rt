@@ -18,8 +18,8 @@ ghost use Rattle.mst_versions.specs.Writes.{Made, LacksRows, KeepsPass, WroteAtS
 ghost use Rattle.mst_versions.specs.Migrating.{LacksTree, RefusesMigration};
 
 use crate::faults::MigrateFault;
+use crate::finishing::publish;
 use crate::numbers::Numbers;
-use crate::publishing::publish;
 use crate::turn::{NotBegun, Turn, begin_write, give_back};
 use mst_arena::{MOST_ROWS, Root};
 use mst_key::{Change, Event, Format, Memory};

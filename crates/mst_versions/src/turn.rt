@@ -128,7 +128,7 @@ fn lay_back<A: Allocator + Copy>(seat: &mut PassSeat<'_, A>, desk: Desk<A>)
 
 // Makes the holder of the turn ready for a write: a record is found for the version to come, and
 // the rows that no version reaches are freed.
-fn make_ready<A: Allocator + Copy>(
+fn ready_turn<A: Allocator + Copy>(
     seat: &mut PassSeat<'_, A>,
     mut desk: Desk<A>,
     passes: u32,
@@ -169,7 +169,7 @@ pub fn begin<A: Allocator + Copy>(seat: &mut PassSeat<'_, A>, numbers: Numbers) 
     let Some(desk) = take(seat, numbers.number) else {
         return None;
     };
-    Some(make_ready(seat, desk, numbers.passes))
+    Some(ready_turn(seat, desk, numbers.passes))
 }
 
 /// Begins a write as [`begin`] does. But if the current version has the last number, the turn is
@@ -191,7 +191,7 @@ pub fn begin_write<A: Allocator + Copy>(
         lay_back(seat, desk);
         return Err(NotBegun::VersionsSpent);
     }
-    Ok(make_ready(seat, desk, numbers.passes))
+    Ok(ready_turn(seat, desk, numbers.passes))
 }
 
 /// Gives the turn back with the history as it was: one exchange and one store.

@@ -1,5 +1,5 @@
 //! A write: the turn, the change in rows that are free, and the next version.
-ghost use Rattle.std.specs.Prelude.{◌≡◌, ◌<◌, ◌≤◌, length, IfOk, IfErr, OnErr, IsErrOf};
+ghost use Rattle.std.specs.Prelude.{◌≡◌, ◌<◌, length, IfOk, IfErr, OnErr, IsErrOf};
 ghost use Rattle.mst_key.specs.History.{had, IsMigration, IsBatch};
 ghost use Rattle.mst_key.specs.declared.history.Change.TheVariants.{Put, Remove};
 ghost use Rattle.mst_arena.specs.Lives.{last_version};
@@ -11,8 +11,8 @@ ghost use Rattle.mst_versions.specs.Turns.{HasTurn, Spent};
 ghost use Rattle.mst_versions.specs.Writes.{Made, LacksRows, KeepsPass, WroteAtSeat, Refuses};
 
 use crate::faults::WriteFault;
+use crate::finishing::publish;
 use crate::numbers::Numbers;
-use crate::publishing::publish;
 use crate::turn::{NotBegun, Turn, begin_write, give_back};
 use mst_arena::Root;
 use mst_key::{Change, Event, Key, Value};

@@ -8,7 +8,7 @@ use Rattle.mst_arena.specs.Row.{entry_links}
 use Rattle.mst_arena.specs.Lives as lives
 use Rattle.mst_arena.specs.Ways.{entry_way, stop_from, words_order}
 use Rattle.mst_arena.specs.declared.sought.Way.TheVariants.{Child, Here, Next}
-use Rattle.mst_arena.specs.declared.sought.Stop.TheVariants.{Gap, Held}
+use Rattle.mst_arena.specs.declared.sought.Stop.TheVariants.{Gap, Found}
 use Rattle.mst_arena.proofs.WayLemmas.{way_in_words}
 use Rattle.mst_arena.proofs.StopLemmas.{Goes, entry_met, in_gap, at_key, past_entry}
 use Rattle.atomic_table.specs.Table.{Me}
@@ -97,7 +97,7 @@ module _ {k : List ℕ} {old : Me (Option lives.State) View} {count first passed
         same order
 
     pub stops_at : o ≡ Equal → stop_from k (content_of old.0) count first ≡ Some
-        (Held link (count - passed))
+        (Found link (count - passed))
     stops_at is = at_key s lt (way_here met ordered is) refl
 
     pub stops_before : {n : ℕ} → o ≡ Less → n ≡ row old.0.known_words (link - 1) 1

@@ -148,7 +148,7 @@ impl<A: Allocator + Copy> Board<A> {
                     };
                 }
                 Ordering::Equal => {
-                    return Stop::Held {
+                    return Stop::Found {
                         link: link as u32,
                         left: count - passed,
                     };

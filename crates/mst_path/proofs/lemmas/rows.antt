@@ -4,4 +4,6 @@ pub mod Entries
 pub mod Moving
 pub mod FreeCounts
 pub mod RowCounts
+pub mod CopyRows
 pub mod Copies
+pub mod CopyRuns

@@ -5,9 +5,13 @@ pub mod Framing
 pub mod Rounds
 pub mod Removals
 pub mod Finishing
+pub mod Seams
+pub mod Untouched
 pub mod Whole
+pub mod MadeWithEntry
 pub mod Sides
 pub mod Splitting
+pub mod SplitSides
 pub mod NewEntry
 pub mod PutGaps
 pub mod PutFrames

@@ -2,7 +2,7 @@ use Rattle.std.proofs.Common.{◌∙◌, ap, arith}
 use Rattle.mst_read.specs.Search.{MapStands}
 use Rattle.mst_read.proofs.Descend.{there_at, depth_is}
 use Rattle.mst_batch.specs.Beside.{link_of_key}
-use Rattle.mst_batch.proofs.KeyLinks.{Ahead, from_root, inside, at_nothing, node_there, held_here, in_gap, ahead_there, reach, lower}
+use Rattle.mst_batch.proofs.KeyLinks.{Ahead, from_root, inside, at_nothing, node_there, found_here, in_gap, ahead_there, reach, lower}
 use Rattle.mst_batch.proofs.sharing.link_of.Given.{Over}
 use Rattle.mst_batch.proofs.sharing.link_of.Goals.{After-head_at-top-in-Gap}
 use Rattle.mst_batch.proofs.sharing.link_of.Goals as goal
@@ -24,10 +24,10 @@ seek-requires g c =
           (ap g.R.Rows.content c.loop-top.invariant.same);
     }
 
-pub returns-in-Held-clause-link : goal.returns-in-Held-clause-link
-returns-in-Held-clause-link g c f m s =
-    held_here (inside (c.loop-top.invariant.reached (f, m, s)) c.in-Some.is)
-    (ap g.R.Rows.content c.loop-top.invariant.same) c.seek.ensures.place c.in-Held.is
+pub returns-in-Found-clause-link : goal.returns-in-Found-clause-link
+returns-in-Found-clause-link g c f m s =
+    found_here (inside (c.loop-top.invariant.reached (f, m, s)) c.in-Some.is)
+    (ap g.R.Rows.content c.loop-top.invariant.same) c.seek.ensures.place c.in-Found.is
 
 -- ---- the search goes on in a gap
 

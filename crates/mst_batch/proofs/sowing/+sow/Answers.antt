@@ -9,7 +9,7 @@ use Rattle.mst_arena.specs.Lists.{In, times}
 use Rattle.mst_arena.specs.Standing.{Placed}
 use Rattle.mst_path.specs.Moves.{IsOld}
 use Rattle.mst_path.specs.Writing.{ahead}
-use Rattle.mst_path.proofs.lemmas.rows.Copies.{still_writable, blank_taken, blank_ahead, small_link, next_some}
+use Rattle.mst_path.proofs.lemmas.rows.CopyRows.{still_writable, blank_taken, blank_ahead, small_link, next_some}
 use Rattle.mst_path.proofs.lemmas.trees.Growing.{ahead_count, ahead_none}
 use Rattle.mst_path.proofs.lemmas.trees.Made.{piece_alive}
 use Rattle.mst_batch.specs.declared.plan.PlanNode.{out-PlanNode}

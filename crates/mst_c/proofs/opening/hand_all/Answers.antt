@@ -1,7 +1,7 @@
 use Rattle.std.proofs.Common.{rules, arith, ◌≡◌, ◌<◌, ◌+◌, ℕ, get_or, length, Some, slice_set, sym, ap, ◌∙◌, below_more}
 use Rattle.std.proofs.lemmas.List.{get_or-set_same, get_or-set_other, length-set}
 use Rattle.mst_store.specs.Passes.{Known}
-use Rattle.mst_c.specs.declared.held.State.TheVariants.{Free}
+use Rattle.mst_c.specs.declared.pass_box.State.TheVariants.{Free}
 use Rattle.mst_c.specs.declared.hand.PaddedHand.{PaddedHand}
 use Rattle.mst_c.proofs.opening.hand_all.Goals as goal
 

@@ -1,7 +1,7 @@
 use Rattle.std.specs.Prelude.{◌≡◌, ℕ, ◌+◌, ◌<◌, ◌≤◌, true, length, Some, None, get_or, vec_len}
 use Rattle.std.specs.Vec.Iter.{into_iter_items, into_iter_len}
 use Rattle.mst_store.specs.Passes.{Known}
-use Rattle.mst_c.specs.declared.held.State.TheVariants.{Free}
+use Rattle.mst_c.specs.declared.pass_box.State.TheVariants.{Free}
 use Rattle.mst_c.specs.declared.hand.PaddedHand.{PaddedHand}
 use Rattle.mst_c.proofs.opening.hand_all.Given as goal
 

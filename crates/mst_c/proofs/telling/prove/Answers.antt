@@ -1,7 +1,7 @@
 use Rattle.std.proofs.Common.{rules, ◌≡◌, sym, subst, to_z, of_z, w32}
 use Rattle.std.specs.Prelude.{length, Option, Some}
 use Rattle.mst_key.specs.Bytes.{IsKey}
-use Rattle.mst_c.specs.declared.held.State.{State}
+use Rattle.mst_c.specs.declared.pass_box.State.{State}
 use Rattle.mst_c.specs.Told.{Proves, bytes_code, room_after, size_after, ProveTold}
 use Rattle.mst_c.proofs.telling.prove.Goals as goal
 

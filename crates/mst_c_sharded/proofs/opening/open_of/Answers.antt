@@ -2,7 +2,7 @@ use Rattle.std.proofs.Common.{rules, arith, ◌≡◌, length, sym, ap, ◌∙�
 use Rattle.std.specs.Prelude.{vec_len, Some}
 use Rattle.mst_sharded.specs.Sharding.{Sharding}
 use Rattle.mst_sharded.specs.Opening.{new_handle, new_handles}
-use Rattle.mst_c_sharded.specs.declared.held.Sharing.TheVariants.{Handle}
+use Rattle.mst_c_sharded.specs.declared.handle_box.Sharing.TheVariants.{Handle}
 use Rattle.mst_c_sharded.proofs.ShardedDealt.{dealt_length, dealt_at}
 use Rattle.mst_c_sharded.proofs.opening.open_of.Goals as goal
 

@@ -1,7 +1,7 @@
 use Rattle.std.proofs.Common.{rules, ◌≡◌, List, ℕ, refl, sym, subst, to_z, of_z, w32}
 use Rattle.std.specs.Prelude.{length, Option, Some, Result, Ok, Err}
 use Rattle.mst_key.specs.Bytes.{IsKey}
-use Rattle.mst_c_sharded.specs.declared.held.Sharing.{Sharing}
+use Rattle.mst_c_sharded.specs.declared.handle_box.Sharing.{Sharing}
 use Rattle.mst_c_sharded.specs.declared.asking.Unlisted.{Unlisted}
 use Rattle.mst_c.specs.Told.{room_after, size_after}
 use Rattle.mst_c_sharded.specs.ShardedProving.{Lists, Proof, answer_of, proof_code, ProveTold}

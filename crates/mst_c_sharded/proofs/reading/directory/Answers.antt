@@ -1,7 +1,7 @@
 use Rattle.std.proofs.Common.{rules, ◌≡◌, List, refl, sym, subst, to_z, of_z, w32}
 use Rattle.std.specs.Prelude.{length, Option, Some, Result, Err}
 use Rattle.mst_key.specs.Map.{Pair}
-use Rattle.mst_c_sharded.specs.declared.held.Sharing.{Sharing}
+use Rattle.mst_c_sharded.specs.declared.handle_box.Sharing.{Sharing}
 use Rattle.mst_c_sharded.specs.declared.asking.Unlisted.{Unlisted}
 use Rattle.mst_c_sharded.specs.ShardedProving.{Lists, IsDirectory, directory_code, DirectoryTold}
 use Rattle.mst_c_sharded.proofs.reading.directory.Goals as goal

@@ -1,7 +1,7 @@
 use Rattle.std.proofs.Common.{rules, ◌≡◌, refl, sym, subst, to_z, of_z, w32}
 use Rattle.std.specs.Prelude.{length, Option, Some, Result, Ok, Err}
 use Rattle.mst_key.specs.Map.{Pair, map_next}
-use Rattle.mst_c_sharded.specs.declared.held.Sharing.{Sharing}
+use Rattle.mst_c_sharded.specs.declared.handle_box.Sharing.{Sharing}
 use Rattle.mst_c_sharded.specs.declared.asking.Unread.{Unread}
 use Rattle.mst_c.specs.Told.{IsBound, bound_of, key_room_after, value_room_after, key_size_after}
 use Rattle.mst_c_sharded.specs.ShardedReading.{Finds, next_of, next_code, NextTold}

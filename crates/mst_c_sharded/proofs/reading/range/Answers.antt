@@ -1,7 +1,7 @@
 use Rattle.std.proofs.Common.{rules, ◌≡◌, List, refl, sym, subst, to_z, of_z, w32, negsuc}
 use Rattle.std.specs.Prelude.{length, option_map, Option, Some, Result, Ok, Err}
 use Rattle.mst_key.specs.Map.{Pair, map_range}
-use Rattle.mst_c_sharded.specs.declared.held.Sharing.{Sharing}
+use Rattle.mst_c_sharded.specs.declared.handle_box.Sharing.{Sharing}
 use Rattle.mst_c_sharded.specs.declared.asking.Unread.{Unread}
 use Rattle.mst_c.specs.Ranges.{pairs_bytes, count_of}
 use Rattle.mst_c.specs.Told.{IsBound, bound_of, room_after, size_after}

@@ -7,7 +7,8 @@ use Rattle.mst_path.specs.Takes.{KeepsBut}
 use Rattle.mst_path.specs.Moves.{Moves}
 use Rattle.mst_path.specs.Writing.{ahead, link_from, IsWritten, IsRootOf}
 use Rattle.mst_path.specs.Copying.{Copying}
-use Rattle.mst_path.proofs.lemmas.rows.Copies.{Progress, Next, starts, ends, some_left, steps, next_run, link_is, link_less, row_there, row_old, links_there, links_are, value_there, next_some, one_ahead, row_out, small_link, old_alive, still_writable, blank_taken, blank_ahead}
+use Rattle.mst_path.proofs.lemmas.rows.CopyRuns.{Progress, Next, starts, ends, some_left, steps, next_run, link_is, link_less, row_there, row_old}
+use Rattle.mst_path.proofs.lemmas.rows.CopyRows.{links_there, links_are, value_there, next_some, one_ahead, row_out, small_link, old_alive, still_writable, blank_taken, blank_ahead}
 use Rattle.mst_path.proofs.copying.move_run.Given.{Over}
 use Rattle.mst_path.proofs.copying.move_run.Goals.{In-loop, After-entry-entry, After-root_at-child}
 use Rattle.mst_path.proofs.copying.move_run.Goals as goal

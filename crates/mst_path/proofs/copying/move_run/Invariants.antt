@@ -4,7 +4,7 @@ use Rattle.mst_arena.specs.Lives.{free_count}
 use Rattle.mst_path.specs.Takes.{IsWritable, StaysBeside}
 use Rattle.mst_path.specs.Writing.{IsNextBlank, IsWriter}
 use Rattle.mst_path.specs.Copying.{Copying}
-use Rattle.mst_path.proofs.lemmas.rows.Copies.{Progress}
+use Rattle.mst_path.proofs.lemmas.rows.CopyRuns.{Progress}
 use Rattle.mst_path.proofs.copying.move_run.Given as goal
 
 abbrev pub invariant-loop : goal.invariant-loop

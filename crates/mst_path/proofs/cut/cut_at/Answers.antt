@@ -9,7 +9,7 @@ use Rattle.mst_arena.proofs.WayLemmas.{way_is, to_child, is_here, to_next}
 use Rattle.mst_path.specs.declared.making.Run.{Run}
 use Rattle.mst_path.specs.Cutting.{EntriesLie, CutGap}
 use Rattle.mst_path.specs.Writing.{PlacedEntry}
-use Rattle.mst_path.proofs.lemmas.rows.Copies.{links_there}
+use Rattle.mst_path.proofs.lemmas.rows.CopyRows.{links_there}
 use Rattle.mst_path.proofs.lemmas.trees.Cutting.{Onward, AtEntry, onward_starts, at_entry, next_links, cut_end, cut_gap, cut_held, cut_on}
 use Rattle.mst_path.proofs.cut.cut_at.Given.{Over}
 use Rattle.mst_path.proofs.cut.cut_at.Goals.{In-loop-count, After-way}

@@ -22,7 +22,8 @@ use Rattle.mst_path.specs.Splitting.{ToSplit}
 use Rattle.mst_change.proofs.Split.Steps.{gap_count, none_below, none_above, split_rows_step}
 use Rattle.mst_path.proofs.lemmas.steps.Splitting.{no_front}
 use Rattle.mst_path.proofs.lemmas.trees.Heights.{gap_rises, entry_layer}
-use Rattle.mst_path.proofs.lemmas.trees.Meetings.{height_under, height_there}
+use Rattle.mst_path.proofs.lemmas.trees.NodeRuns.{height_under}
+use Rattle.mst_path.proofs.lemmas.trees.Meetings.{height_there}
 use Rattle.mst_path.proofs.lemmas.trees.Joined.{placed_none}
 use Rattle.mst_path.proofs.lemmas.steps.PutGaps.{under_height}
 

@@ -25,7 +25,7 @@ use Rattle.mst_path.proofs.lemmas.rows.RowCounts.{as_many}
 use Rattle.mst_path.specs.Changing.{AreOld}
 use Rattle.mst_path.specs.Moves.{IsAlive}
 use Rattle.mst_path.proofs.lemmas.cost.Sizes.{size, size_used}
-use Rattle.mst_path.proofs.lemmas.rows.Copies.{old_alive}
+use Rattle.mst_path.proofs.lemmas.rows.CopyRows.{old_alive}
 
 -- ---- sums over the numbers below one
 

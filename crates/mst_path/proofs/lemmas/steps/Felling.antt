@@ -24,7 +24,7 @@ use Rattle.mst_path.specs.Changing.{AreOld}
 use Rattle.mst_path.specs.Felling.{ToFell, MayFall}
 use Rattle.mst_path.specs.Joining.{height_at}
 use Rattle.mst_path.specs.Moves.{IsOld, Moves}
-use Rattle.mst_path.proofs.lemmas.rows.Copies.{at_self}
+use Rattle.mst_path.proofs.lemmas.rows.CopyRows.{at_self}
 use Rattle.mst_path.proofs.lemmas.rows.Moving.{moves_kill, moves_then, old_stays}
 use Rattle.mst_path.proofs.lemmas.versions.Changes.{distinct_times}
 

@@ -23,7 +23,7 @@ use Rattle.mst_path.specs.Frames.{Framed, spare, frame_rows, in_entries, in_fram
 use Rattle.mst_path.specs.Writing.{PlacedEntry, IsRootOf, ahead}
 use Rattle.mst_path.proofs.lemmas.rows.Moving.{times_of_out, moves_none, moves_kill, moves_then, old_stays, alive_out}
 use Rattle.mst_path.proofs.lemmas.trees.Made.{made_stays, piece_alive}
-use Rattle.mst_path.proofs.lemmas.rows.Copies.{all_in, kept_at, old_alive, own_frame, gaps_frame, gaps_old, at_self}
+use Rattle.mst_path.proofs.lemmas.rows.CopyRows.{all_in, kept_at, old_alive, own_frame, gaps_frame, gaps_old, at_self}
 use Rattle.mst_change.proofs.Parts.{with_first_count, with_entries_count}
 
 -- ---- two rows die

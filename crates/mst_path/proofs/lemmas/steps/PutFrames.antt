@@ -15,9 +15,9 @@ use Rattle.mst_path.specs.Joining.{TwoTrees}
 use Rattle.mst_path.specs.Writing.{IsRootOf}
 use Rattle.mst_path.specs.PutPath.{TwoStand, in_two, tree_with, with_rows}
 use Rattle.mst_path.proofs.lemmas.trees.Joined.{old_piece}
-use Rattle.mst_path.proofs.lemmas.rows.Copies.{old_alive}
+use Rattle.mst_path.proofs.lemmas.rows.CopyRows.{old_alive}
 use Rattle.mst_path.proofs.lemmas.steps.Framing.{frame_old}
-use Rattle.mst_path.proofs.lemmas.trees.Meetings.{some_of}
+use Rattle.mst_path.proofs.lemmas.trees.NodeRuns.{some_of}
 use Rattle.mst_path.proofs.lemmas.steps.NewEntry.{sides_stand, grown_as}
 use Rattle.mst_path.proofs.lemmas.trees.Made.{piece_alive}
 use Rattle.mst_path.proofs.lemmas.steps.Steps.{Step, step_grown, step_split, step_then, run_after, back_after, old_after, apart_after}

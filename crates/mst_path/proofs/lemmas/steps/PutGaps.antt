@@ -23,7 +23,8 @@ use Rattle.mst_change.proofs.Parts.{with_first_count, with_entries_count}
 use Rattle.mst_change.proofs.Split.Steps.{gap_count}
 use Rattle.mst_change.proofs.Put.Steps.{put_lower, put_rows_lower, put_level, put_rows_level, put_higher, put_rows_higher, put_value, put_rows_value}
 use Rattle.mst_path.proofs.lemmas.trees.Heights.{gap_rises, entry_layer}
-use Rattle.mst_path.proofs.lemmas.trees.Meetings.{node_of_some, side_some, height_there}
+use Rattle.mst_path.proofs.lemmas.trees.NodeRuns.{node_of_some, side_some}
+use Rattle.mst_path.proofs.lemmas.trees.Meetings.{height_there}
 
 pub under_height : (l : ℕ) (u : Tree) → height u ≤ l → IsUnder l u
 under_height l empty low = tt

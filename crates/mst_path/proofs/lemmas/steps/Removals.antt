@@ -25,11 +25,12 @@ use Rattle.mst_path.specs.Frames.{Framed}
 use Rattle.mst_path.specs.Joining.{TwoTrees, in_both}
 use Rattle.mst_path.specs.Gaps.{OpensGap, OpensEntry}
 use Rattle.mst_path.specs.Writing.{PlacedEntry, link_from}
-use Rattle.mst_path.proofs.lemmas.rows.Copies.{at_self, old_alive}
+use Rattle.mst_path.proofs.lemmas.rows.CopyRows.{at_self, old_alive}
 use Rattle.mst_change.proofs.Parts.{with_entries_count}
 use Rattle.mst_change.proofs.Remove.Steps.{remove_step, remove_rows_step, remove_here, remove_rows_here}
 use Rattle.mst_path.proofs.lemmas.trees.Opening.{Opened, opened, count_to}
-use Rattle.mst_path.proofs.lemmas.trees.Meetings.{each_in, both_alive, node_search, tall, low_layer}
+use Rattle.mst_path.proofs.lemmas.trees.NodeRuns.{each_in, both_alive}
+use Rattle.mst_path.proofs.lemmas.trees.Meetings.{node_search, tall, low_layer}
 use Rattle.mst_path.proofs.lemmas.trees.Parting.{back_rows, back_gaps, own_both, gaps_both, front_run, back_old, Behind, behind, back_search}
 
 module _ (format : Format) (c : Content) (s : State) (link : ℕ) (t : SearchTree format c s link)

@@ -16,7 +16,7 @@ use Rattle.mst_path.specs.Writing.{PlacedEntry}
 use Rattle.mst_path.specs.Making.{others, HasTail, PartsStand, in_parts, cells_of, entries_to, Grown, Split}
 use Rattle.mst_path.specs.Splitting.{side_of, BothStand, in_both}
 use Rattle.mst_path.specs.declared.making.Parts.{Parts}
-use Rattle.mst_path.proofs.lemmas.rows.Copies.{at_self, old_alive}
+use Rattle.mst_path.proofs.lemmas.rows.CopyRows.{at_self, old_alive}
 use Rattle.mst_arena.proofs.ListLemmas.{one_row}
 use Rattle.mst_path.proofs.lemmas.rows.Moving.{moves_none}
 use Rattle.mst_path.proofs.lemmas.trees.Made.{piece_alive}

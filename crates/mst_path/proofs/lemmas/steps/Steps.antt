@@ -19,7 +19,7 @@ use Rattle.mst_path.specs.declared.making.Parts.{Parts}
 use Rattle.mst_arena.proofs.ListLemmas.{in_either}
 use Rattle.mst_path.proofs.lemmas.rows.Moving.{out_of_times, times_of_out, moves_none, moves_kill, moves_then, alive_stays, old_stays, alive_out}
 use Rattle.mst_path.proofs.lemmas.trees.Made.{made_stays, piece_alive}
-use Rattle.mst_path.proofs.lemmas.rows.Copies.{all_in, kept_at, old_alive, own_frame, gaps_frame}
+use Rattle.mst_path.proofs.lemmas.rows.CopyRows.{all_in, kept_at, old_alive, own_frame, gaps_frame}
 
 -- So many rows were taken, and only these were written; of what was given and taken some is used,
 -- and the other rows were killed.

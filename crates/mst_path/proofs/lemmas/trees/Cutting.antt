@@ -20,7 +20,7 @@ use Rattle.mst_path.specs.Writing.{PlacedEntry, link_from}
 use Rattle.mst_path.specs.Making.{cell_of, cells_of, entries_to}
 use Rattle.mst_path.specs.Cutting.{EntriesLie, CutGap, CutHeld}
 use Rattle.mst_change.proofs.Parts.{with_entries-append}
-use Rattle.mst_path.proofs.lemmas.rows.Copies.{links_are}
+use Rattle.mst_path.proofs.lemmas.rows.CopyRows.{links_are}
 
 -- so many entries are passed, all below the key, and the others begin at the link
 pub record Onward (format : Format) (content : Content) (k : List ℕ) (es : List PlacedEntry)

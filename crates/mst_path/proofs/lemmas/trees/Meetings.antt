@@ -1,16 +1,14 @@
 -- Where two trees meet that are to be joined, by the layers of their nodes.
 use Rattle.mst_key.specs.declared.format.Format.{Format}
-use Rattle.std.proofs.Common.{◌≡◌, ℕ, zero, suc, ◌+◌, ◌-◌, ◌<◌, ◌≤◌, ◌==◌, ◌||◌, Bool, true, false, eqb, List, [], ◌∷◌, length, Option, Some, IsSome, refl, sym, ◌∙◌, ap, subst, arith, inl, inr, ◌⊎◌}
-use Rattle.std.specs.Prelude.{option_and_then, if◌then◌else◌}
-use Rattle.std.specs.List.{AllByRecursion}
+use Rattle.std.proofs.Common.{◌≡◌, ℕ, zero, suc, ◌+◌, ◌-◌, ◌<◌, ◌≤◌, List, [], ◌∷◌, length, Option, Some, IsSome, refl, sym, ◌∙◌, ap, subst, arith}
+use Rattle.std.specs.Prelude.{option_and_then}
 use Rattle.std.specs.Option.{option_map_or}
 use Rattle.std.proofs.lemmas.List.{length-map}
-use Rattle.std.proofs.lemmas.Bool.Decides.{nat_tests}
-use Rattle.mst_node.specs.Tree.{Tree, empty, node, Entries, last, entry, entry_count, IsUnder, IsMst, IsMstEntries}
+use Rattle.mst_node.specs.Tree.{node, Entries, last, entry, entry_count, IsUnder, IsMst, IsMstEntries}
 use Rattle.mst_node.specs.Shape.{TreeEntry, with_entries}
 use Rattle.mst_arena.specs.Content.{Content, part_at}
 use Rattle.mst_arena.specs.Lives.{State}
-use Rattle.mst_arena.specs.Lists.{In, times, bit}
+use Rattle.mst_arena.specs.Lists.{times}
 use Rattle.mst_arena.specs.Row.{head_links, entry_links}
 use Rattle.mst_arena.specs.declared.row.Row.{Row}
 use Rattle.mst_arena.specs.declared.row.Row.TheVariants.{Entry}
@@ -18,103 +16,20 @@ use Rattle.mst_arena.specs.declared.row.HeadLinks.{HeadLinks}
 use Rattle.mst_arena.specs.declared.row.EntryLinks.{EntryLinks}
 use Rattle.mst_arena.specs.Standing.{Placed, none as no_tree, head as tree_head, tree_of, link_of, rows_of, used, HasRows}
 use Rattle.mst_arena.proofs.ListLemmas.{times-append}
-use Rattle.mst_change.specs.Parts.{cells, last_child, first_child, with_first, node_of}
+use Rattle.mst_change.specs.Parts.{cells, last_child, first_child, with_first}
 use Rattle.mst_change.specs.Join.{join}
-use Rattle.mst_change.specs.Cost.{side_rows, join_rows}
-use Rattle.mst_path.specs.Moves.{IsAlive, IsOld}
-use Rattle.mst_path.specs.Runs.{OldPiece, Run, gaps_used, EachGap}
-use Rattle.mst_path.specs.Making.{BackRun, HasTail, cell_of, cells_of, entries_to, others}
+use Rattle.mst_change.specs.Cost.{join_rows}
+use Rattle.mst_path.specs.Moves.{IsOld}
+use Rattle.mst_path.specs.Runs.{OldPiece, Run, gaps_used}
+use Rattle.mst_path.specs.Making.{BackRun, cell_of, cells_of, entries_to, others}
 use Rattle.mst_path.specs.Joining.{TwoTrees, height, height_at, Met, above_right, below_right, beside_right}
 use Rattle.mst_path.specs.Writing.{PlacedEntry, link_from}
-use Rattle.mst_path.proofs.lemmas.rows.Copies.{old_alive, links_there, links_are}
+use Rattle.mst_path.proofs.lemmas.rows.CopyRows.{links_there, links_are}
 use Rattle.mst_path.proofs.lemmas.trees.Nodes.{layer_of_entries}
 use Rattle.mst_change.proofs.Parts.{first_mst, last_mst, with_first_count, with_entries_count}
 use Rattle.mst_change.proofs.Join.Steps.{join_higher, join_lower, join_level, join_rows_higher, join_rows_lower, join_rows_level}
 use Rattle.mst_path.proofs.lemmas.trees.Opening.{Opened, opened, cells_to, last_to, count_to, First, first_of_some}
-
--- ---- rows of a list, each with a fact
-
-pub each_in : (P : ℕ → Type 0) (xs : List ℕ) → AllByRecursion P xs → (r : ℕ) → In r xs → P r
-each_in P [] all r i = absurd (omega (arith, i))
-each_in P (x ∷ xs) all r i = go (eqb r x) refl (λ more. each_in P xs all.1 r more)
-  where
-    go : (t : Bool) → eqb r x ≡ t → (In r xs → P r) → P r
-    go true e rest = let same : x ≡ r = grind (arith, nat_tests) in subst P same all.0
-    go false e rest = rest (omega (arith, i, ap bit e))
-
--- ---- nodes with entries
-
-pub node_of_some : (format : Format) (l : ℕ) (es : Entries) → 0 < entry_count es
-    → node_of format l es ≡ node format l es
-node_of_some format l (last child) h = absurd (omega (arith, h))
-node_of_some format l (entry child key value rest) h = refl
-
-pub side_some : (k : ℕ) → 0 < k → side_rows k false ≡ k + 1
-side_some zero h = absurd (omega (arith, h))
-side_some (suc k) h = let e : (suc k == 0) ≡ false = grind (arith, nat_tests) in
-    ap (λ (b : Bool). if b || false then 0 else suc k + 1) e
-
-pub height_under : (l : ℕ) (t : Tree) → IsUnder l t → height t ≤ l
-height_under l empty under = omega arith
-height_under l (node g k es) under = omega (arith, under)
-
-pub gaps_others : (P : Placed → Type 0) (es : List PlacedEntry) → EachGap P es
-    → EachGap P (others es)
-gaps_others P [] each = tt
-gaps_others P (e ∷ es) each = each.1
-
-pub has_tail : (es : List PlacedEntry) (tail : Placed) → 0 < length es → HasTail es tail
-has_tail [] tail some = absurd (omega (arith, some))
-has_tail (e ∷ es) tail some = tt
-
-pub back_of_run : (format : Format) (c : Content) (s : State) (link count : ℕ)
-    (es : List PlacedEntry) → Run format c s link count 0 es → 0 < length es → (tail_link : ℕ)
-    (tail : Placed) → link_of tail ≡ tail_link → OldPiece format c s tail → BackRun format c s link
-    count tail_link es tail
-back_of_run format c s link count es run some tail_link tail at piece = record {
-  counted = run.counted;
-  begins = run.begins;
-  rows = run.rows;
-  old = run.old;
-  gaps = gaps_others (OldPiece format c s) es run.gaps;
-  tail_at = at;
-  tail_piece = piece;
-  tail_none = has_tail es tail some;
-}
-
-pub no_back : (format : Format) (c : Content) (s : State) → BackRun format c s 0 0 0 [] no_tree
-no_back format c s = record {
-  counted = refl;
-  begins = refl;
-  rows = tt;
-  old = λ r i. absurd (omega (arith, i));
-  gaps = tt;
-  tail_at = refl;
-  tail_piece = record { rows = tt; old = λ r i. absurd (omega (arith, i)) };
-  tail_none = refl;
-}
-
-pub no_front : (format : Format) (c : Content) (s : State) → Run format c s 0 0 0 []
-no_front format c s =
-    record {
-      counted = refl;
-      begins = refl;
-      rows = tt;
-      old = λ r i. absurd (omega (arith, i));
-      gaps = tt;
-    }
-
-pub some_of : (a b : ℕ) → 0 < a + b → (0 < a) ⊎ (0 < b)
-some_of zero b h = inr (omega (arith, h))
-some_of (suc a) b h = inl (omega arith)
-
--- what is in two old trees is alive
-pub both_alive : (format : Format) (c : Content) (s : State) (p q : Placed) → OldPiece format c s p
-    → OldPiece format c s q → (r : ℕ) → 0 < times r (used p) + times r (used q) → IsAlive s r
-both_alive format c s p q a b r i = elim (some_of (times r (used p)) (times r (used q)) i) [
-  | inl k ↦ old_alive s r (a.old r k)
-  | inr k ↦ old_alive s r (b.old r k)
-]
+use Rattle.mst_path.proofs.lemmas.trees.NodeRuns.{each_in, node_of_some, side_some, height_under, back_of_run, no_back, no_front, both_alive}
 
 -- ---- a search tree's node that is opened
 

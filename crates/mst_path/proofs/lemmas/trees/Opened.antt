@@ -19,7 +19,7 @@ use Rattle.mst_path.specs.Writing.{PlacedEntry, chain_of, link_from}
 use Rattle.mst_path.specs.Making.{others, HasTail, entries_to, BackRun, OldTree}
 use Rattle.mst_path.specs.Cutting.{EntriesLie, gap_before, IsRunOf}
 use Rattle.mst_path.proofs.lemmas.rows.Entries.{first_chain, tail_chain, count_chain}
-use Rattle.mst_path.proofs.lemmas.rows.Copies.{at_self, own-append}
+use Rattle.mst_path.proofs.lemmas.rows.CopyRows.{at_self, own-append}
 use Rattle.mst_path.proofs.lemmas.trees.Cutting.{link_from-append}
 
 -- ---- a chain as a list of entries and the tree in the last gap

@@ -19,7 +19,7 @@ use Rattle.mst_path.specs.Moves.{IsOld}
 use Rattle.mst_path.specs.Runs.{OldPiece, Run, own_rows, own, gaps_used, EachGap}
 use Rattle.mst_path.specs.Making.{cell_of, cells_of, entries_to}
 use Rattle.mst_path.specs.Writing.{PlacedEntry, link_from}
-use Rattle.mst_path.proofs.lemmas.rows.Copies.{at_self}
+use Rattle.mst_path.proofs.lemmas.rows.CopyRows.{at_self}
 
 -- ---- the entries of a chain
 

@@ -17,9 +17,9 @@ use Rattle.mst_path.specs.Making.{BackRun, cells_of, entries_to, others, tail_be
 use Rattle.mst_path.specs.Cutting.{gap_before}
 use Rattle.mst_path.specs.Joining.{height}
 use Rattle.mst_path.specs.Writing.{PlacedEntry, link_from}
-use Rattle.mst_path.proofs.lemmas.rows.Copies.{own-append}
+use Rattle.mst_path.proofs.lemmas.rows.CopyRows.{own-append}
 use Rattle.mst_path.proofs.lemmas.trees.Cutting.{link_from-append}
-use Rattle.mst_path.proofs.lemmas.trees.Meetings.{height_under}
+use Rattle.mst_path.proofs.lemmas.trees.NodeRuns.{height_under}
 use Rattle.mst_path.proofs.lemmas.trees.Opening.{count_to}
 
 -- ---- two runs of one

@@ -25,7 +25,7 @@ use Rattle.mst_arena.specs.Ages.{placed_nodes, top_rows, HasAge, HasAges}
 use Rattle.mst_path.specs.Ages.{IsAged}
 use Rattle.mst_path.specs.Moves.{IsNew}
 use Rattle.mst_path.specs.Reached.{ReachesExactly, Changes, IsSettled, swept_by}
-use Rattle.mst_path.proofs.lemmas.versions.NodeAges.{node_in}
+use Rattle.mst_path.proofs.lemmas.versions.NodeSums.{node_in}
 use Rattle.mst_path.proofs.lemmas.versions.Reached.{older, newest, has_in, some_reach}
 
 -- ---- one more event

@@ -23,7 +23,7 @@ use Rattle.mst_path.specs.Making.{Grown}
 use Rattle.mst_path.specs.RemovePath.{SearchTree}
 use Rattle.mst_path.specs.Changing.{AreOld, MapStands, IsTaken, AreTaken, AreKilled, OthersLive, OnlyFreeWritten, SameVersions}
 use Rattle.mst_path.specs.Reached.{Changes}
-use Rattle.mst_path.proofs.lemmas.rows.Copies.{kept_at}
+use Rattle.mst_path.proofs.lemmas.rows.CopyRows.{kept_at}
 use Rattle.mst_path.proofs.lemmas.trees.Joined.{unchanged}
 
 -- ---- lists without a number twice

@@ -9,7 +9,7 @@ use Rattle.mst_key.specs.declared.format.Format.{Format}
 use Rattle.mst_node.specs.Cost.{subtrees, entries_subtrees, is_subtree, top_entries}
 use Rattle.mst_node.specs.Stays.{tree_at, lasts, is_kept, has_stayed, rows_first_at, held_below, held}
 use Rattle.mst_node.specs.Tree.{Tree, tree}
-use Rattle.mst_node.proofs.HeldLaws.{weigh, weigh_is, weigh-append}
+use Rattle.mst_node.proofs.Weights.{weigh, weigh_is, weigh-append}
 use Rattle.mst_arena.specs.Lives.{State, version, reaches, free_count}
 use Rattle.mst_arena.specs.Lists.{In, times, bit}
 use Rattle.mst_arena.specs.Standing.{Placed, none, head, Chain, end, cell, tree_of, entries_of, used, chain_used, IsDistinct}
@@ -21,7 +21,7 @@ use Rattle.mst_path.specs.Reached.{TogetherReach, IsSettled, swept_by}
 use Rattle.mst_path.proofs.lemmas.versions.Changes.{distinct_times, times_distinct}
 use Rattle.mst_path.proofs.lemmas.rows.FreeCounts.{count_swept, any_in}
 use Rattle.mst_path.proofs.lemmas.versions.HeldRows as counting
-use Rattle.mst_path.proofs.lemmas.versions.NodeAges.{own_length}
+use Rattle.mst_path.proofs.lemmas.versions.NodeSums.{own_length}
 use Rattle.mst_path.proofs.lemmas.versions.Reached.{has_in}
 
 -- ---- the nodes of a tree have its rows

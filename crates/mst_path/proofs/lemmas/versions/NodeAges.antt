@@ -1,21 +1,17 @@
 -- After a change of the tree each node has the rows that it had before, or only new rows; and the
 -- latter only if its tree did not stand before.
-use Rattle.std.proofs.Common.{◌≡◌, ℕ, zero, suc, ◌+◌, ◌<◌, ◌≤◌, ◌⊎◌, inl, inr, eqb, Bool, true, false, cond, List, [], ◌∷◌, ◌++◌, length, filter, Some, refl, sym, ap, subst, arith}
+use Rattle.std.proofs.Common.{◌≡◌, ℕ, zero, suc, ◌+◌, ◌<◌, ◌≤◌, ◌⊎◌, inl, inr, eqb, Bool, true, false, cond, length, refl, sym, ap, subst, arith}
 use Rattle.std.specs.Prelude.{Contains}
 use Rattle.std.specs.List.{AllByRecursion}
 use Rattle.std.proofs.lemmas.Bool.Decides.{nat_tests}
-use Rattle.std.proofs.lemmas.List.Elements.{Contains-append_left, Contains-append_right, Contains-append_cases}
 use Rattle.mst_key.specs.declared.format.Format.{Format}
-use Rattle.mst_key.proofs.SpanLaws.{contains-cases, contains-nothing, contains-first, contains-later}
-use Rattle.mst_node.specs.Tree.{Tree, entry_count}
 use Rattle.mst_node.specs.Cost.{is_subtree, top_entries, new_rows}
-use Rattle.mst_node.proofs.InTrees.{InTree, InEntries, is_old}
-use Rattle.mst_change.proofs.Cost.Fresh.{fresh, fresh_in, new_rows_fresh}
+use Rattle.mst_node.proofs.InTrees.{is_old}
+use Rattle.mst_change.proofs.Cost.Fresh.{new_rows_fresh}
 use Rattle.mst_arena.specs.Content.{Content}
 use Rattle.mst_arena.specs.Lives.{State, version, next, free_count}
 use Rattle.mst_arena.specs.Lists.{In, times, bit}
-use Rattle.mst_arena.specs.declared.row.Row.TheVariants.{Head}
-use Rattle.mst_arena.specs.Standing.{Placed, none, head, Chain, end, cell, tree_of, entries_of, link_of, rows_of, chain_rows, used, chain_used, HasRows}
+use Rattle.mst_arena.specs.Standing.{Placed, none, head, Chain, end, cell, tree_of, rows_of, chain_rows, used, chain_used, HasRows}
 use Rattle.mst_arena.proofs.ListLemmas.{times-append}
 use Rattle.mst_arena.proofs.Stands.{all-append, all-front, all-back, one_placed, placed_frame}
 use Rattle.mst_arena.specs.Ages.{placed_nodes, chain_nodes, chain_own, top_rows}
@@ -24,204 +20,12 @@ use Rattle.mst_path.specs.Changing.{AreOld, OnlyFreeWritten}
 use Rattle.mst_path.specs.Made.{IsMade, IsMadeChain}
 use Rattle.mst_path.specs.Moves.{IsOld, IsNew}
 use Rattle.mst_path.specs.Reached.{Changes}
-use Rattle.mst_path.proofs.lemmas.rows.Copies.{at_self, all_in}
+use Rattle.mst_path.proofs.lemmas.rows.CopyRows.{at_self, all_in}
 use Rattle.mst_path.proofs.lemmas.rows.FreeCounts.{count_change}
-use Rattle.mst_arena.proofs.ListLemmas.{in_either}
 use Rattle.mst_path.proofs.lemmas.versions.Reached.{by_place}
+use Rattle.mst_path.proofs.lemmas.versions.NodeSums.{node_at, node_in, over, squeezed, new_rows_of, fresh_over, own_length, passing, passing_length, all_passing, passing_over}
 
 module _ (format : Format) where
-  -- ---- the node at a row
-
-  abbrev NodeAt : Content → List Placed → ℕ → Type 0
-  NodeAt content ps x = (p : Placed) × Contains ps p × (link_of p ≡ x + 1) × HasRows content
-      (rows_of format p)
-
-  mutual
-    node_at : (content : Content) (q : Placed) → HasRows content (rows_of format q) → (x : ℕ)
-        → In x (used q) → (l n f t : ℕ) (d : List ℕ) → content x ≡ Some (Head l n f t d)
-        → NodeAt content (placed_nodes q) x
-    node_at content none has x i l n f t d row = absurd (omega (arith, i))
-    node_at content (head at layer chain) has x i l n f t d row =
-        go (eqb x at) refl i (λ j. chain_node_at content chain has.1 x j l n f t d row)
-      where
-        go : (b : Bool) → eqb x at ≡ b → 0 < bit b + times x (chain_used chain)
-            → (In x (chain_used chain) → NodeAt content (chain_nodes chain) x)
-            → NodeAt content (head at layer chain ∷ chain_nodes chain) x
-        go true e j more =
-            let same : x ≡ at = grind (arith, nat_tests, e) in (
-              head at layer chain,
-              contains-first (head at layer chain) (chain_nodes chain)
-                  (head at layer chain) refl,
-              omega (arith, same),
-              has,
-            )
-        go false e j more =
-            let r = more (omega (arith, j)) in
-            (r.0, contains-later (head at layer chain) (chain_nodes chain) r.0 r.1, r.2, r.3)
-
-    chain_node_at : (content : Content) (chain : Chain) → HasRows content (chain_rows format chain)
-        → (x : ℕ) → In x (chain_used chain) → (l n f t : ℕ) (d : List ℕ) → content x ≡ Some
-        (Head l n f t d) → NodeAt content (chain_nodes chain) x
-    chain_node_at content (end child) has x i l n f t d row =
-        node_at content child has x i l n f t d row
-    chain_node_at content (cell at child key value rest) has x i l n f t d row =
-        go (eqb x at) refl i
-        (λ j. node_at content child
-        (all-front _ (rows_of format child) (chain_rows format rest) has.1) x j l n f t d row)
-        (λ j. chain_node_at content rest
-        (all-back _ (rows_of format child) (chain_rows format rest) has.1) x j l n f t d row)
-      where
-        go : (b : Bool) → eqb x at ≡ b → 0 < bit b + times x (used child ++ chain_used rest)
-            → (In x (used child) → NodeAt content (placed_nodes child) x)
-            → (In x (chain_used rest) → NodeAt content (chain_nodes rest) x)
-            → NodeAt content (placed_nodes child ++ chain_nodes rest) x
-        go true e j first more = let same : x ≡ at = grind (arith, nat_tests, e) in let here =
-            ap content same in let entry = has.0 in absurd cc
-        go false e j first more =
-            elim (in_either x (used child) (chain_used rest) (omega (arith, j))) [
-              | inl k ↦ let r =
-                  first k in (
-                    r.0,
-                    Contains-append_left (placed_nodes child) (chain_nodes rest) r.0 r.1,
-                    r.2,
-                    r.3,
-                  )
-              | inr k ↦ let r =
-                  more k in (
-                    r.0,
-                    Contains-append_right (placed_nodes child) (chain_nodes rest) r.0 r.1,
-                    r.2,
-                    r.3,
-                  )
-            ]
-
-  -- ---- the tree of a node stands in the whole tree
-
-  mutual
-    pub node_in : (q p : Placed) → Contains (placed_nodes q) p → InTree (tree_of format p)
-        (tree_of format q)
-    node_in none p has = absurd (contains-nothing p has)
-    node_in (head at layer chain) p has =
-        go (contains-cases (head at layer chain) (chain_nodes chain) p has)
-        (λ k. chain_node_in chain p k)
-      where
-        go : (head at layer chain ≡ p) ⊎ Contains (chain_nodes chain) p
-            → (Contains (chain_nodes chain) p → InEntries (tree_of format p)
-            (entries_of format chain)) → InTree (tree_of format p)
-            (tree_of format (head at layer chain))
-        go (inl same) more = inl (ap (tree_of format) (sym same))
-        go (inr later) more = inr (more later)
-
-    chain_node_in : (chain : Chain) (p : Placed) → Contains (chain_nodes chain) p
-        → InEntries (tree_of format p) (entries_of format chain)
-    chain_node_in (end child) p has = node_in child p has
-    chain_node_in (cell at child key value rest) p has =
-        go (Contains-append_cases (placed_nodes child) (chain_nodes rest) p has)
-        (λ k. node_in child p k) (λ k. chain_node_in rest p k)
-      where
-        go : Contains (placed_nodes child) p ⊎ Contains (chain_nodes rest) p
-            → (Contains (placed_nodes child) p → InTree (tree_of format p) (tree_of format child))
-            → (Contains (chain_nodes rest) p → InEntries (tree_of format p)
-            (entries_of format rest)) → InTree (tree_of format p) (tree_of format child)
-            ⊎ InEntries (tree_of format p) (entries_of format rest)
-        go (inl k) first more = inl (first k)
-        go (inr k) first more = inr (more k)
-
-  -- ---- sums over nodes
-
-  abbrev over : (Placed → ℕ) → List Placed → ℕ
-  over f [] = 0
-  over f (p ∷ ps) = f p + over f ps
-
-  over-append : (f : Placed → ℕ) (ps qs : List Placed) → over f (ps ++ qs) ≡ over f ps + over f qs
-  over-append f [] qs = omega arith
-  over-append f (p ∷ ps) qs = omega (arith, over-append f ps qs)
-
-  over_le : (f g : Placed → ℕ) (ps : List Placed) → AllByRecursion (λ p. g p ≤ f p) ps
-      → over g ps ≤ over f ps
-  over_le f g [] all = omega arith
-  over_le f g (p ∷ ps) all = omega (arith, all.0, over_le f g ps all.1)
-
-  -- what is nowhere less, and in sum not more, is everywhere the same
-  squeezed : (f g : Placed → ℕ) (ps : List Placed) → AllByRecursion (λ p. g p ≤ f p) ps
-      → over f ps ≤ over g ps → AllByRecursion (λ p. f p ≡ g p) ps
-  squeezed f g [] all le = tt
-  squeezed f g (p ∷ ps) all le =
-      let rest = over_le f g ps all.1 in
-      (omega (arith, all.0, rest, le), squeezed f g ps all.1 (omega (arith, all.0, rest, le)))
-
-  -- the rows of new nodes, counted along the tree
-  module _ (old : Tree) where
-    abbrev new_rows_of : Placed → ℕ
-    new_rows_of p = cond (is_subtree (tree_of format p) old) 0 (top_entries (tree_of format p) + 1)
-
-    mutual
-      fresh_over : (p : Placed) → fresh old (tree_of format p) ≡ over new_rows_of (placed_nodes p)
-      fresh_over none = refl
-      fresh_over (head at layer chain) = omega (arith, fresh_over_chain chain)
-
-      fresh_over_chain : (chain : Chain) → fresh_in old (entries_of format chain) ≡ over new_rows_of
-          (chain_nodes chain)
-      fresh_over_chain (end child) = fresh_over child
-      fresh_over_chain (cell at child key value rest) =
-          omega (
-            arith,
-            fresh_over child,
-            fresh_over_chain rest,
-            over-append new_rows_of
-                (placed_nodes child) (chain_nodes rest),
-          )
-
-  pub own_length : (chain : Chain) → length (chain_own chain) ≡ entry_count
-      (entries_of format chain)
-  own_length (end child) = refl
-  own_length (cell at child key value rest) = omega (arith, own_length rest)
-
-  -- the rows that pass a test, counted along the tree
-  module _ (test : ℕ → Bool) where
-    abbrev passing : List ℕ → ℕ
-    passing [] = 0
-    passing (x ∷ xs) = bit (test x) + passing xs
-
-    passing-append : (xs ys : List ℕ) → passing (xs ++ ys) ≡ passing xs + passing ys
-    passing-append [] ys = omega arith
-    passing-append (x ∷ xs) ys = omega (arith, passing-append xs ys)
-
-    passing_length : (xs : List ℕ) → length (filter test xs) ≡ passing xs
-    passing_length [] = refl
-    passing_length (x ∷ xs) = go (test x) (passing_length xs)
-      where
-        go : (b : Bool) → length (filter test xs) ≡ passing xs
-            → length (cond b (x ∷ filter test xs) (filter test xs)) ≡ bit b + passing xs
-        go true e = omega (arith, e)
-        go false e = omega (arith, e)
-
-    all_passing : (xs : List ℕ) → ((r : ℕ) → In r xs → test r ≡ true) → passing xs ≡ length xs
-    all_passing [] all = refl
-    all_passing (x ∷ xs) all =
-        let here : bit (test x) ≡ 1 = ap bit (all x (omega (arith, at_self x))) in
-        omega (arith, here, all_passing xs (λ r i. all r (omega (arith, i))))
-
-    mutual
-      passing_over : (p : Placed) → passing (used p) ≡ over (λ q. passing (top_rows q))
-          (placed_nodes p)
-      passing_over none = refl
-      passing_over (head at layer chain) = omega (arith, passing_over_chain chain)
-
-      passing_over_chain : (chain : Chain) → passing (chain_used chain) ≡ passing (chain_own chain)
-          + over (λ q. passing (top_rows q)) (chain_nodes chain)
-      passing_over_chain (end child) = omega (arith, passing_over child)
-      passing_over_chain (cell at child key value rest) =
-          omega (
-            arith,
-            passing_over child,
-            passing_over_chain rest,
-            passing-append (used child)
-                (chain_used rest),
-            over-append (λ q. passing (top_rows q)) (placed_nodes child)
-                (chain_nodes rest),
-          )
-
   -- ---- a change
 
   own_new : (s : State) (chain : Chain) → IsMadeChain s chain → (r : ℕ) → In r (chain_own chain)
@@ -297,7 +101,9 @@ module _ (format : Format) where
         let p = head at layer chain in
         let had = had_rows p has inside olds in
         let here : In at (used p) = omega (arith, at_self at) in
-        let found = node_at before o stood at (was_there at (inside at here) (olds at here)) _ _ _ _
+        let found =
+        node_at format before o stood at (was_there at (inside at here) (olds at here)) _ _ _
+        _
         _ had.0 in
         subst (Contains (placed_nodes o)) (one_placed format before found.0 p found.2 found.3 had)
         found.1
@@ -365,16 +171,17 @@ module _ (format : Format) where
     free_before r e = grind (arith, nat_tests, e)
 
     node_rows : (p : Placed) → StoodOrNew p → length (top_rows p) ≡ top_entries (tree_of format p)
-        + 1 → new_rows_of (tree_of format o) p ≤ passing was_free (top_rows p)
+        + 1 → new_rows_of format (tree_of format o) p ≤ passing format was_free (top_rows p)
     node_rows p (inl stands) rows =
-        let is = is_old (tree_of format p) (tree_of format o) (node_in o p stands) in
-        let zero_rows : new_rows_of (tree_of format o) p ≡ 0 =
+        let is = is_old (tree_of format p) (tree_of format o) (node_in format o p stands) in
+        let zero_rows : new_rows_of format (tree_of format o) p ≡ 0 =
         ap (λ (b : Bool). cond b 0 (top_entries (tree_of format p) + 1)) is in
         omega (arith, zero_rows)
     node_rows p (inr news) rows =
-        let all = all_passing was_free (top_rows p) (λ r i. free_before r (not_there r (news r i)))
+        let all = all_passing format was_free (top_rows p)
+        (λ r i. free_before r (not_there r (news r i)))
         in
-        let le : new_rows_of (tree_of format o) p ≤ top_entries (tree_of format p) + 1 =
+        let le : new_rows_of format (tree_of format o) p ≤ top_entries (tree_of format p) + 1 =
         go (is_subtree (tree_of format p) (tree_of format o)) in
         omega (arith, all, rows, le)
       where
@@ -385,17 +192,21 @@ module _ (format : Format) where
 
     mutual
       rows_le : (p : Placed) → AllByRecursion StoodOrNew (placed_nodes p)
-          → AllByRecursion (λ q. new_rows_of (tree_of format o) q ≤ passing was_free (top_rows q))
+          → AllByRecursion
+          (λ q. new_rows_of format (tree_of format o) q ≤ passing format was_free
+          (top_rows q))
           (placed_nodes p)
       rows_le none all = tt
       rows_le (head at layer chain) all = (
-        node_rows (head at layer chain) all.0 (omega (arith, own_length chain)),
+        node_rows (head at layer chain) all.0 (omega (arith, own_length format chain)),
         rows_le_below
             chain all.1,
       )
 
       rows_le_below : (chain : Chain) → AllByRecursion StoodOrNew (chain_nodes chain)
-          → AllByRecursion (λ q. new_rows_of (tree_of format o) q ≤ passing was_free (top_rows q))
+          → AllByRecursion
+          (λ q. new_rows_of format (tree_of format o) q ≤ passing format was_free
+          (top_rows q))
           (chain_nodes chain)
       rows_le_below (end child) all = rows_le child all
       rows_le_below (cell at child key value rest) all =
@@ -406,25 +217,28 @@ module _ (format : Format) where
     abbrev Aged : Placed → Type 0
     Aged p = IsAged format format new o p
 
-    node_aged : (p : Placed) → StoodOrNew p → passing was_free (top_rows p) ≡ new_rows_of
+    node_aged : (p : Placed) → StoodOrNew p → passing format was_free (top_rows p)
+        ≡ new_rows_of format
         (tree_of format o) p → 0 < length (top_rows p) → Aged p
     node_aged p (inl stands) same some = inl (refl, stands)
     node_aged p (inr news) same some =
         inr (news, go (is_subtree (tree_of format p) (tree_of format o)) refl)
       where
-        all : passing was_free (top_rows p) ≡ length (top_rows p)
-        all = all_passing was_free (top_rows p) (λ r i. free_before r (not_there r (news r i)))
+        all : passing format was_free (top_rows p) ≡ length (top_rows p)
+        all = all_passing format was_free (top_rows p)
+            (λ r i. free_before r (not_there r (news r i)))
 
         go : (b : Bool) → is_subtree (tree_of format p) (tree_of format o) ≡ b → b ≡ false
         go false e = refl
         go true e =
-            let zero_rows : new_rows_of (tree_of format o) p ≡ 0 =
+            let zero_rows : new_rows_of format (tree_of format o) p ≡ 0 =
             ap (λ (b : Bool). cond b 0 (top_entries (tree_of format p) + 1)) e in
             absurd (omega (arith, all, same, zero_rows, some))
 
     mutual
       aged_all : (p : Placed) → AllByRecursion StoodOrNew (placed_nodes p)
-          → AllByRecursion (λ q. passing was_free (top_rows q) ≡ new_rows_of (tree_of format o) q)
+          → AllByRecursion (λ q. passing format was_free (top_rows q) ≡ new_rows_of format
+          (tree_of format o) q)
           (placed_nodes p) → AllByRecursion Aged (placed_nodes p)
       aged_all none all same = tt
       aged_all (head at layer chain) all same = (
@@ -434,7 +248,8 @@ module _ (format : Format) where
       )
 
       aged_below : (chain : Chain) → AllByRecursion StoodOrNew (chain_nodes chain)
-          → AllByRecursion (λ q. passing was_free (top_rows q) ≡ new_rows_of (tree_of format o) q)
+          → AllByRecursion (λ q. passing format was_free (top_rows q) ≡ new_rows_of format
+          (tree_of format o) q)
           (chain_nodes chain) → AllByRecursion Aged (chain_nodes chain)
       aged_below (end child) all same = aged_all child all same
       aged_below (cell at child key value rest) all same =
@@ -450,18 +265,20 @@ module _ (format : Format) where
     aged has made once count =
         let all = each w has (λ r i. i) made in
         let taken = count_change old new (used o) (used w) change once in
-        let sums : over (λ q. passing was_free (top_rows q)) (placed_nodes w) ≤ over
-        (new_rows_of (tree_of format o)) (placed_nodes w) =
+        let sums : over format (λ q. passing format was_free (top_rows q)) (placed_nodes w)
+        ≤ over format
+        (new_rows_of format (tree_of format o)) (placed_nodes w) =
         omega (
           arith,
           taken,
           count,
-          passing_length was_free (used w),
-          passing_over was_free w,
+          passing_length format was_free (used w),
+          passing_over format was_free w,
           new_rows_fresh (tree_of format w) (tree_of format o),
-          fresh_over (tree_of format o) w,
+          fresh_over format (tree_of format o) w,
         )
         in
         aged_all w all
-        (squeezed (λ q. passing was_free (top_rows q)) (new_rows_of (tree_of format o))
+        (squeezed format (λ q. passing format was_free (top_rows q))
+        (new_rows_of format (tree_of format o))
         (placed_nodes w) (rows_le w all) sums)

@@ -21,7 +21,7 @@ use Rattle.mst_path.specs.Changing.{OnlyFreeWritten}
 use Rattle.mst_path.specs.Moves.{Moves}
 use Rattle.mst_path.specs.Reached.{IsReached, Changes, advanced, swept_by, IsPast, IsSettled}
 use Rattle.mst_path.specs.Versions.{HasMap, Kept, numbers_kept, AreNumbers, HaveMaps, rows_kept, Keeps}
-use Rattle.mst_path.proofs.lemmas.rows.Copies.{all_in}
+use Rattle.mst_path.proofs.lemmas.rows.CopyRows.{all_in}
 use Rattle.mst_arena.proofs.ListLemmas.{in_either}
 use Rattle.mst_path.proofs.lemmas.rows.Moving.{not_in}
 use Rattle.mst_path.proofs.lemmas.versions.Reached.{older, newest, version_after, settled_after, same_swept, settled_swept, free_swept, planted, planted_written}

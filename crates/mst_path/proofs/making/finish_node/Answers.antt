@@ -1,6 +1,6 @@
 use Rattle.std.proofs.Common.{sym, subst, arith}
 use Rattle.mst_path.specs.Making.{Finished}
-use Rattle.mst_path.proofs.lemmas.rows.Copies.{small_link}
+use Rattle.mst_path.proofs.lemmas.rows.CopyRows.{small_link}
 use Rattle.mst_path.proofs.lemmas.steps.Finishing.{at_seam, head_out}
 use Rattle.mst_path.proofs.lemmas.trees.Made.{piece_alive}
 use Rattle.mst_path.proofs.making.finish_node.Goals as goal

@@ -10,8 +10,9 @@ use Rattle.mst_path.specs.Runs.{OldPiece}
 use Rattle.mst_path.specs.Writing.{ahead, IsWritten, IsRootOf}
 use Rattle.mst_path.specs.Copying.{Copied}
 use Rattle.mst_path.specs.Making.{Rest, Finished}
-use Rattle.mst_path.proofs.lemmas.rows.Copies.{small_link, old_alive, links_are, value_there, next_some}
-use Rattle.mst_path.proofs.lemmas.steps.Finishing.{first_back, none_ahead, no_length, seam_out, Seamed, with_seam, back_copying, tail_stays, back_head_out, with_back}
+use Rattle.mst_path.proofs.lemmas.rows.CopyRows.{small_link, old_alive, links_are, value_there, next_some}
+use Rattle.mst_path.proofs.lemmas.steps.Seams.{first_back, no_length, seam_out, Seamed, with_seam, back_copying, tail_stays, back_head_out, with_back}
+use Rattle.mst_path.proofs.lemmas.steps.Finishing.{none_ahead}
 use Rattle.mst_path.proofs.lemmas.trees.Made.{piece_alive}
 use Rattle.mst_path.proofs.making.finish_with_back.Given.{Over}
 use Rattle.mst_path.proofs.making.finish_with_back.Goals.{After-move_entry, After-move_run, After-root_at-tail}

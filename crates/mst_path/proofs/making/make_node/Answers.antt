@@ -3,8 +3,8 @@ use Rattle.mst_path.specs.Takes.{IsWritable}
 use Rattle.mst_path.specs.Writing.{ahead}
 use Rattle.mst_path.specs.Copying.{Copied}
 use Rattle.mst_path.specs.Making.{PartsStand}
-use Rattle.mst_path.proofs.lemmas.rows.Copies.{still_writable}
-use Rattle.mst_path.proofs.lemmas.steps.Finishing.{ahead_length, ahead_min}
+use Rattle.mst_path.proofs.lemmas.rows.CopyRows.{still_writable}
+use Rattle.mst_path.proofs.lemmas.steps.Seams.{ahead_length, ahead_min}
 use Rattle.mst_path.proofs.lemmas.steps.Whole.{Begun, begun_by, begins_copying, front_rest, made}
 use Rattle.mst_path.proofs.making.make_node.Given.{Over}
 use Rattle.mst_path.proofs.making.make_node.Goals.{After-begin-writer, After-move_run}

@@ -9,9 +9,10 @@ use Rattle.mst_path.specs.Writing.{ahead, IsRootOf, IsWritten}
 use Rattle.mst_path.specs.Copying.{Copied}
 use Rattle.mst_path.specs.Making.{PartsStand, in_parts}
 use Rattle.mst_path.proofs.lemmas.rows.Moving.{moves_takes}
-use Rattle.mst_path.proofs.lemmas.rows.Copies.{still_writable, blank_taken, blank_ahead, next_some, small_link}
-use Rattle.mst_path.proofs.lemmas.steps.Finishing.{ahead_length, ahead_min}
-use Rattle.mst_path.proofs.lemmas.steps.Whole.{Begun, begun_by, begins_copying, child_later, with_out, rest_three, made_with}
+use Rattle.mst_path.proofs.lemmas.rows.CopyRows.{still_writable, blank_taken, blank_ahead, next_some, small_link}
+use Rattle.mst_path.proofs.lemmas.steps.Seams.{ahead_length, ahead_min}
+use Rattle.mst_path.proofs.lemmas.steps.Whole.{Begun, begun_by, begins_copying, child_later, with_out}
+use Rattle.mst_path.proofs.lemmas.steps.MadeWithEntry.{rest_three, made_with}
 use Rattle.mst_path.proofs.lemmas.trees.Made.{piece_alive}
 use Rattle.mst_path.proofs.making.make_node_with.Given.{Over}
 use Rattle.mst_path.proofs.making.make_node_with.Goals.{After-begin-writer, After-move_run, After-entry}

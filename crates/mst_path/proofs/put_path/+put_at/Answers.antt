@@ -12,7 +12,7 @@ use Rattle.mst_path.specs.Frames.{Framed, in_frame, tree_round, frame_rows}
 use Rattle.mst_path.specs.Joining.{TwoTrees, in_both, height, height_at}
 use Rattle.mst_path.specs.Splitting.{ToSplit}
 use Rattle.mst_path.specs.PutPath.{RisingTree, in_rising, with_pair, pair_rows, tree_with, with_rows, IsPutStep, PutsDown, PutsBetween, PutsAnew}
-use Rattle.mst_path.proofs.lemmas.rows.Copies.{still_writable}
+use Rattle.mst_path.proofs.lemmas.rows.CopyRows.{still_writable}
 use Rattle.mst_path.proofs.lemmas.steps.Rounds.{regrown, frame_after, room_after, closed_round}
 use Rattle.mst_path.proofs.lemmas.steps.PutGaps.{whole_split, put_top, put_top_rows, falls_at}
 use Rattle.mst_path.proofs.put_path.+put_at.Given.{Over}

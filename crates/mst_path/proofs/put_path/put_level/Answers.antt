@@ -5,7 +5,7 @@ use Rattle.mst_path.specs.Moves.{IsAlive}
 use Rattle.mst_path.specs.Frames.{Framed}
 use Rattle.mst_path.specs.Splitting.{ToSplit}
 use Rattle.mst_path.specs.PutPath.{TwoStand, in_two}
-use Rattle.mst_path.proofs.lemmas.rows.Copies.{old_alive, still_writable}
+use Rattle.mst_path.proofs.lemmas.rows.CopyRows.{old_alive, still_writable}
 use Rattle.mst_path.proofs.lemmas.steps.PutFrames.{two, level_frame, level_made}
 use Rattle.mst_path.proofs.put_path.put_level.Given.{Over}
 use Rattle.mst_path.proofs.put_path.put_level.Goals.{After-split}

@@ -8,7 +8,7 @@ use Rattle.mst_path.specs.Making.{Grown}
 use Rattle.mst_path.specs.Frames.{Framed, in_frame, tree_round, frame_rows}
 use Rattle.mst_path.specs.Joining.{TwoTrees, in_both, both_joined, both_rows, height_at}
 use Rattle.mst_path.specs.RemovePath.{SearchTree, in_tree, without, without_rows, IsStep, StepsDown, StepsHere}
-use Rattle.mst_path.proofs.lemmas.rows.Copies.{still_writable}
+use Rattle.mst_path.proofs.lemmas.rows.CopyRows.{still_writable}
 use Rattle.mst_path.proofs.lemmas.steps.Rounds.{regrown, frame_after, room_after, closed_round, none_without, lower_tree}
 use Rattle.mst_path.proofs.remove_path.+remove_at.Given.{Over}
 use Rattle.mst_path.proofs.remove_path.+remove_at.Goals.{In-Down, After-remove_at-seam, In-Here}

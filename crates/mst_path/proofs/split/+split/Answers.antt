@@ -11,9 +11,10 @@ use Rattle.mst_path.specs.Takes.{IsWritable}
 use Rattle.mst_path.specs.Making.{Split}
 use Rattle.mst_path.specs.Cutting.{EntriesLie, CutGap, IsCut}
 use Rattle.mst_path.specs.Splitting.{ToSplit}
-use Rattle.mst_path.proofs.lemmas.rows.Copies.{still_writable}
+use Rattle.mst_path.proofs.lemmas.rows.CopyRows.{still_writable}
 use Rattle.mst_path.proofs.lemmas.trees.Heights.{height}
-use Rattle.mst_path.proofs.lemmas.steps.Splitting.{AtHead, split_none, o, lies_in, tail_behind_is, layer_low, not_held, gap_of, in_gap, gap_to_split, gap_falls, gap_room, above_empty, below_empty, and_right, all_below, all_above, both, count_is, split_made, shared_made_below, shared_made_above}
+use Rattle.mst_path.proofs.lemmas.steps.Splitting.{AtHead, split_none, o, lies_in, tail_behind_is, layer_low, not_held, gap_of, in_gap, gap_to_split, gap_falls, gap_room, above_empty, below_empty, and_right}
+use Rattle.mst_path.proofs.lemmas.steps.SplitSides.{all_below, all_above, both, count_is, split_made, shared_made_below, shared_made_above}
 use Rattle.mst_path.proofs.split.+split.Given.{Over}
 use Rattle.mst_path.proofs.split.+split.Goals.{After-head-head, In-Gap, After-split}
 use Rattle.mst_path.proofs.split.+split.Goals as goal

@@ -1,7 +1,7 @@
 use Rattle.std.proofs.Common.{refl}
 use Rattle.mst_path.specs.Making.{PartsStand}
 use Rattle.mst_path.specs.Splitting.{BothStand}
-use Rattle.mst_path.proofs.lemmas.rows.Copies.{still_writable}
+use Rattle.mst_path.proofs.lemmas.rows.CopyRows.{still_writable}
 use Rattle.mst_path.proofs.lemmas.steps.Sides.{upper_stands, row_still_old, both_made}
 use Rattle.mst_path.proofs.split.both_sides.Given.{Over}
 use Rattle.mst_path.proofs.split.both_sides.Goals.{After-side-lower}

@@ -13,7 +13,7 @@ use Rattle.mst_path.specs.Writing.{ahead, entries_used}
 use Rattle.mst_path.specs.Planting.{rows_needed, Planted}
 use Rattle.mst_path.proofs.lemmas.rows.Taking.{takes_none, takes_length, taken_blank}
 use Rattle.mst_path.proofs.lemmas.rows.Moving.{moves_takes}
-use Rattle.mst_path.proofs.lemmas.rows.Copies.{still_writable}
+use Rattle.mst_path.proofs.lemmas.rows.CopyRows.{still_writable}
 use Rattle.mst_path.proofs.lemmas.trees.Nodes.{items, tail, entries_needed, needed_ahead, needed_least, take_all, node_out, node_needed, node_some, node_layer, node_child, node_last, entries_more}
 use Rattle.mst_path.proofs.lemmas.trees.Growing.{PlantedSoFar, ahead_count, ahead_none, ahead_some, ahead_all, root_small, free_now, free_beside, entry_more, node_whole}
 use Rattle.mst_path.proofs.whole_tree.+plant.Given.{Over}

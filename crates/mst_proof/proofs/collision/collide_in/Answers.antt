@@ -5,7 +5,8 @@ use Rattle.mst_node.specs.Shape.{tree_of}
 use Rattle.mst_node.specs.Text.{text}
 use Rattle.mst_node.specs.Tree.{Tree, empty}
 use Rattle.mst_proof.specs.Beside.{top_of, IsSmall}
-use Rattle.mst_proof.proofs.Walks.{small_of_map, is_node, none_of_empty, some_of_empty, none_of_no_text, some_of_no_text, none_of_walk, some_of_walk, none_of_nothing}
+use Rattle.mst_proof.proofs.WholeProofs.{small_of_map, none_of_empty, some_of_empty, none_of_no_text, some_of_no_text, none_of_walk, some_of_walk, none_of_nothing}
+use Rattle.mst_proof.proofs.Walks.{is_node}
 use Rattle.mst_proof.proofs.collision.collide_in.Given.{Over}
 use Rattle.mst_proof.proofs.collision.collide_in.Goals.{After-pair_of-then-is_empty, Else-is_empty}
 use Rattle.mst_proof.proofs.collision.collide_in.Goals as goal

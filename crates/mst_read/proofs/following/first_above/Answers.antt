@@ -1,16 +1,8 @@
-use Rattle.std.proofs.Common.{◌≡◌, ◌-◌, Some, refl, ◌∙◌, ap, arith}
+use Rattle.std.proofs.Common.{◌-◌, refl, ◌∙◌, ap, arith}
 use Rattle.mst_arena.specs.Row.{entry_links}
 use Rattle.mst_arena.proofs.EntryParts.{links_at}
-use Rattle.mst_arena.specs.Ways.{stop_from}
-use Rattle.mst_arena.specs.Standing.{Chain}
-use Rattle.mst_arena.specs.declared.sought.Stop.{Stop}
-use Rattle.mst_key.specs.declared.format.Format.{Format}
-use Rattle.mst_read.specs.Search.{LiesBehind}
-use Rattle.mst_read.proofs.Walk.{Onward}
-use Rattle.mst_read.proofs.Ways.{BeginsAbove}
 use Rattle.mst_read.proofs.Still.{there_still, read_before}
-use Rattle.mst_read.proofs.Stops.{all_ahead, ends_still, stop_before, ends_ahead, gap_link, above_found, none_above, held_link, held_there, held_left, behind_held, nothing_left}
-use Rattle.mst_read.proofs.following.first_above.Given.{Over}
+use Rattle.mst_read.proofs.Stops.{all_ahead, ends_still, stop_before, ends_ahead, gap_link, above_found, none_above, found_link, found_there, found_left, behind_found, nothing_left}
 use Rattle.mst_read.proofs.following.first_above.Goals as goal
 
 pub loop-count-init : goal.loop-count-init
@@ -50,10 +42,10 @@ returns-in-Gap-clause-first g c f chain lies =
 pub overflow_sub-link : goal.overflow_sub-link
 overflow_sub-link g c =
     let lies = c.requires.lies in
-    let some = held_link c.args.bound.now lies.1
+    let some = found_link c.args.bound.now lies.1
     (c.loop-count.invariant.onward lies.0 lies.1 lies.2)
     (stop_before (ap g.R.Rows.content c.loop-count.invariant.same) c.args.bound.now
-    c.loop-count.count c.loop-count.first c.search.ensures.stop) c.in-Held.is in
+    c.loop-count.count c.loop-count.first c.search.ensures.stop) c.in-Found.is in
     omega (arith, some)
 
 pub links-first-requires : goal.links-first-requires
@@ -62,41 +54,41 @@ links-first-requires g c =
     record {
       there = there_still
           (ap g.R.Rows.content (c.search.ensures.same ∙ c.loop-count.invariant.same))
-          entry_links (c.in-Held.link - 1)
-          (held_there c.args.bound.now lies.1
+          entry_links (c.in-Found.link - 1)
+          (found_there c.args.bound.now lies.1
           (c.loop-count.invariant.onward lies.0 lies.1 lies.2)
           (stop_before (ap g.R.Rows.content c.loop-count.invariant.same) c.args.bound.now
-          c.loop-count.count c.loop-count.first c.search.ensures.stop) c.in-Held.is);
+          c.loop-count.count c.loop-count.first c.search.ensures.stop) c.in-Found.is);
     }
 
 pub overflow_sub-count : goal.overflow_sub-count
 overflow_sub-count g c =
     let lies = c.requires.lies in
-    let left = held_left c.args.bound.now lies.1
+    let left = found_left c.args.bound.now lies.1
     (c.loop-count.invariant.onward lies.0 lies.1 lies.2)
     (stop_before (ap g.R.Rows.content c.loop-count.invariant.same) c.args.bound.now
-    c.loop-count.count c.loop-count.first c.search.ensures.stop) c.in-Held.is in
+    c.loop-count.count c.loop-count.first c.search.ensures.stop) c.in-Found.is in
     omega (arith, left)
 
 pub loop-count-smaller : goal.loop-count-smaller
 loop-count-smaller g c =
     let lies = c.requires.lies in
-    let left = held_left c.args.bound.now lies.1
+    let left = found_left c.args.bound.now lies.1
     (c.loop-count.invariant.onward lies.0 lies.1 lies.2)
     (stop_before (ap g.R.Rows.content c.loop-count.invariant.same) c.args.bound.now
-    c.loop-count.count c.loop-count.first c.search.ensures.stop) c.in-Held.is in
+    c.loop-count.count c.loop-count.first c.search.ensures.stop) c.in-Found.is in
     omega (arith, left)
 
 pub loop-count-preserved : goal.loop-count-preserved
 loop-count-preserved g c = record {
   same = c.links-first.ensures.same ∙ c.search.ensures.same ∙ c.loop-count.invariant.same;
-  onward = λ f chain lies. behind_held c.args.bound.now chain
+  onward = λ f chain lies. behind_found c.args.bound.now chain
       (c.loop-count.invariant.onward f chain lies)
       (stop_before (ap g.R.Rows.content c.loop-count.invariant.same) c.args.bound.now
-      c.loop-count.count c.loop-count.first c.search.ensures.stop) c.in-Held.is
+      c.loop-count.count c.loop-count.first c.search.ensures.stop) c.in-Found.is
       (read_before (ap g.R.Rows.content (c.search.ensures.same ∙ c.loop-count.invariant.same))
-      entry_links (c.in-Held.link - 1)
-      (links_at (g.R.Rows.content c.search.new.self) (c.in-Held.link - 1) c.links-first.result
+      entry_links (c.in-Found.link - 1)
+      (links_at (g.R.Rows.content c.search.new.self) (c.in-Found.link - 1) c.links-first.result
       c.links-first.ensures.value).1);
 }
 

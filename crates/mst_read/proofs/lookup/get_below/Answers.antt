@@ -3,7 +3,7 @@ use Rattle.mst_arena.specs.Row.{entry_value}
 use Rattle.mst_read.specs.Search.{LinkStands}
 use Rattle.mst_read.proofs.Still.{there_still, read_before}
 use Rattle.mst_read.proofs.Descend.{Ahead, there_at, reached_at, node_there, ahead_there, reach, lower, inside, at_nothing, depth_is}
-use Rattle.mst_read.proofs.Look.{Finds, in_gap, value_held, value_there}
+use Rattle.mst_read.proofs.Look.{Finds, in_gap, value_found, value_there}
 use Rattle.mst_read.proofs.lookup.get_below.Given.{Over}
 use Rattle.mst_read.proofs.lookup.get_below.Goals.{After-head_at-top-in-Gap}
 use Rattle.mst_read.proofs.lookup.get_below.Goals as goal
@@ -32,20 +32,20 @@ value-requires g c =
     let there = value_there c.args.key.now c.requires.stands.1
     (inside (c.loop-top.invariant.reached c.requires.stands) c.in-Some.is)
     (ap g.R.Rows.content c.loop-top.invariant.same)
-    (rw c.new-sought.ensures.key at c.seek.ensures.place) c.in-Held.is in
+    (rw c.new-sought.ensures.key at c.seek.ensures.place) c.in-Found.is in
     record {
       there =
           there_still (ap g.R.Rows.content (c.seek.ensures.same ∙ c.loop-top.invariant.same))
-          entry_value c.in-Held.row there;
+          entry_value c.in-Found.row there;
     }
 
-pub returns-in-Held-clause-found : goal.returns-in-Held-clause-found
-returns-in-Held-clause-found g c f m s =
+pub returns-in-Found-clause-found : goal.returns-in-Found-clause-found
+returns-in-Found-clause-found g c f m s =
     sym (read_before (ap g.R.Rows.content (c.seek.ensures.same ∙ c.loop-top.invariant.same))
-    entry_value c.in-Held.row c.value.ensures.value)
-    ∙ value_held c.args.key.now m (inside (c.loop-top.invariant.reached (f, m, s)) c.in-Some.is)
+    entry_value c.in-Found.row c.value.ensures.value)
+    ∙ value_found c.args.key.now m (inside (c.loop-top.invariant.reached (f, m, s)) c.in-Some.is)
     (ap g.R.Rows.content c.loop-top.invariant.same)
-    (rw c.new-sought.ensures.key at c.seek.ensures.place) c.in-Held.is
+    (rw c.new-sought.ensures.key at c.seek.ensures.place) c.in-Found.is
 
 -- ---- the search goes on in a gap
 

@@ -11,12 +11,12 @@ returns-in-Gap-clause-place g c f chain lies =
 
 pub overflow_sub-result : goal.overflow_sub-result
 overflow_sub-result g c =
-    let some = link_some c.requires.lies.2 c.args.key.now c.search.ensures.stop c.in-Held.is in
+    let some = link_some c.requires.lies.2 c.args.key.now c.search.ensures.stop c.in-Found.is in
     omega (arith, some)
 
-pub returns-in-Held-clause-place : goal.returns-in-Held-clause-place
-returns-in-Held-clause-place g c f chain lies =
-    place_found lies c.args.key.now (c.search.ensures.stop ∙ ap Some c.in-Held.is) refl
+pub returns-in-Found-clause-place : goal.returns-in-Found-clause-place
+returns-in-Found-clause-place g c f chain lies =
+    place_found lies c.args.key.now (c.search.ensures.stop ∙ ap Some c.in-Found.is) refl
 
 pub returns-in-End-clause-place : goal.returns-in-End-clause-place
 returns-in-End-clause-place g c f chain lies =

@@ -1,7 +1,7 @@
 use Rattle.std.proofs.Common.{◌∙◌, sym, ap}
 use Rattle.mst_read.specs.Search.{head_of, gap_placed}
 use Rattle.mst_read.proofs.Still.{lies_still}
-use Rattle.mst_read.proofs.Trails.{gap_held, gap_lies}
+use Rattle.mst_read.proofs.Trails.{no_gap_where_found, gap_lies}
 use Rattle.mst_read.proofs.proving.gap_met.Goals as goal
 
 pub head_at-requires : goal.head_at-requires
@@ -18,11 +18,11 @@ head_at-requires g c =
       );
     }
 
-pub returns-in-Held-clause-head : goal.returns-in-Held-clause-head
-returns-in-Held-clause-head g c f chain lies =
+pub returns-in-Found-clause-head : goal.returns-in-Found-clause-head
+returns-in-Found-clause-head g c f chain lies =
     sym (ap head_of
-    (gap_held c.args.key.now c.in-Held._row chain
-    (sym (c.seek.ensures.place f chain lies) ∙ c.in-Held.is)))
+    (no_gap_where_found c.args.key.now c.in-Found._row chain
+    (sym (c.seek.ensures.place f chain lies) ∙ c.in-Found.is)))
 
 pub returns-in-Gap-clause-head : goal.returns-in-Gap-clause-head
 returns-in-Gap-clause-head g c f chain behind =

@@ -1,4 +1,4 @@
-use Rattle.std.proofs.Common.{◌<◌, ◌-◌, ℕ, List, [], Option, None, inl, IsSome, refl, ◌∙◌, sym, ap, subst, arith}
+use Rattle.std.proofs.Common.{◌<◌, ◌-◌, [], Option, None, inl, IsSome, refl, ◌∙◌, sym, ap, subst, arith}
 use Rattle.mst_arena.specs.Row.{entry_links, entry_pair}
 use Rattle.mst_arena.specs.declared.row.EntryLinks.{EntryLinks}
 use Rattle.mst_arena.proofs.EntryParts.{links_at}

@@ -1,4 +1,4 @@
-use Rattle.std.proofs.Common.{◌∙◌, refl, ap, Some}
+use Rattle.std.proofs.Common.{◌∙◌, ap, Some}
 use Rattle.mst_read.proofs.Stops.{stops_there, part_found}
 use Rattle.mst_read.proofs.ranges.part_from.Goals as goal
 
@@ -10,10 +10,10 @@ returns-in-Gap-clause-part g c f chain lies =
     part_found lies c.args.from.now (c.search.ensures.stop ∙ ap Some c.in-Gap.is)
     (λ i. (c.in-Gap.child, c.part_of.ensures i))
 
-pub returns-in-Held-clause-part : goal.returns-in-Held-clause-part
-returns-in-Held-clause-part g c f chain lies =
-    part_found lies c.args.from.now (c.search.ensures.stop ∙ ap Some c.in-Held.is)
-    (λ i. (0, c.part_of-in-Held.ensures i))
+pub returns-in-Found-clause-part : goal.returns-in-Found-clause-part
+returns-in-Found-clause-part g c f chain lies =
+    part_found lies c.args.from.now (c.search.ensures.stop ∙ ap Some c.in-Found.is)
+    (λ i. (0, c.part_of-in-Found.ensures i))
 
 pub returns-in-End-clause-part : goal.returns-in-End-clause-part
 returns-in-End-clause-part g c f chain lies =

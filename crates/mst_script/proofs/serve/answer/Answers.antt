@@ -35,27 +35,27 @@ returns-else-is_pin-clause-does g c = let f =
 
 pub returns-then-is_unpin-clause-whole : goal.returns-then-is_unpin-clause-whole
 returns-then-is_unpin-clause-whole g c = let f =
-    subst (IsFound c.args.passes.now c.args.request.now.pass) c.in-Held.is c.find.ensures.found in
-    all_unpinned c.args.store.now c.args.passes.now c.unpin.new.self c.in-Held.place f.0
+    subst (IsFound c.args.passes.now c.args.request.now.pass) c.in-Pinned.is c.find.ensures.found in
+    all_unpinned c.args.store.now c.args.passes.now c.unpin.new.self c.in-Pinned.place f.0
     c.unpin.ensures.unpins c.requires.whole
 
 pub returns-then-is_unpin-clause-does : goal.returns-then-is_unpin-clause-does
 returns-then-is_unpin-clause-does g c = let f =
-    subst (IsFound c.args.passes.now c.args.request.now.pass) c.in-Held.is c.find.ensures.found in
+    subst (IsFound c.args.passes.now c.args.request.now.pass) c.in-Pinned.is c.find.ensures.found in
     does_unpin c.args.store.now c.args.request.now.pass c.args.request.now.command c.args.passes.now
-    c.unpin.new.self c.in-Held.place (line_of (codes "unpinned"))
+    c.unpin.new.self c.in-Pinned.place (line_of (codes "unpinned"))
     f (sym c.is_unpin.ensures ∙ c.if-is_unpin.true) refl c.unpin.ensures.unpins
 
 pub returns-else-is_unpin-clause-whole : goal.returns-else-is_unpin-clause-whole
 returns-else-is_unpin-clause-whole g c = all_recalled c.args.store.now c.args.request.now.command
-    c.args.passes.now c.recall.new.self c.in-Held.place (text_of c.recall.result)
+    c.args.passes.now c.recall.new.self c.in-Pinned.place (text_of c.recall.result)
     c.recall.ensures.asked c.requires.whole
 
 pub returns-else-is_unpin-clause-does : goal.returns-else-is_unpin-clause-does
 returns-else-is_unpin-clause-does g c = let f =
-    subst (IsFound c.args.passes.now c.args.request.now.pass) c.in-Held.is c.find.ensures.found in
+    subst (IsFound c.args.passes.now c.args.request.now.pass) c.in-Pinned.is c.find.ensures.found in
     does_recall c.args.store.now c.args.request.now.pass c.args.request.now.command
-    c.args.passes.now c.recall.new.self c.in-Held.place (text_of c.recall.result)
+    c.args.passes.now c.recall.new.self c.in-Pinned.place (text_of c.recall.result)
     c.requires.whole f (sym c.is_unpin.ensures ∙ c.if-is_unpin.false) c.recall.ensures.asked
 
 pub find-requires : goal.find-requires

@@ -1,4 +1,4 @@
-use Rattle.std.proofs.Common.{◌≡◌, IsSome, Some, sym, ◌∙◌, ap, subst}
+use Rattle.std.proofs.Common.{IsSome, sym, ◌∙◌, ap, subst}
 use Rattle.mst_arena.specs.Content.{Content, part_at}
 use Rattle.mst_arena.specs.Row.{entry_value}
 use Rattle.mst_arena.proofs.EntryParts.{pair_of, value_there}

@@ -12,14 +12,14 @@ use Rattle.std.proofs.Crossing as heap
 use Rattle.std_alloc.proofs.SendSync.{quiet, lies}
 use Rattle.std_heap.proofs.Global.TheSendSync as handle
 use Rattle.mst_c.specs.Owning.{HeldNow, hand_owns}
-use Rattle.mst_c.specs.contracts.held.Held as Held
-use Rattle.mst_c.proofs.held.Held.TheSendSync.{the_send as held}
+use Rattle.mst_c.specs.contracts.pass_box.PassBox as PassBox
+use Rattle.mst_c.proofs.pass_box.PassBox.TheSendSync.{the_send as held}
 use Rattle.mst_c.specs.contracts.hand.Hand.{the_row, the_type}
 
 owned : (a : Global) (p : Ptr) (h : HeldNow) → Keyless (hand_owns a p h)
 owned a p None = tt
 owned a p (Some x) =
-    (lies Held.the_row held p x, heap.frees.frees a (raw (lone Held.the_row.mir)) p)
+    (lies PassBox.the_row held p x, heap.frees.frees a (raw (lone PassBox.the_row.mir)) p)
 
 pub send : IsSend the_row
 send =

@@ -5,7 +5,7 @@ use mir.MapTy.{inst_fn}
 use mir.Syntax.{Fn, Args, Callee, a_type, dcons, dnil}
 use lib.Dec.{T}
 use mir.Val.{Val, vptr, has_ty, WT}
-use base.Logic.{ent, emp, id⊢, never, fst∗}
+use base.Logic.{ent, emp, id⊢}
 use base.Fml.{ftrue, fsep, flft}
 use contract.BorrowLft.{◌⊑◌}
 use contract.Monad.{Fun, fact, fact_i}
@@ -27,7 +27,7 @@ use prog.Routine.{Routine}
 use prog.Wp.{WpFn, Tables}
 use sound.WpLaws.{fm_of, WpFn-mono}
 use types.ByLocal.{alloc_all, pass_all, free_all, look_at, get, get_in, sets, lands_last, env}
-use types.Kit.{Item, ‵, raw, ◌⊛◌, at_ret, some, later, ◌$◌, ◌∵◌, !, qed, by, move, drop, use0, use1, join, split, split3, pick, rewrite, fsplit, fjoin, fpick, feq_i, suffices, await, done}
+use types.Kit.{Item, ‵, raw, ◌⊛◌, at_ret, some, later, ◌$◌, ◌∵◌, !, qed, by, move, drop, use0, use1, join, split, split3, pick, rewrite, fsplit, fjoin, feq_i, suffices, await, done}
 use types.Logic.{Logic}
 use types.Part.{whole, sub}
 use types.Run.{stop, fld, no_more, and_then, of_opd, first, blocks, exec, returns, enter}

@@ -12,14 +12,14 @@ use Rattle.std.proofs.Crossing as heap
 use Rattle.std_alloc.proofs.SendSync.{quiet, lies}
 use Rattle.std_heap.proofs.Global.TheSendSync as handle
 use Rattle.mst_c_sharded.specs.ShardedOwning.{HeldNow, hand_owns}
-use Rattle.mst_c_sharded.specs.contracts.held.ShardedHeld as Held
-use Rattle.mst_c_sharded.proofs.held.ShardedHeld.TheSendSync.{the_send as held}
+use Rattle.mst_c_sharded.specs.contracts.handle_box.HandleBox as HandleBox
+use Rattle.mst_c_sharded.proofs.handle_box.HandleBox.TheSendSync.{the_send as held}
 use Rattle.mst_c_sharded.specs.contracts.hand.ShardedHand.{the_row, the_type}
 
 owned : (a : Global) (p : Ptr) (h : HeldNow) → Keyless (hand_owns a p h)
 owned a p None = tt
 owned a p (Some x) =
-    (lies Held.the_row held p x, heap.frees.frees a (raw (lone Held.the_row.mir)) p)
+    (lies HandleBox.the_row held p x, heap.frees.frees a (raw (lone HandleBox.the_row.mir)) p)
 
 pub send : IsSend the_row
 send =

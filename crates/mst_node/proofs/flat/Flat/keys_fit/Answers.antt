@@ -1,4 +1,4 @@
-use Rattle.std.proofs.Common.{◌≡◌, ◌-◌, ◌+◌, ◌↔◌, List, ℕ, Option, Some, None, sym, ap, ◌∙◌, refl, arith, subst, rules}
+use Rattle.std.proofs.Common.{◌≡◌, ◌-◌, ◌+◌, ◌↔◌, ℕ, None, sym, ap, ◌∙◌, refl, arith, subst, rules}
 use Rattle.std.specs.Prelude.{option_copied}
 use Rattle.mst_node.specs.Text.{FlatNode}
 use Rattle.mst_node.specs.Grammar.{KeysFit}

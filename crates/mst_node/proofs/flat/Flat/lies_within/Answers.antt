@@ -1,7 +1,7 @@
 use Rattle.std.proofs.Common.{◌≡◌, ◌-◌, ◌+◌, ◌↔◌, List, ℕ, Option, sym, ap, ◌∙◌, refl, arith, subst, rules}
 use Rattle.std.specs.List.{AllByRecursion}
 use Rattle.mst_node.specs.Gaps.{IsBetween}
-use Rattle.mst_node.specs.Place.{LiesWithin}
+use Rattle.mst_node.specs.KeyPlace.{LiesWithin}
 use Rattle.mst_node.specs.Text.{FlatEntry, FlatNode}
 use Rattle.mst_node.specs.Reading.{entries_at, body_or_empty}
 use Rattle.mst_node.specs.Seen.{seen}

@@ -1,7 +1,7 @@
 use Rattle.std.proofs.Common.{◌≡◌, ◌-◌, List, ℕ, Some, ◌↔◌}
 use Rattle.std.specs.List.{AllByRecursion}
 use Rattle.mst_node.specs.Gaps.{IsBetween}
-use Rattle.mst_node.specs.Place.{LiesWithin}
+use Rattle.mst_node.specs.KeyPlace.{LiesWithin}
 use Rattle.mst_node.specs.Text.{FlatEntry}
 use Rattle.mst_node.specs.Reading.{entries_at}
 use Rattle.mst_node.proofs.flat.Flat.lies_within.Given as goal

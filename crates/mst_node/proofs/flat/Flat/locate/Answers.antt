@@ -1,7 +1,7 @@
 use Rattle.std.proofs.Common.{◌≡◌, ◌-◌, ◌+◌, List, ℕ, Option, Some, sym, ap, ◌∙◌, refl, arith, subst, rules}
-use Rattle.mst_node.specs.declared.place.Span.{Span}
-use Rattle.mst_node.specs.declared.place.Place.TheVariants.{Held, Gap}
-use Rattle.mst_node.specs.Place.{place_among, place_of}
+use Rattle.mst_node.specs.declared.key_place.Span.{Span}
+use Rattle.mst_node.specs.declared.key_place.KeyPlace.TheVariants.{Found, Gap}
+use Rattle.mst_node.specs.KeyPlace.{place_among, place_of}
 use Rattle.mst_node.specs.Text.{FlatEntry, FlatNode}
 use Rattle.mst_node.specs.Reading.{entries_at, body_or_empty}
 use Rattle.mst_node.specs.Seen.{seen}
@@ -51,7 +51,7 @@ returns-in-Equal c =
     (c.self.inside.count - (c.loop.counter + 1)) c.loop.rest.now c.loop.invariant.0
     (e, c.in-Some.after.now) c.loop.invariant.1 (omega arith) c.in-Some.ensures.reading in
     record {
-      place = ap Held c.in-Ok-Ok.ensures'.ok ∙ place_step c.args.key.now c.loop.low
+      place = ap Found c.in-Ok-Ok.ensures'.ok ∙ place_step c.args.key.now c.loop.low
           c.args.span.high c.loop.invariant.0.0 step.0 e c.args.self.now.tail c.in-Ok-Ok.at _ _
           step.1
           c.in-Ok-Ok.ensures.ok c.in-Equal.ensures c.loop.invariant.2;

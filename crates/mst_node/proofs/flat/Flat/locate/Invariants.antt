@@ -1,5 +1,5 @@
 use Rattle.std.proofs.Common.{◌≡◌, ◌-◌, List, ℕ, Some}
-use Rattle.mst_node.specs.Place.{place_among, place_of}
+use Rattle.mst_node.specs.KeyPlace.{place_among, place_of}
 use Rattle.mst_node.specs.Text.{FlatEntry}
 use Rattle.mst_node.specs.Reading.{entries_at}
 use Rattle.mst_node.proofs.flat.Flat.locate.Given as goal

@@ -5,7 +5,7 @@ use Rattle.mst_script.proofs.passes.Passes.ask.Goals as goal
 pub returns : goal.returns
 returns g c =
     let free : c.self.inside.free.items ≡ c.args.self.now.free = search rules in
-    let held : c.self.inside.held.items ≡ c.args.self.now.held = search rules in
+    let pinned : c.self.inside.pinned.items ≡ c.args.self.now.pinned = search rules in
     let within : c.args.place < length c.self.inside.free.items =
     subst (λ xs. c.args.place < length xs) (sym free) c.requires.place in record {
       asked = record {
@@ -15,6 +15,6 @@ returns g c =
             c.index_mut.result.now within c.index_mut.ensures.value free;
         asked = c.ask.ensures;
         free = ap (λ xs. set xs c.args.place c.ask.new.pass) free;
-        held = held;
+        pinned = pinned;
       };
     }

@@ -16,14 +16,14 @@ loop-place-2-init g c = λ k d l. absurd (omega (arith, l))
 
 pub returns-then-number-2 : goal.returns-then-number-2
 returns-then-number-2 g c =
-    let held : c.as_slice-pinned-items.result.now ≡ c.args.self.now.held = search rules in
+    let pinned : c.as_slice-pinned-items.result.now ≡ c.args.self.now.pinned = search rules in
     let free : c.as_slice-pass-items.result.now ≡ c.args.self.now.free = search rules in record {
       found = (
         found_at c.as_slice-pass-items.result.now c.args.self.now.free c.loop-place-2.place
             c.args.number c.pass-item.result c.loop-place-2-test.true c.pass-item.is
             (sym c.number-in-loop-place-2.ensures.number ∙ c.if-number-2.true) free,
-        nowhere c.as_slice-pinned-items.result.now c.args.self.now.held c.loop-place.place
-            c.args.number c.loop-place.invariant c.loop-place-test.false held,
+        nowhere c.as_slice-pinned-items.result.now c.args.self.now.pinned c.loop-place.place
+            c.args.number c.loop-place.invariant c.loop-place-test.false pinned,
       );
     }
 
@@ -34,13 +34,13 @@ loop-place-2-preserved g c = not_yet c.as_slice-pass-items.result.now c.loop-pla
 
 pub unreachable-requires : goal.unreachable-requires
 unreachable-requires g c =
-    let held : c.as_slice-pinned-items.result.now ≡ c.args.self.now.held = search rules in
+    let pinned : c.as_slice-pinned-items.result.now ≡ c.args.self.now.pinned = search rules in
     let free : c.as_slice-pass-items.result.now ≡ c.args.self.now.free = search rules in
     not_there c.args.self.now c.args.number c.requires.there
     (nowhere c.as_slice-pass-items.result.now c.args.self.now.free c.loop-place-2.place
     c.args.number c.loop-place-2.invariant c.loop-place-2-test.false free)
-    (nowhere c.as_slice-pinned-items.result.now c.args.self.now.held c.loop-place.place
-    c.args.number c.loop-place.invariant c.loop-place-test.false held)
+    (nowhere c.as_slice-pinned-items.result.now c.args.self.now.pinned c.loop-place.place
+    c.args.number c.loop-place.invariant c.loop-place-test.false pinned)
 
 pub offset_bounds-pinned-items-place : goal.offset_bounds-pinned-items-place
 offset_bounds-pinned-items-place g c = search rules

@@ -5,7 +5,7 @@ use Rattle.mst_script.proofs.passes.Passes.pin.Goals as goal
 pub returns : goal.returns
 returns g c =
     let free : c.self.inside.free.items ≡ c.args.self.now.free = search rules in
-    let held : c.self.inside.held.items ≡ c.args.self.now.held = search rules in
+    let pinned : c.self.inside.pinned.items ≡ c.args.self.now.pinned = search rules in
     let p = c.swap_remove.result in record {
       pins = record {
         p = p;
@@ -14,7 +14,7 @@ returns g c =
         looks = c.pin-pinned.ensures.looks;
         version_is = c.version-version.ensures.version;
         free = c.swap_remove.ensures.items ∙ ap (λ xs. swap_remove xs c.args.place p) free;
-        held = c.push_reserved.ensures.items ∙ ap (λ xs. xs ++ c.pin-pinned.result ∷ []) held;
+        pinned = c.push_reserved.ensures.items ∙ ap (λ xs. xs ++ c.pin-pinned.result ∷ []) pinned;
       };
     }
 

@@ -5,22 +5,23 @@ use Rattle.mst_script.proofs.passes.Passes.recall.Goals as goal
 
 pub returns : goal.returns
 returns g c =
-    let inside : c.args.self.now ≡ roster c.self.inside.free.items c.self.inside.held.items =
+    let inside : c.args.self.now ≡ roster c.self.inside.free.items c.self.inside.pinned.items =
     search rules in
-    let held : c.self.inside.held.items ≡ c.args.self.now.held = search rules in
-    let within : c.args.place < length c.self.inside.held.items =
-    subst (λ xs. c.args.place < length xs) (sym held) c.requires.place in
+    let pinned : c.self.inside.pinned.items ≡ c.args.self.now.pinned = search rules in
+    let within : c.args.place < length c.self.inside.pinned.items =
+    subst (λ xs. c.args.place < length xs) (sym pinned) c.requires.place in
     let p = c.index_mut.result.now in record {
       asked = record {
         p = p;
-        here = stands_at c.self.inside.held.items c.args.self.now.held c.args.place p within
-            c.index_mut.ensures.value held;
+        here = stands_at c.self.inside.pinned.items c.args.self.now.pinned c.args.place p within
+            c.index_mut.ensures.value pinned;
         recalls = c.recall.ensures.found;
         same =
-            ap (λ x. roster c.self.inside.free.items (set c.self.inside.held.items c.args.place x))
+            ap (λ x. roster c.self.inside.free.items
+            (set c.self.inside.pinned.items c.args.place x))
             c.recall.ensures.same
             ∙ ap (roster c.self.inside.free.items)
-            (set_same c.self.inside.held.items c.args.place p within c.index_mut.ensures.value)
+            (set_same c.self.inside.pinned.items c.args.place p within c.index_mut.ensures.value)
             ∙ sym inside;
       };
     }

@@ -5,14 +5,14 @@ use Rattle.mst_script.proofs.passes.Passes.unpin.Goals as goal
 pub returns : goal.returns
 returns g c =
     let free : c.self.inside.free.items ≡ c.args.self.now.free = search rules in
-    let held : c.self.inside.held.items ≡ c.args.self.now.held = search rules in
+    let pinned : c.self.inside.pinned.items ≡ c.args.self.now.pinned = search rules in
     let p = c.swap_remove.result in record {
       unpins = record {
         p = p;
-        here = c.swap_remove.ensures.value ∙ ap (λ xs. get_or xs c.args.place p) held;
+        here = c.swap_remove.ensures.value ∙ ap (λ xs. get_or xs c.args.place p) pinned;
         free = c.push_reserved.ensures.items ∙ ap (λ x. c.self.inside.free.items ++ x ∷ [])
             c.unpin-pass.ensures.same ∙ ap (λ xs. xs ++ p ∷ []) free;
-        held = c.swap_remove.ensures.items ∙ ap (λ xs. swap_remove xs c.args.place p) held;
+        pinned = c.swap_remove.ensures.items ∙ ap (λ xs. swap_remove xs c.args.place p) pinned;
       };
     }
 

@@ -6,12 +6,13 @@ use Rattle.mst_script.proofs.passes.Passes.unpin_all.Given as goal
 -- the passes are still all there, with room on either side
 abbrev pub invariant-loop-pinned : goal.invariant-loop-pinned
 invariant-loop-pinned g l = record {
-  same : IsPermutation (everyone l.fn.self) (l.self-inside.free.items ++ l.self-inside.held.items);
-  free_room : vec_len l.self-inside.free + vec_len l.self-inside.held ≤ vec_capacity
+  same : IsPermutation (everyone l.fn.self)
+      (l.self-inside.free.items ++ l.self-inside.pinned.items);
+  free_room : vec_len l.self-inside.free + vec_len l.self-inside.pinned ≤ vec_capacity
       l.self-inside.free;
-  held_room : vec_len l.self-inside.free + vec_len l.self-inside.held ≤ vec_capacity
-      l.self-inside.held;
+  pinned_room : vec_len l.self-inside.free + vec_len l.self-inside.pinned ≤ vec_capacity
+      l.self-inside.pinned;
 }
 
 abbrev pub decreases-loop-pinned : goal.decreases-loop-pinned
-decreases-loop-pinned g l = vec_len l.self-inside.held
+decreases-loop-pinned g l = vec_len l.self-inside.pinned

@@ -1,0 +1,52 @@
+//! What a hand's pass tells of its store's rows while versions are pinned, and of its own last
+//! write.
+ghost use Rattle.mst_c.specs.Knowing.{CountsFree, Knows};
+
+use crate::pass_box::{PassBox, State, Uncounted};
+use mst_store::Busy;
+use std::mem::replace;
+
+impl PassBox {
+    /// How many rows are free to the next write, if the pass is free.
+    pub(crate) fn free_rows(&mut self) -> Result<u32, Uncounted>
+        ensures counts { CountsFree self.old result self.new }
+    {
+        match replace(&mut self.state, State::Away) {
+            State::Away => unreachable!(),
+            State::Free(laid) => {
+                let mut pass = self.store.lift(laid);
+                let free = pass.free_rows();
+                self.state = State::Free(pass.lay());
+                match free {
+                    Ok(free) => Ok(free),
+                    Err(Busy) => Err(Uncounted::Busy),
+                }
+            }
+            State::Pinned(laid) => {
+                self.state = State::Pinned(laid);
+                Err(Uncounted::Pins)
+            }
+        }
+    }
+
+    /// The version that the pass's last write made, if it made one.
+    pub(crate) fn made(&mut self) -> Option<u64>
+        ensures knows { Knows self.old result self.new }
+    {
+        match replace(&mut self.state, State::Away) {
+            State::Away => unreachable!(),
+            State::Free(laid) => {
+                let pass = self.store.lift(laid);
+                let made = pass.made();
+                self.state = State::Free(pass.lay());
+                made
+            }
+            State::Pinned(laid) => {
+                let pinned = self.store.lift_pinned(laid);
+                let made = pinned.made();
+                self.state = State::Pinned(pinned.lay());
+                made
+            }
+        }
+    }
+}

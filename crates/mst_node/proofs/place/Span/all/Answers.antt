@@ -1,5 +1,0 @@
-use Rattle.std.proofs.Common.{rules}
-use Rattle.mst_node.proofs.place.Span.all.Goals as goal
-
-pub returns : goal.returns
-returns c = search rules

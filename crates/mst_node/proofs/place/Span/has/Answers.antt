@@ -1,8 +1,0 @@
-use Rattle.std.proofs.Common.{rules}
-use Rattle.mst_node.proofs.place.Span.has.Goals as goal
-
-pub returns-then-above : goal.returns-then-above
-returns-then-above c = search rules
-
-pub returns-else-above : goal.returns-else-above
-returns-else-above c = search rules

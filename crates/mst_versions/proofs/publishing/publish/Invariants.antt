@@ -1,6 +1,0 @@
-use Rattle.mst_words.specs.Stored.{desk_state}
-use Rattle.mst_versions.proofs.publishing.publish.Given as goal
-
--- the event that is added, and what the desk then knows
-abbrev pub ghosts-publish : goal.ghosts-publish
-ghosts-publish g a = record { event = a.event.now; desk = desk_state a.desk.now }
