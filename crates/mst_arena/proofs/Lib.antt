@@ -5,6 +5,7 @@ pub mod WordOrder
 pub mod WayLemmas
 pub mod StopLemmas
 pub mod EntryParts
+pub mod EntryWords
 pub mod BitLemmas
 pub mod FlagLemmas
 pub mod SetLemmas

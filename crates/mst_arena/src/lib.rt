@@ -27,6 +27,7 @@
 mod bits;
 mod desk;
 mod entry_text;
+mod entry_words;
 mod free_rows;
 mod laws;
 mod life;
@@ -40,6 +41,7 @@ mod words;
 
 pub use desk::{Desk, VersionsSpent};
 pub use entry_text::take_common;
+pub use entry_words::take_words;
 pub use laws::{life_laws, standing_laws, words_laws};
 pub use life::Life;
 pub use plain::PlainRows;

@@ -25,7 +25,7 @@ pub(crate) fn bytes_of_four(words: &[u64; 4]) -> [u8; 32]
 }
 
 /// The 64 bytes of eight words, as [`bytes_of_four`] has those of four.
-fn bytes_of_eight(words: &[u64; 8]) -> [u8; 64]
+pub(crate) fn bytes_of_eight(words: &[u64; 8]) -> [u8; 64]
     ensures bytes { result ≡ map (byte_of_words words.now) (range_with_len 0 64) }
 {
     let [a, b, c, d, e, f, g, h] = *words;

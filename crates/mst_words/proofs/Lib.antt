@@ -28,6 +28,7 @@ pub mod Copied
 pub mod Limits
 pub mod WordWays
 pub mod ShortRows
+pub mod EntryRows
 pub mod Ruling
 pub mod Deeds
 pub mod CountLaws

@@ -18,6 +18,27 @@ pub const RECORD_WORDS: usize = 7;
 /// How many words a row has.
 pub const ROW_WORDS: usize = 16;
 
+/// The word of an entry that has the link of the tree before it.
+pub(crate) const CHILD_WORD: usize = 1;
+
+/// The word of an entry that has the link of the entry after it.
+pub(crate) const NEXT_WORD: usize = 2;
+
+/// The word of an entry that has the lengths of its key and its value.
+pub(crate) const LENGTHS_WORD: usize = 3;
+
+/// The first of the four words of an entry's key.
+pub(crate) const FIRST_KEY_WORD: usize = 4;
+
+/// The first of the eight words of an entry's value.
+pub(crate) const FIRST_VALUE_WORD: usize = 8;
+
+/// The first of the four words of a head's layer, count and links.
+pub(crate) const LAYER_WORD: usize = 1;
+
+/// The first of the four words of a head's digest.
+pub(crate) const FIRST_DIGEST_WORD: usize = 5;
+
 /// The place of the turn: 0, or the number of the pass that has it.
 pub(crate) const TURN: usize = 0;
 

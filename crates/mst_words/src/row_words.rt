@@ -13,7 +13,10 @@ ghost use Rattle.mst_arena.specs.Row.{entry_links, entry_ends, entry_pair, entry
 ghost use Rattle.mst_arena.specs.Words.{lengths_word, first_key_word, first_value_word};
 
 use crate::board::{Board, Token};
-use crate::layout::{FIRST_ROW, ROW_WORDS, row_word};
+use crate::layout::{
+    CHILD_WORD, FIRST_KEY_WORD, FIRST_ROW, FIRST_VALUE_WORD, LENGTHS_WORD, NEXT_WORD, ROW_WORDS,
+    row_word,
+};
 use mst_arena::{Links, Row};
 use mst_key::{Key, Value};
 use std::alloc::Allocator;
@@ -81,8 +84,8 @@ impl<A: Allocator + Copy> Board<A> {
         ensures same { (seat.new.table_id ≡ seat.old.table_id) × (seat.new.id ≡ seat.old.id)
             × (seat.new.me ≡ seat.old.me) }
     {
-        let child = self.word(seat, row, 1);
-        let next = self.word(seat, row, 2);
+        let child = self.word(seat, row, CHILD_WORD);
+        let next = self.word(seat, row, NEXT_WORD);
         Links {
             child: child as u32,
             next: next as u32,
@@ -101,10 +104,10 @@ impl<A: Allocator + Copy> Board<A> {
             × (seat.new.me ≡ seat.old.me) }
     {
         if lengths % 256 == 16 {
-            let [a, b] = self.words::<2>(seat, row, 4);
+            let [a, b] = self.words::<2>(seat, row, FIRST_KEY_WORD);
             [a, b, 0, 0]
         } else {
-            self.words::<4>(seat, row, 4)
+            self.words::<4>(seat, row, FIRST_KEY_WORD)
         }
     }
 
@@ -120,10 +123,10 @@ impl<A: Allocator + Copy> Board<A> {
             × (seat.new.me ≡ seat.old.me) }
     {
         if lengths / 256 == 32 {
-            let [a, b, c, d] = self.words::<4>(seat, row, 8);
+            let [a, b, c, d] = self.words::<4>(seat, row, FIRST_VALUE_WORD);
             [a, b, c, d, 0, 0, 0, 0]
         } else {
-            self.words::<8>(seat, row, 8)
+            self.words::<8>(seat, row, FIRST_VALUE_WORD)
         }
     }
 
@@ -155,7 +158,7 @@ impl<A: Allocator + Copy> Board<A> {
         ensures same { (seat.new.table_id ≡ seat.old.table_id) × (seat.new.id ≡ seat.old.id)
             × (seat.new.me ≡ seat.old.me) }
     {
-        let lengths = self.word(seat, row, 3);
+        let lengths = self.word(seat, row, LENGTHS_WORD);
         if lengths == COMMON_LENGTHS {
             self.pair_by(seat, row, COMMON_LENGTHS)
         } else {
@@ -181,7 +184,7 @@ impl<A: Allocator + Copy> Board<A> {
         ensures same { (seat.new.table_id ≡ seat.old.table_id) × (seat.new.id ≡ seat.old.id)
             × (seat.new.me ≡ seat.old.me) }
     {
-        let lengths = self.word(seat, row, 3);
+        let lengths = self.word(seat, row, LENGTHS_WORD);
         if lengths == COMMON_LENGTHS {
             list.push_reserved(self.pair_by(seat, row, COMMON_LENGTHS));
         } else {
@@ -298,12 +301,16 @@ impl<A: Allocator + Copy> Board<A> {
             seat.old.me.0.known_words seat.new.me.0.known_words }
     {
         if lengths == COMMON_LENGTHS {
-            self.copy_part::<2, 2>(seat, from, to, 4, false);
-            let [a, b, c, d] = self.copy_part::<4, 4>(seat, from, to, 8, false);
+            self.copy_part::<2, 2>(seat, from, to, FIRST_KEY_WORD, false);
+            let [a, b, c, d] = self.copy_part::<4, 4>(seat, from, to, FIRST_VALUE_WORD, false);
             [a, b, c, d, 0, 0, 0, 0]
         } else {
             let [_, _, _, _, a, b, c, d, e, f, g, h] = self.copy_part::<12, 0>(
-                seat, from, to, 4, true,
+                seat,
+                from,
+                to,
+                FIRST_KEY_WORD,
+                true,
             );
             [a, b, c, d, e, f, g, h]
         }
@@ -337,7 +344,7 @@ impl<A: Allocator + Copy> Board<A> {
             (relinked_list (records.row seat.old.me.0.known_words from) child next)
             seat.old.me.0.known_words seat.new.me.0.known_words }
     {
-        let lengths = self.word(seat, from, 3);
+        let lengths = self.word(seat, from, LENGTHS_WORD);
         let front = [1, u64::from(child), u64::from(next), lengths];
         self.store_words(seat, to, &front);
         let value = self.copy_bytes(seat, from, to, lengths);

@@ -9,7 +9,9 @@ ghost use Rattle.mst_words.specs.Layout.{row_words};
 ghost use Rattle.mst_words.specs.Records as records;
 ghost use Rattle.mst_words.specs.Access.{may_read, is_blank, content_of, beside, relinked_list};
 
-use crate::layout::ROW_WORDS;
+use crate::layout::{
+    CHILD_WORD, FIRST_DIGEST_WORD, FIRST_KEY_WORD, LAYER_WORD, LENGTHS_WORD, ROW_WORDS,
+};
 use crate::seat::PassSeat;
 use mst_arena::{EntryLinks, HeadLinks, Links, Row, Rows, Sought, Stop, Way};
 use mst_key::{Format, Key, Value};
@@ -46,12 +48,12 @@ impl<'a, A: Allocator + Copy> PassSeat<'a, A> {
             ≡ map (records.row self.old.me.0.known_words row) (range_with_len 1 7) }
         ensures same { self.new ≡ self.old }
     {
-        let [child, next, lengths] = self.words::<3>(row, 1);
+        let [child, next, lengths] = self.words::<3>(row, CHILD_WORD);
         if lengths % 256 == 16 {
-            let [a, b] = self.words::<2>(row, 4);
+            let [a, b] = self.words::<2>(row, FIRST_KEY_WORD);
             [child, next, lengths, a, b, 0, 0]
         } else {
-            let [a, b, c, d] = self.words::<4>(row, 4);
+            let [a, b, c, d] = self.words::<4>(row, FIRST_KEY_WORD);
             [child, next, lengths, a, b, c, d]
         }
     }
@@ -120,14 +122,14 @@ impl<'a, A: Allocator + Copy> Rows for PassSeat<'a, A> {
     }
 
     fn head(&mut self, row: u32) -> HeadLinks {
-        match HeadLinks::read(&self.words(row, 1)) {
+        match HeadLinks::read(&self.words(row, LAYER_WORD)) {
             Some(links) => links,
             None => unreachable!(),
         }
     }
 
     fn digest(&mut self, row: u32) -> [u8; 32] {
-        Row::read_digest(&self.words(row, 5))
+        Row::read_digest(&self.words(row, FIRST_DIGEST_WORD))
     }
 
     #[inline(always)]
@@ -175,7 +177,7 @@ impl<'a, A: Allocator + Copy> Rows for PassSeat<'a, A> {
 
     #[inline(always)]
     fn value(&mut self, row: u32) -> Value {
-        let lengths = self.word(row, 3);
+        let lengths = self.word(row, LENGTHS_WORD);
         let words = self.board.value_words(&mut self.token, row, lengths);
         match Row::read_value(lengths, &words) {
             Some(value) => value,

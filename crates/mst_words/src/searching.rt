@@ -16,6 +16,7 @@ ghost use Rattle.mst_words.specs.Records as records;
 ghost use Rattle.mst_words.specs.Access.{IsAt, may_read, content_of};
 
 use crate::board::{Board, Token};
+use crate::layout::{CHILD_WORD, FIRST_KEY_WORD, LENGTHS_WORD, NEXT_WORD};
 use mst_arena::{Sought, Stop, Way};
 use std::alloc::Allocator;
 use std::cmp::Ordering;
@@ -62,7 +63,7 @@ impl<A: Allocator + Copy> Board<A> {
     {
         match before {
             Ordering::Less => Ordering::Less,
-            Ordering::Equal => len.cmp(&(self.linked_word(seat, link, 3) % 256)),
+            Ordering::Equal => len.cmp(&(self.linked_word(seat, link, LENGTHS_WORD) % 256)),
             Ordering::Greater => Ordering::Greater,
         }
     }
@@ -81,9 +82,9 @@ impl<A: Allocator + Copy> Board<A> {
             × (seat.new.me ≡ seat.old.me) }
     {
         let [_, second, third, last] = key.words();
-        let order = second.cmp(&self.linked_word(seat, link, 5));
-        let order = self.next_order(seat, order, third, link, 6);
-        let order = self.next_order(seat, order, last, link, 7);
+        let order = second.cmp(&self.linked_word(seat, link, FIRST_KEY_WORD + 1));
+        let order = self.next_order(seat, order, third, link, FIRST_KEY_WORD + 2);
+        let order = self.next_order(seat, order, last, link, FIRST_KEY_WORD + 3);
         self.length_order(seat, order, key.len(), link)
     }
 
@@ -102,7 +103,7 @@ impl<A: Allocator + Copy> Board<A> {
             × (seat.new.me ≡ seat.old.me) }
     {
         let [first, ..] = key.words();
-        let stored = self.linked_word(seat, link, 4);
+        let stored = self.linked_word(seat, link, FIRST_KEY_WORD);
         if stored < first {
             Ordering::Greater
         } else if first < stored {
@@ -121,9 +122,9 @@ impl<A: Allocator + Copy> Board<A> {
             × (seat.new.me ≡ seat.old.me) }
     {
         match self.order(seat, row as usize + 1, key) {
-            Ordering::Less => Way::Child(self.word(seat, row, 1) as u32),
+            Ordering::Less => Way::Child(self.word(seat, row, CHILD_WORD) as u32),
             Ordering::Equal => Way::Here,
-            Ordering::Greater => Way::Next(self.word(seat, row, 2) as u32),
+            Ordering::Greater => Way::Next(self.word(seat, row, NEXT_WORD) as u32),
         }
     }
 
@@ -143,7 +144,7 @@ impl<A: Allocator + Copy> Board<A> {
                 Ordering::Less => {
                     return Stop::Gap {
                         link: link as u32,
-                        child: self.linked_word(seat, link, 1) as u32,
+                        child: self.linked_word(seat, link, CHILD_WORD) as u32,
                         left: count - passed,
                     };
                 }
@@ -153,7 +154,7 @@ impl<A: Allocator + Copy> Board<A> {
                         left: count - passed,
                     };
                 }
-                Ordering::Greater => link = self.linked_word(seat, link, 2) as usize,
+                Ordering::Greater => link = self.linked_word(seat, link, NEXT_WORD) as usize,
             }
         }
         Stop::End

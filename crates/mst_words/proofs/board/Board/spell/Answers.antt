@@ -55,7 +55,7 @@ returns-clause-entry g c pair is m took =
           w.sink-is ∙ w.if-take_common.ensures.nothing refl
       | else-eq w ↦ w.sink-is
     ] in
-    c.spell_pieces.ensures.entry pair
+    c.spell_any.ensures.entry pair
     (ap (λ me. part_at entry_pair (content_of me.0) c.args.row) still ∙ is) m
     (subst (λ s. g.S.TextSink.took s m) (sym same) took)
 
@@ -70,5 +70,5 @@ returns-clause-limits g c pair is =
         | else-eq-via-else-eq v ↦ ap (λ s. s.me) w.seat-is ∙ ap (λ s. s.me) v.seat-is
       ]
     ] in
-    c.spell_pieces.ensures.limits pair
+    c.spell_any.ensures.limits pair
     (ap (λ me. part_at entry_pair (content_of me.0) c.args.row) still ∙ is)
