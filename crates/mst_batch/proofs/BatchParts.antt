@@ -7,6 +7,7 @@ use Rattle.mst_key.specs.Edits.{AreAbove, AreRising}
 use Rattle.mst_key.specs.History.{edited, batched, key_of}
 use Rattle.mst_key.specs.Map.{Pair, key_cmp, AllAbove, AllBelow, IsAscending}
 use Rattle.mst_key.proofs.Alls.{alls-append, alls-filter, alls-weaker}
+use Rattle.mst_key.proofs.HistoryLaws.{batched-append}
 use Rattle.mst_key.proofs.KeyOrder.{equal_from_same, less_chain, other_from_less}
 use Rattle.mst_key.proofs.MapLaws.{AllBelow-less}
 use Rattle.mst_key.proofs.Splits.{put-left, put-right, put-first, remove-left, remove-right, remove-first, IsAscending-back, IsAscending-below}
@@ -69,11 +70,6 @@ batched-right front back [] over = refl
 batched-right front back (e ∷ es) over =
     ap (λ (m : List Pair). batched m es) (edited-right front back e over.0)
     ∙ batched-right front (edited back e) es over.1
-
-batched-append : (m : List Pair) (es fs : List Edit)
-    → batched m (es ++ fs) ≡ batched (batched m es) fs
-batched-append m [] fs = refl
-batched-append m (e ∷ es) fs = batched-append (edited m e) es fs
 
 batched_parts : (front back : List Pair) (es fs : List Edit) → AllByRecursion (IsUnder back) es
     → AllByRecursion (IsOver front es) fs

@@ -30,7 +30,8 @@ use Rattle.mst_path.specs.Takes.{Takes, KeepsBut}
 use Rattle.mst_path.proofs.lemmas.rows.CopyRows.{at_self}
 use Rattle.mst_path.proofs.lemmas.rows.Moving.{moves_takes}
 use Rattle.mst_path.proofs.lemmas.trees.Joined.{placed_none}
-use Rattle.mst_path.proofs.lemmas.versions.Changes.{AfterChange, Changed, after_change, unchanged_map}
+use Rattle.mst_path.specs.AfterChange.{AfterChange}
+use Rattle.mst_path.proofs.lemmas.versions.Changes.{Changed, after_change, unchanged_map}
 use Rattle.mst_path.proofs.lemmas.versions.Versions.{rows_of_map}
 use Rattle.mst_batch.specs.Applying.{LacksBatch, LacksPairs}
 use Rattle.mst_batch.specs.declared.faults.NotApplied.{NotApplied}

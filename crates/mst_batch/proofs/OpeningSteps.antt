@@ -27,7 +27,7 @@ use Rattle.mst_batch.specs.Items.{items_pairs, IsItem}
 use Rattle.mst_batch.specs.Opening.{PartOf, Adds, AreBelow, AreOf}
 use Rattle.mst_batch.specs.declared.items.Item.{Item}
 use Rattle.mst_batch.proofs.BatchParts.{batched_at}
-use Rattle.mst_batch.proofs.Fellings.{lower}
+use Rattle.mst_path.proofs.lemmas.steps.Felling.{lower}
 use Rattle.mst_batch.proofs.Besides.{node_rows}
 use Rattle.mst_batch.proofs.Homes.{node_below}
 use Rattle.mst_batch.proofs.Openings.{adds_none, adds_then, adds_as, node_rises, IsNode, node, links, layer_is}

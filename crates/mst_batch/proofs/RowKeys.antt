@@ -9,6 +9,7 @@ use Rattle.mst_key.proofs.KeyOrder.{same_from_test, test_of_same, test_of_other,
 use Rattle.mst_key.proofs.SpanLaws.{contains-cases, contains-nothing}
 use Rattle.mst_node.specs.Cost.{same_bytes}
 use Rattle.mst_node.specs.Tree.{entry_count, pairs, entries_pairs, IsMst, IsMstEntries}
+use Rattle.mst_node.proofs.Distinct.{by_zero}
 use Rattle.mst_arena.specs.Lists.{bit, times}
 use Rattle.mst_arena.specs.Standing.{Placed, none, head, Chain, end, cell, tree_of, entries_of, used, chain_used}
 use Rattle.mst_arena.proofs.ListLemmas.{times-append}
@@ -43,11 +44,6 @@ keyed_once q (p ∷ m) rise = go (same_bytes q p.0) refl (keyed_once q m rise.1)
 own_key : (k v : List ℕ) (m n : List Pair) → 1 ≤ keyed k (m ++ (k, v) ∷ n)
 own_key k v m n =
     omega (arith, keyed-append k m ((k, v) ∷ n), ap bit (test_of_same k k refl))
-
--- none, or some
-by_zero : (n : ℕ) (A : Type 0) → (n ≡ 0 → A) → (0 < n → A) → A
-by_zero zero A is_zero is_more = is_zero refl
-by_zero (suc n) A is_zero is_more = is_more (omega arith)
 
 module _ (format : Format) (x : ℕ) where
   -- none of these nodes has the row more often than its tree has the key

@@ -1,13 +1,12 @@
 //! A change of the map that stands, by its plan.
-ghost use Rattle.std.specs.Prelude.{◌≡◌, ◌<◌, ◌+◌, List, IfOk, IfErr};
+ghost use Rattle.std.specs.Prelude.{◌≡◌, ◌<◌, List, IfOk, IfErr};
 ghost use Rattle.mst_key.specs.Map.{Pair};
 ghost use Rattle.mst_node.specs.Cost.{cost};
 ghost use Rattle.mst_arena.specs.Lives.{free_count};
-ghost use Rattle.mst_arena.specs.Standing.{Stands, numbers};
+ghost use Rattle.mst_arena.specs.Standing.{Stands};
 ghost use Rattle.mst_path.specs.Takes.{FreeIsBlank, StaysBeside};
-ghost use Rattle.mst_path.specs.Made.{IsMade};
 ghost use Rattle.mst_path.specs.Changing.{MapStands, OnlyFreeWritten, SameVersions};
-ghost use Rattle.mst_path.specs.Reached.{Changes};
+ghost use Rattle.mst_path.specs.AfterChange.{AfterChange};
 ghost use Rattle.mst_batch.specs.Plans.{plan_of};
 ghost use Rattle.mst_batch.specs.Carrying.{IsPlanOf};
 
@@ -45,25 +44,12 @@ pub fn carry_out<R: Rows, A: Allocator, B: Allocator>(
     requires plan { (change : List Pair → List Pair) × IsPlanOf format (R.content rows.old)
         desk.old root.now kept.now (plan_of plan.now) change }
     requires free { FreeIsBlank desk.old.lives (R.blank rows.old) }
-    ensures stands { IfOk result (λ done. (change : List Pair → List Pair)
+    ensures changed { IfOk result (λ done. (change : List Pair → List Pair)
         → IsPlanOf format (R.content rows.old) desk.old root.now kept.now (plan_of plan.now) change
-        → (m : List Pair) → Stands format (R.content rows.old) root.now m
-        → Stands format (R.content rows.new) done (change m)) }
+        → AfterChange format (R.content rows.old) (R.content rows.new) desk.old desk.new root.now
+        done change) }
     ensures written { OnlyFreeWritten desk.old (R.content rows.old) (R.content rows.new) }
-    // as many rows as the nodes that are new have entries and heads
-    ensures cost { IfOk result (λ _. (change : List Pair → List Pair)
-        → IsPlanOf format (R.content rows.old) desk.old root.now kept.now (plan_of plan.now) change
-        → (m : List Pair) → Stands format (R.content rows.old) root.now m
-        → free_count desk.new.lives + cost format m (change m) ≡ free_count desk.old.lives) }
-    ensures changes { IfOk result (λ done. (m n : List Pair)
-        (before : Stands format (R.content rows.old) root.now m)
-        (after : Stands format (R.content rows.new) done n)
-        → Changes desk.old desk.new (numbers before) (numbers after)) }
     ensures versions { SameVersions desk.old desk.new }
-    // the rows of a node are of one age: with all below it they were there before, or they are all
-    // new
-    ensures made { IfOk result (λ done. (n : List Pair)
-        (after : Stands format (R.content rows.new) done n) → IsMade desk.new after.tree.placed) }
     ensures beside { StaysBeside R.blank R.kept rows.old rows.new }
     ensures no_room { IfErr result (λ _. (change : List Pair → List Pair)
         → IsPlanOf format (R.content rows.old) desk.old root.now kept.now (plan_of plan.now) change

@@ -1,17 +1,12 @@
 //! A batch in the empty map: its tree is built in memory and planted.
-ghost use Rattle.std.specs.Prelude.{◌≡◌, ◌<◌, ◌≤◌, ◌+◌, [], List, length, IfOk, IfErr};
+ghost use Rattle.std.specs.Prelude.{◌≡◌, ◌<◌, ◌≤◌, [], length, IfOk, IfErr};
 ghost use Rattle.mst_key.specs.History.{batched};
-ghost use Rattle.mst_key.specs.Map.{Pair};
-ghost use Rattle.mst_node.specs.Cost.{cost};
 ghost use Rattle.mst_node.specs.Text.{highest_count};
 ghost use Rattle.mst_node.specs.Shape.{tree_of_child};
-ghost use Rattle.mst_arena.specs.Lives.{free_count};
-ghost use Rattle.mst_arena.specs.Standing.{Stands, numbers};
 ghost use Rattle.mst_path.specs.Takes.{FreeIsBlank, StaysBeside};
-ghost use Rattle.mst_path.specs.Made.{IsMade};
 ghost use Rattle.mst_path.specs.Planting.{IsTreeOf};
 ghost use Rattle.mst_path.specs.Changing.{MapStands, OnlyFreeWritten, SameVersions};
-ghost use Rattle.mst_path.specs.Reached.{Changes};
+ghost use Rattle.mst_path.specs.AfterChange.{AfterChange};
 ghost use Rattle.mst_batch.specs.Applying.{LacksBatch, LacksPairs};
 
 use crate::faults::NotApplied;
@@ -65,21 +60,10 @@ pub(crate) fn load<R: Rows, A: Allocator, B: Allocator + Copy>(
     requires empty { root.now.link ≡ 0 }
     requires some { 1 < length edits.now }
     requires free { FreeIsBlank desk.old.lives (R.blank rows.old) }
-    ensures stands { IfOk result (λ done. (m : List Pair)
-        → Stands format (R.content rows.old) root.now m
-        → Stands format (R.content rows.new) done (batched m edits.now)) }
+    ensures changed { IfOk result (λ done. AfterChange format (R.content rows.old)
+        (R.content rows.new) desk.old desk.new root.now done (λ m. batched m edits.now)) }
     ensures written { OnlyFreeWritten desk.old (R.content rows.old) (R.content rows.new) }
-    ensures cost { IfOk result (λ _. (m : List Pair)
-        → Stands format (R.content rows.old) root.now m
-        → free_count desk.new.lives + cost format m (batched m edits.now)
-        ≡ free_count desk.old.lives) }
-    ensures changes { IfOk result (λ done. (m n : List Pair)
-        (before : Stands format (R.content rows.old) root.now m)
-        (after : Stands format (R.content rows.new) done n)
-        → Changes desk.old desk.new (numbers before) (numbers after)) }
     ensures versions { SameVersions desk.old desk.new }
-    ensures made { IfOk result (λ done. (n : List Pair)
-        (after : Stands format (R.content rows.new) done n) → IsMade desk.new after.tree.placed) }
     ensures beside { StaysBeside R.blank R.kept rows.old rows.new }
     ensures lacks { IfErr result (λ why. LacksBatch why format (R.content rows.old) desk.old
         root.now edits.now) }

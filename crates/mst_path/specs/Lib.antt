@@ -16,5 +16,6 @@ pub mod PutPath
 pub mod Changing
 pub mod Felling
 pub mod Reached
+pub mod AfterChange
 pub mod Versions
 pub mod Ages

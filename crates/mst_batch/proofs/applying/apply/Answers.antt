@@ -1,4 +1,5 @@
 use Rattle.std.proofs.Common.{rules}
+use Rattle.std.proofs.lemmas.Result.{IfOk-weaker}
 use Rattle.std.proofs.lemmas.Grind.{common_steps}
 use Rattle.std.proofs.Common.{◌≡◌, ◌<◌, List, [], ◌∷◌, length, sym, subst, arith, refl}
 use Rattle.mst_key.specs.History.{batched}
@@ -10,7 +11,8 @@ use Rattle.mst_arena.specs.Content.{Content}
 use Rattle.mst_arena.specs.Lives.{State}
 use Rattle.mst_arena.specs.declared.row.Root.{Root}
 use Rattle.mst_path.specs.Changing.{MapStands}
-use Rattle.mst_path.proofs.lemmas.versions.Changes.{AfterChange, after_change, unchanged_map}
+use Rattle.mst_path.specs.AfterChange.{AfterChange}
+use Rattle.mst_path.proofs.lemmas.versions.Changes.{after_change, unchanged_map}
 use Rattle.mst_batch.proofs.applying.apply.Goals as goal
 
 no_edits : (es : List Edit) → length es < 1 → es ≡ []
@@ -146,22 +148,26 @@ pub returns-in-Err-clause-untouched : goal.returns-in-Err-clause-untouched
 returns-in-Err-clause-untouched g c = search rules
 
 pub returns-in_default-clause-stands : goal.returns-in_default-clause-stands
-returns-in_default-clause-stands g c = search rules
+returns-in_default-clause-stands g c =
+    IfOk-weaker c.load.result _ _ (λ at after. after.stands) c.load.ensures.changed
 
 pub returns-in_default-clause-written : goal.returns-in_default-clause-written
 returns-in_default-clause-written g c = search rules
 
 pub returns-in_default-clause-cost : goal.returns-in_default-clause-cost
-returns-in_default-clause-cost g c = search rules
+returns-in_default-clause-cost g c =
+    IfOk-weaker c.load.result _ _ (λ at after. after.counted) c.load.ensures.changed
 
 pub returns-in_default-clause-changes : goal.returns-in_default-clause-changes
-returns-in_default-clause-changes g c = search rules
+returns-in_default-clause-changes g c =
+    IfOk-weaker c.load.result _ _ (λ at after. after.changes) c.load.ensures.changed
 
 pub returns-in_default-clause-versions : goal.returns-in_default-clause-versions
 returns-in_default-clause-versions g c = search rules
 
 pub returns-in_default-clause-made : goal.returns-in_default-clause-made
-returns-in_default-clause-made g c = search rules
+returns-in_default-clause-made g c =
+    IfOk-weaker c.load.result _ _ (λ at after. after.made) c.load.ensures.changed
 
 pub returns-in_default-clause-beside : goal.returns-in_default-clause-beside
 returns-in_default-clause-beside g c = search rules
@@ -173,22 +179,30 @@ pub returns-in_default-clause-untouched : goal.returns-in_default-clause-untouch
 returns-in_default-clause-untouched g c = search rules
 
 pub returns-in_default-2-clause-stands : goal.returns-in_default-2-clause-stands
-returns-in_default-2-clause-stands g c = search rules
+returns-in_default-2-clause-stands g c =
+    IfOk-weaker c.apply_by_plan.result _ _ (λ at after. after.stands)
+    c.apply_by_plan.ensures.changed
 
 pub returns-in_default-2-clause-written : goal.returns-in_default-2-clause-written
 returns-in_default-2-clause-written g c = search rules
 
 pub returns-in_default-2-clause-cost : goal.returns-in_default-2-clause-cost
-returns-in_default-2-clause-cost g c = search rules
+returns-in_default-2-clause-cost g c =
+    IfOk-weaker c.apply_by_plan.result _ _ (λ at after. after.counted)
+    c.apply_by_plan.ensures.changed
 
 pub returns-in_default-2-clause-changes : goal.returns-in_default-2-clause-changes
-returns-in_default-2-clause-changes g c = search rules
+returns-in_default-2-clause-changes g c =
+    IfOk-weaker c.apply_by_plan.result _ _ (λ at after. after.changes)
+    c.apply_by_plan.ensures.changed
 
 pub returns-in_default-2-clause-versions : goal.returns-in_default-2-clause-versions
 returns-in_default-2-clause-versions g c = search rules
 
 pub returns-in_default-2-clause-made : goal.returns-in_default-2-clause-made
-returns-in_default-2-clause-made g c = search rules
+returns-in_default-2-clause-made g c =
+    IfOk-weaker c.apply_by_plan.result _ _ (λ at after. after.made)
+    c.apply_by_plan.ensures.changed
 
 pub returns-in_default-2-clause-beside : goal.returns-in_default-2-clause-beside
 returns-in_default-2-clause-beside g c = search rules

@@ -1,12 +1,12 @@
-use Rattle.std.proofs.Common.{◌≡◌, ◌+◌, ◌<◌, List, sym, ap, subst, rules}
+use Rattle.std.proofs.Common.{◌≡◌, ◌<◌, List, sym, ap, subst, rules}
 use Rattle.mst_key.specs.History.{batched}
 use Rattle.mst_key.specs.Map.{Pair}
 use Rattle.mst_node.specs.Cost.{cost}
 use Rattle.mst_arena.specs.Content.{Content}
 use Rattle.mst_arena.specs.Lives.{free_count}
-use Rattle.mst_arena.specs.Standing.{Stands, numbers}
+use Rattle.mst_arena.specs.Standing.{Stands}
 use Rattle.mst_path.specs.Changing.{MapStands}
-use Rattle.mst_path.specs.Reached.{Changes}
+use Rattle.mst_path.specs.AfterChange.{AfterChange}
 use Rattle.mst_batch.specs.Beside.{AreMarks}
 use Rattle.mst_batch.specs.Carrying.{IsPlanOf}
 use Rattle.mst_batch.specs.Plans.{plan_of}
@@ -49,34 +49,15 @@ carry_out-carried-requires-clause-plan g c =
 
 -- ---- the plan is carried out
 
-pub returns-in-Ok-carried-clause-stands : goal.returns-in-Ok-carried-clause-stands
-returns-in-Ok-carried-clause-stands g c m st =
-    let at = (goal.at.returns-in-Ok-carried-clause-stands g c).After-as_slice in
+pub returns-in-Ok-carried-clause-changed : goal.returns-in-Ok-carried-clause-changed
+returns-in-Ok-carried-clause-changed g c =
+    let at = (goal.at.returns-in-Ok-carried-clause-changed g c).After-as_slice in
     subst (λ (x : Content). (change : List Pair → List Pair)
     → IsPlanOf c.args.format x c.args.desk.now c.args.root.now c.as_slice.result.now
-    (plan_of c.in-Ok.plan) change → (n : List Pair) → Stands c.args.format x c.args.root.now n
-    → Stands c.args.format (g.R.Rows.content c.carry_out-carried.new.rows) c.in-Ok-carried.done
-    (change n)) (same_rows g at) c.in-Ok-carried.ensures.stands (λ n. batched n c.args.edits.now)
-    (planned g at) m st
-
-pub returns-in-Ok-carried-clause-cost : goal.returns-in-Ok-carried-clause-cost
-returns-in-Ok-carried-clause-cost g c m st =
-    let at = (goal.at.returns-in-Ok-carried-clause-cost g c).After-as_slice in
-    subst (λ (x : Content). (change : List Pair → List Pair)
-    → IsPlanOf c.args.format x c.args.desk.now c.args.root.now c.as_slice.result.now
-    (plan_of c.in-Ok.plan) change → (n : List Pair) → Stands c.args.format x c.args.root.now n
-    → free_count c.carry_out-carried.new.desk.lives + cost c.args.format n (change n)
-    ≡ free_count c.args.desk.now.lives) (same_rows g at) c.in-Ok-carried.ensures.cost
-    (λ n. batched n c.args.edits.now) (planned g at) m st
-
-pub returns-in-Ok-carried-clause-changes : goal.returns-in-Ok-carried-clause-changes
-returns-in-Ok-carried-clause-changes g c =
-    let at = (goal.at.returns-in-Ok-carried-clause-changes g c).After-as_slice in
-    subst (λ (x : Content). (m n : List Pair) (before : Stands c.args.format x c.args.root.now m)
-    (after : Stands c.args.format (g.R.Rows.content c.carry_out-carried.new.rows)
-    c.in-Ok-carried.done n)
-    → Changes c.args.desk.now c.carry_out-carried.new.desk (numbers before) (numbers after))
-    (same_rows g at) c.in-Ok-carried.ensures.changes
+    (plan_of c.in-Ok.plan) change
+    → AfterChange c.args.format x (g.R.Rows.content c.carry_out-carried.new.rows) c.args.desk.now
+    c.carry_out-carried.new.desk c.args.root.now c.in-Ok-carried.done change) (same_rows g at)
+    c.in-Ok-carried.ensures.changed (λ n. batched n c.args.edits.now) (planned g at)
 
 pub returns-clause-lacks : goal.returns-clause-lacks
 returns-clause-lacks g c m st =
@@ -92,23 +73,11 @@ returns-clause-lacks g c m st =
 pub find_plan-requires : goal.find_plan-requires
 find_plan-requires g c = search rules
 
-pub returns-in-Err-clause-stands : goal.returns-in-Err-clause-stands
-returns-in-Err-clause-stands g c = search rules
-
 pub returns-in-Err-clause-written : goal.returns-in-Err-clause-written
 returns-in-Err-clause-written g c = search rules
 
-pub returns-in-Err-clause-cost : goal.returns-in-Err-clause-cost
-returns-in-Err-clause-cost g c = search rules
-
-pub returns-in-Err-clause-changes : goal.returns-in-Err-clause-changes
-returns-in-Err-clause-changes g c = search rules
-
 pub returns-in-Err-clause-versions : goal.returns-in-Err-clause-versions
 returns-in-Err-clause-versions g c = search rules
-
-pub returns-in-Err-clause-made : goal.returns-in-Err-clause-made
-returns-in-Err-clause-made g c = search rules
 
 pub returns-in-Err-clause-beside : goal.returns-in-Err-clause-beside
 returns-in-Err-clause-beside g c = search rules
@@ -119,23 +88,11 @@ returns-in-Err-clause-lacks g c = search rules
 pub returns-in-Err-clause-untouched : goal.returns-in-Err-clause-untouched
 returns-in-Err-clause-untouched g c = search rules
 
-pub returns-in-Err-marks_of-clause-stands : goal.returns-in-Err-marks_of-clause-stands
-returns-in-Err-marks_of-clause-stands g c = search rules
-
 pub returns-in-Err-marks_of-clause-written : goal.returns-in-Err-marks_of-clause-written
 returns-in-Err-marks_of-clause-written g c = search rules
 
-pub returns-in-Err-marks_of-clause-cost : goal.returns-in-Err-marks_of-clause-cost
-returns-in-Err-marks_of-clause-cost g c = search rules
-
-pub returns-in-Err-marks_of-clause-changes : goal.returns-in-Err-marks_of-clause-changes
-returns-in-Err-marks_of-clause-changes g c = search rules
-
 pub returns-in-Err-marks_of-clause-versions : goal.returns-in-Err-marks_of-clause-versions
 returns-in-Err-marks_of-clause-versions g c = search rules
-
-pub returns-in-Err-marks_of-clause-made : goal.returns-in-Err-marks_of-clause-made
-returns-in-Err-marks_of-clause-made g c = search rules
 
 pub returns-in-Err-marks_of-clause-beside : goal.returns-in-Err-marks_of-clause-beside
 returns-in-Err-marks_of-clause-beside g c = search rules
@@ -155,9 +112,6 @@ returns-in-Ok-carried-clause-written g c = search rules
 pub returns-in-Ok-carried-clause-versions : goal.returns-in-Ok-carried-clause-versions
 returns-in-Ok-carried-clause-versions g c = search rules
 
-pub returns-in-Ok-carried-clause-made : goal.returns-in-Ok-carried-clause-made
-returns-in-Ok-carried-clause-made g c = search rules
-
 pub returns-in-Ok-carried-clause-beside : goal.returns-in-Ok-carried-clause-beside
 returns-in-Ok-carried-clause-beside g c = search rules
 
@@ -167,26 +121,23 @@ returns-in-Ok-carried-clause-lacks g c = search rules
 pub returns-in-Ok-carried-clause-untouched : goal.returns-in-Ok-carried-clause-untouched
 returns-in-Ok-carried-clause-untouched g c = search rules
 
-pub returns-clause-stands : goal.returns-clause-stands
-returns-clause-stands g c = search rules
-
 pub returns-clause-written : goal.returns-clause-written
 returns-clause-written g c = search rules
 
-pub returns-clause-cost : goal.returns-clause-cost
-returns-clause-cost g c = search rules
-
-pub returns-clause-changes : goal.returns-clause-changes
-returns-clause-changes g c = search rules
-
 pub returns-clause-versions : goal.returns-clause-versions
 returns-clause-versions g c = search rules
-
-pub returns-clause-made : goal.returns-clause-made
-returns-clause-made g c = search rules
 
 pub returns-clause-beside : goal.returns-clause-beside
 returns-clause-beside g c = search rules
 
 pub returns-clause-untouched : goal.returns-clause-untouched
 returns-clause-untouched g c = search rules
+
+pub returns-in-Err-clause-changed : goal.returns-in-Err-clause-changed
+returns-in-Err-clause-changed g c = search rules
+
+pub returns-in-Err-marks_of-clause-changed : goal.returns-in-Err-marks_of-clause-changed
+returns-in-Err-marks_of-clause-changed g c = search rules
+
+pub returns-clause-changed : goal.returns-clause-changed
+returns-clause-changed g c = search rules

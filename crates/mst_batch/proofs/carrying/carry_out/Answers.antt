@@ -8,7 +8,8 @@ use Rattle.mst_arena.specs.Lives.{is_free}
 use Rattle.mst_arena.specs.Standing.{used}
 use Rattle.mst_path.proofs.lemmas.steps.Felling.{to_fell}
 use Rattle.mst_path.proofs.lemmas.steps.Rounds.{regrown}
-use Rattle.mst_path.proofs.lemmas.versions.Changes.{AfterChange, after_change}
+use Rattle.mst_path.specs.AfterChange.{AfterChange}
+use Rattle.mst_path.proofs.lemmas.versions.Changes.{after_change}
 use Rattle.mst_batch.specs.Carrying.{IsPlanOf}
 use Rattle.mst_batch.specs.Plans.{plan_of, rows_planned, tree_planned}
 use Rattle.mst_batch.proofs.carrying.carry_out.Given.{Over}
@@ -72,20 +73,11 @@ module _ (g : Over) (c : goal.After-replace g) (change : List Pair → List Pair
       (to_fell (g.R.Rows.content c.args.rows.now) c.args.desk.now c.args.root.now c.args.format m
       st old) p.possible (p.keeps m st)) (sym (p.is m st)) (λ x. refl) (sym (p.rows m st)))
 
-pub returns-clause-stands : goal.returns-clause-stands
-returns-clause-stands g c = λ change p. (after g c change p).stands
+pub returns-clause-changed : goal.returns-clause-changed
+returns-clause-changed g c = λ change p. after g c change p
 
 pub returns-clause-written : goal.returns-clause-written
 returns-clause-written g c = (after g c c.requires.plan.0 c.requires.plan.1).written
 
-pub returns-clause-cost : goal.returns-clause-cost
-returns-clause-cost g c = λ change p. (after g c change p).counted
-
-pub returns-clause-changes : goal.returns-clause-changes
-returns-clause-changes g c = (after g c c.requires.plan.0 c.requires.plan.1).changes
-
 pub returns-clause-versions : goal.returns-clause-versions
 returns-clause-versions g c = (after g c c.requires.plan.0 c.requires.plan.1).versions
-
-pub returns-clause-made : goal.returns-clause-made
-returns-clause-made g c = (after g c c.requires.plan.0 c.requires.plan.1).made

@@ -5,10 +5,10 @@ use Rattle.mst_arena.specs.Row.{entry_links}
 use Rattle.mst_path.specs.Felling.{ToFell}
 use Rattle.mst_path.specs.Joining.{height_at}
 use Rattle.mst_path.specs.Moves.{Moves}
-use Rattle.mst_path.proofs.lemmas.steps.Felling.{height_read}
+use Rattle.mst_path.proofs.lemmas.steps.Felling.{Felling, AtEntry, started, entry_there, at_entry, at_last, height_read}
 use Rattle.mst_path.proofs.lemmas.rows.Moving.{moves_none}
 use Rattle.mst_batch.specs.Kept.{stays, fallen}
-use Rattle.mst_batch.proofs.Fellings.{Felling, AtEntry, started, nothing_falls, entry_there, at_entry, at_last}
+use Rattle.mst_batch.proofs.Fellings.{fallen_in, opens, nothing_falls}
 use Rattle.mst_batch.proofs.felling.+fell_at.Given.{Over}
 use Rattle.mst_batch.proofs.felling.+fell_at.Goals.{After-kill-in-loop}
 use Rattle.mst_batch.proofs.felling.+fell_at.Goals as goal
@@ -22,14 +22,15 @@ pub loop-init : goal.loop-init
 loop-init g t c = record {
   same = c.head-head.ensures.same;
   felling =
-      λ z. subst (λ (s : State). Felling z.format c.args.kept.now
+      λ z. subst (λ (s : State). Felling z.format (fallen c.args.kept.now)
       (g.R.Rows.content c.args.rows.now) c.args.desk.now s c.head-head.result.layer
       (fallen c.args.kept.now z.placed) c.head-head.result.tail c.head-head.result.first 0
       c.head-head.result.count) (sym c.kill.ensures.dead)
-      (started c.args.kept.now (g.R.Rows.content c.args.rows.now) c.args.desk.now c.args.link z
+      (started (g.R.Rows.content c.args.rows.now) c.args.desk.now c.args.link z
       (some c.args.kept.now c.args.link (sym c.is_left.ensures.left ∙ c.if-is_left.false))
-      (sym c.is_left.ensures.left ∙ c.if-is_left.false) c.head-head.result
-      c.head-head.ensures.value);
+      (fallen c.args.kept.now)
+      (opens c.args.kept.now c.args.link (sym c.is_left.ensures.left ∙ c.if-is_left.false))
+      c.head-head.result c.head-head.ensures.value);
 }
 
 pub returns-then-is_left-clause-fells : goal.returns-then-is_left-clause-fells
@@ -43,12 +44,13 @@ returns-then-is_left-clause-fells g t c = λ z.
 
 module _ (g : Over) (t : ℕ) (c : After-kill-in-loop g t)
     (z : ToFell (g.R.Rows.content c.args.rows.now) c.args.desk.now c.args.link) where
-  entry : AtEntry z.format c.args.kept.now (g.R.Rows.content c.args.rows.now) c.args.desk.now
-      c.loop.desk c.head-head.result.layer (fallen c.args.kept.now z.placed)
+  entry : AtEntry z.format (fallen c.args.kept.now) (g.R.Rows.content c.args.rows.now)
+      c.args.desk.now c.loop.desk c.head-head.result.layer (fallen c.args.kept.now z.placed)
       c.head-head.result.tail (c.loop.next - 1) c.loop.counter c.head-head.result.count
       c.entry-entry.result
   entry =
-      at_entry _ _ _ _ _ _ _ _ _ _ _ (c.loop.invariant.felling z) c.loop-test.true
+      at_entry _ _ _ _ _ _ _ _ _ _ _ (c.loop.invariant.felling z) (fallen_in c.args.kept.now)
+      c.loop-test.true
       c.entry-entry.result
       (subst (λ (x : Content). part_at entry_links x (c.loop.next - 1) ≡ Some c.entry-entry.result)
       (ap g.R.Rows.content c.loop.invariant.same) c.entry-entry.ensures.value)
@@ -77,7 +79,7 @@ fell_at-requires g t c κs within =
     let z = c.requires.tree in
     let falls =
     subst (λ (x : Content). height_at x c.entry-entry.result.child < c.head-head.result.layer
-    + 1) (sym (same_rows g t at z)) (entry g t at z).falls in
+    + 1) (sym (same_rows g t at z)) (entry g t at z).lower_down in
     let read = height_read (g.R.Rows.content c.args.rows.now) c.args.link c.head-head.result
     (some c.args.kept.now c.args.link (sym c.is_left.ensures.left ∙ c.if-is_left.false))
     c.head-head.ensures.value in

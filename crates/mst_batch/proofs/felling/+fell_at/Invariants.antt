@@ -1,8 +1,8 @@
 use Rattle.std.proofs.Common.{◌≡◌}
 use Rattle.mst_path.specs.Joining.{height_at}
 use Rattle.mst_path.specs.Felling.{ToFell}
+use Rattle.mst_path.proofs.lemmas.steps.Felling.{Felling}
 use Rattle.mst_batch.specs.Kept.{fallen}
-use Rattle.mst_batch.proofs.Fellings.{Felling}
 use Rattle.mst_batch.proofs.felling.+fell_at.Given as goal
 
 -- layers fall
@@ -14,6 +14,6 @@ abbrev pub invariant-loop : goal.invariant-loop
 invariant-loop g l = record {
   same : l.rows ≡ l.fn.rows;
   felling : (t : ToFell (g.R.Rows.content l.fn.rows) l.fn.desk l.fn.link) → Felling t.format
-      l.kept (g.R.Rows.content l.fn.rows) l.fn.desk l.desk l.head.layer (fallen l.kept t.placed)
-      l.head.tail l.next l.counter l.head.count;
+      (fallen l.kept) (g.R.Rows.content l.fn.rows) l.fn.desk l.desk l.head.layer
+      (fallen l.kept t.placed) l.head.tail l.next l.counter l.head.count;
 }

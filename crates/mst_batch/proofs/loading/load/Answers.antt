@@ -34,13 +34,9 @@ module _ (g : Over) (c : goal.In_default g) where
       c.are_within_limits.ensures.small
       (ap (tree_of_child c.args.format) (sym c.in_default.is) ∙ c.in-Ok.ensures.tree.is)
 
-pub returns-in_default-clause-stands : goal.returns-in_default-clause-stands
-returns-in_default-clause-stands g c =
-    (stays g (goal.at.returns-in_default-clause-stands g c).In_default).stands
-
-pub returns-in_default-clause-cost : goal.returns-in_default-clause-cost
-returns-in_default-clause-cost g c =
-    (stays g (goal.at.returns-in_default-clause-cost g c).In_default).counted
+pub returns-in_default-clause-changed : goal.returns-in_default-clause-changed
+returns-in_default-clause-changed g c =
+    stays g (goal.at.returns-in_default-clause-changed g c).In_default
 
 -- ---- the tree is planted
 
@@ -64,23 +60,14 @@ module _ (g : Over) (c : goal.In-Ok-planted g) where
       (c.in-Ok-planted.ensures.takes (batched [] c.args.edits.now) stands)
       (c.in-Ok-planted.ensures.keeps (batched [] c.args.edits.now) stands)
 
-pub returns-in-Ok-planted-clause-stands : goal.returns-in-Ok-planted-clause-stands
-returns-in-Ok-planted-clause-stands g c = (loaded g c).stands
+pub returns-in-Ok-planted-clause-changed : goal.returns-in-Ok-planted-clause-changed
+returns-in-Ok-planted-clause-changed g c = loaded g c
 
 pub returns-in-Ok-planted-clause-written : goal.returns-in-Ok-planted-clause-written
 returns-in-Ok-planted-clause-written g c = (loaded g c).written
 
-pub returns-in-Ok-planted-clause-cost : goal.returns-in-Ok-planted-clause-cost
-returns-in-Ok-planted-clause-cost g c = (loaded g c).counted
-
-pub returns-in-Ok-planted-clause-changes : goal.returns-in-Ok-planted-clause-changes
-returns-in-Ok-planted-clause-changes g c = (loaded g c).changes
-
 pub returns-in-Ok-planted-clause-versions : goal.returns-in-Ok-planted-clause-versions
 returns-in-Ok-planted-clause-versions g c = (loaded g c).versions
-
-pub returns-in-Ok-planted-clause-made : goal.returns-in-Ok-planted-clause-made
-returns-in-Ok-planted-clause-made g c = (loaded g c).made
 
 -- ---- there is no room for it
 
@@ -107,14 +94,8 @@ returns-in-Err-clause-untouched g c = search rules
 pub returns-in_default-clause-written : goal.returns-in_default-clause-written
 returns-in_default-clause-written g c = search rules
 
-pub returns-in_default-clause-changes : goal.returns-in_default-clause-changes
-returns-in_default-clause-changes g c = search rules
-
 pub returns-in_default-clause-versions : goal.returns-in_default-clause-versions
 returns-in_default-clause-versions g c = search rules
-
-pub returns-in_default-clause-made : goal.returns-in_default-clause-made
-returns-in_default-clause-made g c = search rules
 
 pub returns-in_default-clause-beside : goal.returns-in_default-clause-beside
 returns-in_default-clause-beside g c = search rules

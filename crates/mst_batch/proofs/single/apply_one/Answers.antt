@@ -7,23 +7,11 @@ put-requires-clause-stands g c = search rules
 pub put-requires-clause-free : goal.put-requires-clause-free
 put-requires-clause-free g c = search rules
 
-pub returns-in_err-put-in-Put-clause-stands : goal.returns-in_err-put-in-Put-clause-stands
-returns-in_err-put-in-Put-clause-stands g c = search rules
-
 pub returns-in_err-put-in-Put-clause-written : goal.returns-in_err-put-in-Put-clause-written
 returns-in_err-put-in-Put-clause-written g c = search rules
 
-pub returns-in_err-put-in-Put-clause-cost : goal.returns-in_err-put-in-Put-clause-cost
-returns-in_err-put-in-Put-clause-cost g c = search rules
-
-pub returns-in_err-put-in-Put-clause-changes : goal.returns-in_err-put-in-Put-clause-changes
-returns-in_err-put-in-Put-clause-changes g c = search rules
-
 pub returns-in_err-put-in-Put-clause-versions : goal.returns-in_err-put-in-Put-clause-versions
 returns-in_err-put-in-Put-clause-versions g c = search rules
-
-pub returns-in_err-put-in-Put-clause-made : goal.returns-in_err-put-in-Put-clause-made
-returns-in_err-put-in-Put-clause-made g c = search rules
 
 pub returns-in_err-put-in-Put-clause-beside : goal.returns-in_err-put-in-Put-clause-beside
 returns-in_err-put-in-Put-clause-beside g c = search rules
@@ -40,27 +28,13 @@ remove-requires-clause-stands g c = search rules
 pub remove-requires-clause-free : goal.remove-requires-clause-free
 remove-requires-clause-free g c = search rules
 
-pub returns-in_err-remove-in-Remove-clause-stands :
-    goal.returns-in_err-remove-in-Remove-clause-stands
-returns-in_err-remove-in-Remove-clause-stands g c = search rules
-
 pub returns-in_err-remove-in-Remove-clause-written :
     goal.returns-in_err-remove-in-Remove-clause-written
 returns-in_err-remove-in-Remove-clause-written g c = search rules
 
-pub returns-in_err-remove-in-Remove-clause-cost : goal.returns-in_err-remove-in-Remove-clause-cost
-returns-in_err-remove-in-Remove-clause-cost g c = search rules
-
-pub returns-in_err-remove-in-Remove-clause-changes :
-    goal.returns-in_err-remove-in-Remove-clause-changes
-returns-in_err-remove-in-Remove-clause-changes g c = search rules
-
 pub returns-in_err-remove-in-Remove-clause-versions :
     goal.returns-in_err-remove-in-Remove-clause-versions
 returns-in_err-remove-in-Remove-clause-versions g c = search rules
-
-pub returns-in_err-remove-in-Remove-clause-made : goal.returns-in_err-remove-in-Remove-clause-made
-returns-in_err-remove-in-Remove-clause-made g c = search rules
 
 pub returns-in_err-remove-in-Remove-clause-beside :
     goal.returns-in_err-remove-in-Remove-clause-beside
@@ -74,47 +48,36 @@ pub returns-in_err-remove-in-Remove-clause-untouched :
     goal.returns-in_err-remove-in-Remove-clause-untouched
 returns-in_err-remove-in-Remove-clause-untouched g c = search rules
 
-pub returns-in_ok-put-in-Put-clause-stands : goal.returns-in_ok-put-in-Put-clause-stands
-returns-in_ok-put-in-Put-clause-stands g c = search rules
-
 pub returns-in_ok-put-in-Put-clause-written : goal.returns-in_ok-put-in-Put-clause-written
 returns-in_ok-put-in-Put-clause-written g c = search rules
-
-pub returns-in_ok-put-in-Put-clause-cost : goal.returns-in_ok-put-in-Put-clause-cost
-returns-in_ok-put-in-Put-clause-cost g c = search rules
-
-pub returns-in_ok-put-in-Put-clause-changes : goal.returns-in_ok-put-in-Put-clause-changes
-returns-in_ok-put-in-Put-clause-changes g c = search rules
 
 pub returns-in_ok-put-in-Put-clause-versions : goal.returns-in_ok-put-in-Put-clause-versions
 returns-in_ok-put-in-Put-clause-versions g c = search rules
 
-pub returns-in_ok-put-in-Put-clause-made : goal.returns-in_ok-put-in-Put-clause-made
-returns-in_ok-put-in-Put-clause-made g c = search rules
-
 pub returns-in_ok-put-in-Put-clause-beside : goal.returns-in_ok-put-in-Put-clause-beside
 returns-in_ok-put-in-Put-clause-beside g c = search rules
-
-pub returns-in_ok-remove-in-Remove-clause-stands : goal.returns-in_ok-remove-in-Remove-clause-stands
-returns-in_ok-remove-in-Remove-clause-stands g c = search rules
 
 pub returns-in_ok-remove-in-Remove-clause-written :
     goal.returns-in_ok-remove-in-Remove-clause-written
 returns-in_ok-remove-in-Remove-clause-written g c = search rules
 
-pub returns-in_ok-remove-in-Remove-clause-cost : goal.returns-in_ok-remove-in-Remove-clause-cost
-returns-in_ok-remove-in-Remove-clause-cost g c = search rules
-
-pub returns-in_ok-remove-in-Remove-clause-changes :
-    goal.returns-in_ok-remove-in-Remove-clause-changes
-returns-in_ok-remove-in-Remove-clause-changes g c = search rules
-
 pub returns-in_ok-remove-in-Remove-clause-versions :
     goal.returns-in_ok-remove-in-Remove-clause-versions
 returns-in_ok-remove-in-Remove-clause-versions g c = search rules
 
-pub returns-in_ok-remove-in-Remove-clause-made : goal.returns-in_ok-remove-in-Remove-clause-made
-returns-in_ok-remove-in-Remove-clause-made g c = search rules
-
 pub returns-in_ok-remove-in-Remove-clause-beside : goal.returns-in_ok-remove-in-Remove-clause-beside
 returns-in_ok-remove-in-Remove-clause-beside g c = search rules
+
+pub returns-in_err-put-in-Put-clause-changed : goal.returns-in_err-put-in-Put-clause-changed
+returns-in_err-put-in-Put-clause-changed g c = search rules
+
+pub returns-in_err-remove-in-Remove-clause-changed :
+    goal.returns-in_err-remove-in-Remove-clause-changed
+returns-in_err-remove-in-Remove-clause-changed g c = search rules
+
+pub returns-in_ok-put-in-Put-clause-changed : goal.returns-in_ok-put-in-Put-clause-changed
+returns-in_ok-put-in-Put-clause-changed g c = search rules
+
+pub returns-in_ok-remove-in-Remove-clause-changed :
+    goal.returns-in_ok-remove-in-Remove-clause-changed
+returns-in_ok-remove-in-Remove-clause-changed g c = search rules

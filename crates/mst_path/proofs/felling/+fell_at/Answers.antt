@@ -6,7 +6,7 @@ use Rattle.mst_arena.specs.Standing.{used}
 use Rattle.mst_path.specs.Felling.{ToFell}
 use Rattle.mst_path.specs.Joining.{height_at}
 use Rattle.mst_path.specs.Moves.{Moves}
-use Rattle.mst_path.proofs.lemmas.steps.Felling.{Felling, AtEntry, started, entry_there, at_entry, at_last, height_read}
+use Rattle.mst_path.proofs.lemmas.steps.Felling.{Felling, AtEntry, started, all_open, entry_there, at_entry, at_last, height_read}
 use Rattle.mst_path.proofs.felling.+fell_at.Given.{Over}
 use Rattle.mst_path.proofs.felling.+fell_at.Goals.{After-kill-in-loop}
 use Rattle.mst_path.proofs.felling.+fell_at.Goals as goal
@@ -18,22 +18,24 @@ pub loop-init : goal.loop-init
 loop-init g t c = record {
   same = c.head-head.ensures.same;
   felling =
-      λ z. subst (λ (s : State). Felling z.format (g.R.Rows.content c.args.rows.now) c.args.desk.now
-      s c.head-head.result.layer (used z.placed) c.head-head.result.tail c.head-head.result.first 0
-      c.head-head.result.count) (sym c.kill.ensures.dead)
+      λ z. subst (λ (s : State). Felling z.format used (g.R.Rows.content c.args.rows.now)
+      c.args.desk.now s c.head-head.result.layer (used z.placed) c.head-head.result.tail
+      c.head-head.result.first 0 c.head-head.result.count) (sym c.kill.ensures.dead)
       (started (g.R.Rows.content c.args.rows.now) c.args.desk.now c.args.link z
-      (some c.args.link c.if-link-eq0.false) c.head-head.result c.head-head.ensures.value);
+      (some c.args.link c.if-link-eq0.false) used (λ i l chain at. all_open i l chain)
+      c.head-head.result c.head-head.ensures.value);
 }
 
 -- ---- the next entry
 
 module _ (g : Over) (t : ℕ) (c : After-kill-in-loop g t)
     (z : ToFell (g.R.Rows.content c.args.rows.now) c.args.desk.now c.args.link) where
-  entry : AtEntry z.format (g.R.Rows.content c.args.rows.now) c.args.desk.now c.loop.desk
+  entry : AtEntry z.format used (g.R.Rows.content c.args.rows.now) c.args.desk.now c.loop.desk
       c.head-head.result.layer (used z.placed) c.head-head.result.tail (c.loop.next - 1)
       c.loop.counter c.head-head.result.count c.entry-entry.result
   entry =
-      at_entry _ _ _ _ _ _ _ _ _ _ (c.loop.invariant.felling z) c.loop-test.true
+      at_entry _ _ _ _ _ _ _ _ _ _ _ (c.loop.invariant.felling z) (λ p r. omega arith)
+      c.loop-test.true
       c.entry-entry.result
       (subst (λ (x : Content). part_at entry_links x (c.loop.next - 1) ≡ Some c.entry-entry.result)
       (ap g.R.Rows.content c.loop.invariant.same) c.entry-entry.ensures.value)
@@ -52,7 +54,7 @@ pub kill-requires-in-loop : goal.kill-requires-in-loop
 kill-requires-in-loop g t c =
     record {
       born =
-          (entry_there _ _ _ _ _ _ _ _ _ _ (c.loop.invariant.felling c.requires.tree)
+          (entry_there _ _ _ _ _ _ _ _ _ _ _ (c.loop.invariant.felling c.requires.tree)
           c.loop-test.true).2;
     }
 
@@ -62,7 +64,7 @@ fell_at-requires g t c κs within =
     let z = c.requires.tree in
     let falls =
     subst (λ (x : Content). height_at x c.entry-entry.result.child < c.head-head.result.layer
-    + 1) (sym (same_rows g t at z)) (entry g t at z).falls in
+    + 1) (sym (same_rows g t at z)) (entry g t at z).lower_down in
     let read = height_read (g.R.Rows.content c.args.rows.now) c.args.link c.head-head.result
     (some c.args.link c.if-link-eq0.false) c.head-head.ensures.value in
     (omega (arith, c.decreases, falls, read), (search rules, (search rules, child g t at z)))
@@ -91,7 +93,7 @@ pub fell_at-requires-2 : goal.fell_at-requires-2
 fell_at-requires-2 g t c κs within =
     let z = c.requires.tree in
     let same = ap g.R.Rows.content c.loop.invariant.same in
-    let last = at_last _ _ _ _ _ _ _ _ _ _ (c.loop.invariant.felling z)
+    let last = at_last _ _ _ _ _ _ _ _ _ _ _ (c.loop.invariant.felling z)
     (omega (arith, c.loop-test.false, c.loop.auto.counter-end)) in
     let falls =
     subst (λ (x : Content). height_at x c.head-head.result.tail < c.head-head.result.layer + 1)
@@ -112,7 +114,7 @@ fell_at-requires-2 g t c κs within =
 pub returns-clause-fells : goal.returns-clause-fells
 returns-clause-fells g t c = λ z.
     let same = ap g.R.Rows.content c.loop.invariant.same in
-    let last = at_last _ _ _ _ _ _ _ _ _ _ (c.loop.invariant.felling z)
+    let last = at_last _ _ _ _ _ _ _ _ _ _ _ (c.loop.invariant.felling z)
     (omega (arith, c.loop-test.false, c.loop.auto.counter-end)) in
     let fells =
     subst (λ (x : Content). (y : ToFell x c.loop.desk c.head-head.result.tail)

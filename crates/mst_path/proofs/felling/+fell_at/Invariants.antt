@@ -14,6 +14,6 @@ abbrev pub invariant-loop : goal.invariant-loop
 invariant-loop g l = record {
   same : l.rows ≡ l.fn.rows;
   felling : (t : ToFell (g.R.Rows.content l.fn.rows) l.fn.desk l.fn.link) → Felling t.format
-      (g.R.Rows.content l.fn.rows) l.fn.desk l.desk l.head.layer (used t.placed) l.head.tail l.next
-      l.counter l.head.count;
+      used (g.R.Rows.content l.fn.rows) l.fn.desk l.desk l.head.layer (used t.placed) l.head.tail
+      l.next l.counter l.head.count;
 }

@@ -1,5 +1,5 @@
 -- A tree that is felled: its head, its entries one after another, each with the tree before it, and
--- the tree in its last gap.
+-- the tree in its last gap. `falls` says which rows of a tree die: all, or those that are not kept.
 use Rattle.std.proofs.Common.{◌≡◌, ℕ, zero, suc, ◌+◌, ◌-◌, ◌<◌, ◌≤◌, List, [], ◌∷◌, ◌++◌, Option, Some, IsSome, append_assoc, refl, sym, ◌∙◌, ap, subst, arith}
 use Rattle.std.specs.Prelude.{option_and_then}
 use Rattle.std.specs.Option.{option_map_or}
@@ -28,10 +28,21 @@ use Rattle.mst_path.proofs.lemmas.rows.CopyRows.{at_self}
 use Rattle.mst_path.proofs.lemmas.rows.Moving.{moves_kill, moves_then, old_stays}
 use Rattle.mst_path.proofs.lemmas.versions.Changes.{distinct_times}
 
+-- the rows of a chain that die: those of its entries, and what falls of the trees in its gaps
+abbrev pub chain_falls : (falls : Placed → List ℕ) → Chain → List ℕ
+chain_falls falls (end child) = falls child
+chain_falls falls (cell at child key value rest) = at ∷ falls child ++ chain_falls falls rest
+
+-- of trees that go as a whole all rows die
+all_fall : (c : Chain) → chain_falls used c ≡ chain_used c
+all_fall (end child) = refl
+all_fall (cell at child key value rest) =
+    ap (λ (xs : List ℕ). at ∷ used child ++ xs) (all_fall rest)
+
 -- What is left of a node after its head and so many entries are felled: the rest of the chain, all
 -- on old rows, and the rows that died so far stand before it in the list of all rows.
-pub record Felling (format : Format) (content : Content) (s s' : State) (layer : ℕ) (whole : List ℕ)
-    (tail next done all : ℕ) : Type 0 where
+pub record Felling (format : Format) (falls : Placed → List ℕ) (content : Content) (s s' : State)
+    (layer : ℕ) (whole : List ℕ) (tail next done all : ℕ) : Type 0 where
   pub rest : Chain
   pub gone : List ℕ
   pub first_is : first_of rest ≡ next
@@ -42,7 +53,7 @@ pub record Felling (format : Format) (content : Content) (s s' : State) (layer :
   pub old : (r : ℕ) → In r (chain_used rest) → IsOld s' r
   pub once : (r : ℕ) → times r (chain_used rest) ≤ 1
   pub moves : Moves s s' [] gone
-  pub is : whole ≡ gone ++ chain_used rest
+  pub is : whole ≡ gone ++ chain_falls falls rest
 
 -- ---- a row dies
 
@@ -61,7 +72,7 @@ others_old s at xs dies old once r i = old_stays s (having_killed s at) [] (at �
 
 -- ---- a tree lower down
 
-lower : (format : Format) (content : Content) (layer : ℕ) (p : Placed) → HasRows content
+pub lower : (format : Format) (content : Content) (layer : ℕ) (p : Placed) → HasRows content
     (rows_of format p) → IsUnder layer (tree_of format p) → height_at content (link_of p) < layer
     + 1
 lower format content layer none has under = omega arith
@@ -106,15 +117,17 @@ module _ (content : Content) (s : State) (link : ℕ) (t : ToFell content s link
         go (head i l chain) at old = let same : link - 1 ≡ i = omega (arith, at) in
             subst (IsOld s) (sym same) (old i (omega (arith, at_self i)))
 
-    module _ (h : HeadLinks) (read : part_at head_links content (link - 1) ≡ Some h) where
-      pub started : Felling t.format content s (having_killed s (link - 1)) h.layer (used t.placed)
-          h.tail h.first 0 h.count
+    module _ (falls : Placed → List ℕ) (opens : (i l : ℕ) (c : Chain) → i + 1 ≡ link
+        → falls (head i l c) ≡ i ∷ chain_falls falls c)
+        (h : HeadLinks) (read : part_at head_links content (link - 1) ≡ Some h) where
+      pub started : Felling t.format falls content s (having_killed s (link - 1)) h.layer
+          (falls t.placed) h.tail h.first 0 h.count
       started = go t.placed t.at t.rows t.old t.search t.once
         where
           go : (p : Placed) → link_of p ≡ link → HasRows content (rows_of t.format p)
               → ((r : ℕ) → In r (used p) → IsOld s r) → IsMst t.format (tree_of t.format p)
-              → ((r : ℕ) → times r (used p) ≤ 1) → Felling t.format content s
-              (having_killed s (link - 1)) h.layer (used p) h.tail h.first 0 h.count
+              → ((r : ℕ) → times r (used p) ≤ 1) → Felling t.format falls content s
+              (having_killed s (link - 1)) h.layer (falls p) h.tail h.first 0 h.count
           go none at has old search once = absurd (omega (arith, at, some))
           go (head i l chain) at has old search once =
               let same : link - 1 ≡ i = omega (arith, at) in
@@ -154,8 +167,12 @@ module _ (content : Content) (s : State) (link : ℕ) (t : ToFell content s link
                 once = λ r. omega (arith, once r);
                 moves = subst (λ (n : ℕ). Moves s (having_killed s n) [] (i ∷ [])) (sym same)
                     (killed s i dies);
-                is = refl;
+                is = opens i l chain at;
               }
+
+-- a tree that goes as a whole falls from its head on
+pub all_open : (i l : ℕ) (c : Chain) → used (head i l c) ≡ i ∷ chain_falls used c
+all_open i l c = ap (λ (xs : List ℕ). i ∷ xs) (sym (all_fall c))
 
 -- the empty tree has no rows
 pub nothing_falls : (content : Content) (s : State) (link : ℕ) (t : ToFell content s link)
@@ -169,16 +186,17 @@ nothing_falls content s link t is = go t.placed t.at
 -- ---- the next entry
 
 -- the entry that was read, with the tree before it, and what is left after it
-pub record AtEntry (format : Format) (content : Content) (s s' : State) (layer : ℕ) (whole : List ℕ)
-    (tail row done all : ℕ) (e : EntryLinks) : Type 0 where
+pub record AtEntry (format : Format) (falls : Placed → List ℕ) (content : Content) (s s' : State)
+    (layer : ℕ) (whole : List ℕ) (tail row done all : ℕ) (e : EntryLinks) : Type 0 where
   pub dies : IsOld s' row
   pub below : ToFell content (having_killed s' row) e.child
-  pub falls : height_at content e.child < layer + 1
-  pub after : (s2 : State) → Moves (having_killed s' row) s2 [] (used below.placed)
-      → Felling format content s s2 layer whole tail e.next (done + 1) all
+  pub lower_down : height_at content e.child < layer + 1
+  pub after : (s2 : State) → Moves (having_killed s' row) s2 [] (falls below.placed)
+      → Felling format falls content s s2 layer whole tail e.next (done + 1) all
 
-module _ (format : Format) (content : Content) (s s' : State) (layer : ℕ) (whole : List ℕ)
-    (tail next done all : ℕ) (f : Felling format content s s' layer whole tail next done all) where
+module _ (format : Format) (falls : Placed → List ℕ) (content : Content) (s s' : State)
+    (layer : ℕ) (whole : List ℕ) (tail next done all : ℕ)
+    (f : Felling format falls content s s' layer whole tail next done all) where
   pub entry_there : done < all → IsSome (part_at entry_links content (next - 1)) × (0 < next)
       × IsOld s' (next - 1)
   entry_there lt = go f.rest f.first_is f.left f.rows f.old
@@ -197,15 +215,16 @@ module _ (format : Format) (content : Content) (s s' : State) (layer : ℕ) (who
                 (old at (omega (arith, at_self at))),
           )
 
-  pub at_entry : done < all → (e : EntryLinks) → part_at entry_links content (next - 1) ≡ Some e
-      → AtEntry format content s s' layer whole tail (next - 1) done all e
-  at_entry lt e read = go f.rest f.first_is f.tail_is f.left f.rows f.search f.old f.once f.is
+  pub at_entry : ((p : Placed) (r : ℕ) → times r (falls p) ≤ times r (used p)) → done < all
+      → (e : EntryLinks) → part_at entry_links content (next - 1) ≡ Some e
+      → AtEntry format falls content s s' layer whole tail (next - 1) done all e
+  at_entry fewer lt e read = go f.rest f.first_is f.tail_is f.left f.rows f.search f.old f.once f.is
     where
       go : (c : Chain) → first_of c ≡ next → tail_of c ≡ tail → count_of c + done ≡ all
           → HasRows content (chain_rows format c) → IsMstEntries format layer (entries_of format c)
           → ((r : ℕ) → In r (chain_used c) → IsOld s' r) → ((r : ℕ) → times r (chain_used c) ≤ 1)
-          → whole ≡ f.gone ++ chain_used c → AtEntry format content s s' layer whole tail (next - 1)
-          done all e
+          → whole ≡ f.gone ++ chain_falls falls c → AtEntry format falls content s s' layer whole
+          tail (next - 1) done all e
       go (end p) first tail_is left has search old once is = absurd (omega (arith, lt, left))
       go (cell at p key value c) first tail_is left has search old once is =
           let same : next - 1 ≡ at = omega (arith, first) in
@@ -235,41 +254,41 @@ module _ (format : Format) (content : Content) (s s' : State) (layer : ℕ) (who
               search = search.1;
               once = λ r. omega (arith, once r, times-append r (used p) (chain_used c));
             };
-            falls = subst (λ (n : ℕ). height_at content n < layer + 1) child_is
+            lower_down = subst (λ (n : ℕ). height_at content n < layer + 1) child_is
                 (lower format content layer p
                 (all-front _ (rows_of format p) (chain_rows format c) has.1) search.0);
             after = λ s2 more.
                 let first_two = moves_then s' (having_killed s' (next - 1)) s2 [] (at ∷ []) []
-                (used p) gone_now more in
+                (falls p) gone_now more in
                 record {
                   rest = c;
-                  gone = f.gone ++ at ∷ used p;
+                  gone = f.gone ++ at ∷ falls p;
                   first_is = ap (λ (x : EntryLinks). x.next) links;
                   tail_is = tail_is;
                   left = omega (arith, left);
                   rows = all-back _ (rows_of format p) (chain_rows format c) has.1;
                   search = search.3;
-                  old = λ r i. old_stays (having_killed s' (next - 1)) s2 [] (used p) more r
+                  old = λ r i. old_stays (having_killed s' (next - 1)) s2 [] (falls p) more r
                       (still r (omega (arith, i, times-append r (used p) (chain_used c))))
-                      (omega (arith, i, once r, times-append r (used p) (chain_used c)));
+                      (omega (arith, i, once r, fewer p r, times-append r (used p) (chain_used c)));
                   once = λ r. omega (arith, once r, times-append r (used p) (chain_used c));
-                  moves = moves_then s s' s2 [] f.gone [] (at ∷ used p) f.moves first_two;
-                  is = is ∙ sym (append_assoc f.gone (at ∷ used p) (chain_used c));
+                  moves = moves_then s s' s2 [] f.gone [] (at ∷ falls p) f.moves first_two;
+                  is = is ∙ sym (append_assoc f.gone (at ∷ falls p) (chain_falls falls c));
                 };
           }
 
   -- ---- the last gap
 
   pub at_last : all ≡ done → (p : ToFell content s' tail) × (height_at content tail < layer + 1)
-      × ((s2 : State) → Moves s' s2 [] (used p.placed) → Moves s s2 [] whole)
+      × ((s2 : State) → Moves s' s2 [] (falls p.placed) → Moves s s2 [] whole)
   at_last is_all = go f.rest f.tail_is f.left f.rows f.search f.old f.once f.is
     where
       go : (c : Chain) → tail_of c ≡ tail → count_of c + done ≡ all → HasRows content
           (chain_rows format c) → IsMstEntries format layer (entries_of format c)
           → ((r : ℕ) → In r (chain_used c) → IsOld s' r) → ((r : ℕ) → times r (chain_used c) ≤ 1)
-          → whole ≡ f.gone ++ chain_used c → (p : ToFell content s' tail)
+          → whole ≡ f.gone ++ chain_falls falls c → (p : ToFell content s' tail)
           × (height_at content tail < layer + 1)
-          × ((s2 : State) → Moves s' s2 [] (used p.placed) → Moves s s2 [] whole)
+          × ((s2 : State) → Moves s' s2 [] (falls p.placed) → Moves s s2 [] whole)
       go (end p) tail_is left has search old once is = (
         record {
           format = format;
@@ -284,7 +303,7 @@ module _ (format : Format) (content : Content) (s s' : State) (layer : ℕ) (who
         subst (λ (n : ℕ). height_at content n < layer + 1) tail_is
             (lower format content layer p has search.0),
         λ s2 more. subst (λ (l : List ℕ). Moves s s2 [] l) (sym is)
-            (moves_then s s' s2 [] f.gone [] (used p) f.moves more),
+            (moves_then s s' s2 [] f.gone [] (falls p) f.moves more),
       )
       go (cell at p key value c) tail_is left has search old once is =
           absurd (omega (arith, left, is_all))

@@ -23,6 +23,7 @@ use Rattle.mst_path.specs.Making.{Grown}
 use Rattle.mst_path.specs.RemovePath.{SearchTree}
 use Rattle.mst_path.specs.Changing.{AreOld, MapStands, IsTaken, AreTaken, AreKilled, OthersLive, OnlyFreeWritten, SameVersions}
 use Rattle.mst_path.specs.Reached.{Changes}
+use Rattle.mst_path.specs.AfterChange.{AfterChange}
 use Rattle.mst_path.proofs.lemmas.rows.CopyRows.{kept_at}
 use Rattle.mst_path.proofs.lemmas.trees.Joined.{unchanged}
 
@@ -226,17 +227,6 @@ module _ (format : Format) (c c1 : Content) (s s1 : State) (root at : Root) (m n
     versions_after = (g.moves.current, g.moves.versions)
 
 -- ---- what the caller learns of a change, which is the same one of each map that stood
-
-pub record AfterChange (format : Format) (c c1 : Content) (s s1 : State) (root at : Root)
-    (change : List Pair → List Pair) : Type 0 where
-  pub stands : (m : List Pair) → Stands format c root m → Stands format c1 at (change m)
-  pub written : OnlyFreeWritten s c c1
-  pub counted : (m : List Pair) → Stands format c root m → free_count s1.lives + cost format m
-      (change m) ≡ free_count s.lives
-  pub changes : (m n : List Pair) (o : Stands format c root m) (w : Stands format c1 at n)
-      → Changes s s1 (numbers o) (numbers w)
-  pub versions : SameVersions s s1
-  pub made : (n : List Pair) (w : Stands format c1 at n) → IsMade s1 w.tree.placed
 
 -- what stands afterwards, of a map that stood before
 abbrev pub Changed : (format : Format) (c c1 : Content) (s s1 : State) (root at : Root)

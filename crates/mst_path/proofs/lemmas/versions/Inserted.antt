@@ -20,7 +20,8 @@ use Rattle.mst_change.specs.Cost.{put_rows}
 use Rattle.mst_path.specs.Making.{Grown}
 use Rattle.mst_path.specs.PutPath.{RisingTree, in_rising, with_pair, pair_rows}
 use Rattle.mst_path.specs.Changing.{AreOld, MapStands}
-use Rattle.mst_path.proofs.lemmas.versions.Changes.{search_at, rises, AfterChange, Changed, after_change, unchanged_map}
+use Rattle.mst_path.specs.AfterChange.{AfterChange}
+use Rattle.mst_path.proofs.lemmas.versions.Changes.{search_at, rises, Changed, after_change, unchanged_map}
 use Rattle.mst_change.proofs.Cost.Put.{cost_put}
 use Rattle.mst_change.proofs.Put.Trees.{put_tree}
 use Rattle.mst_path.proofs.lemmas.steps.Rounds.{regrown}

@@ -17,7 +17,8 @@ use Rattle.mst_change.specs.Cost.{remove_rows}
 use Rattle.mst_path.specs.Making.{Grown}
 use Rattle.mst_path.specs.RemovePath.{SearchTree, in_tree, without, without_rows}
 use Rattle.mst_path.specs.Changing.{AreOld, MapStands}
-use Rattle.mst_path.proofs.lemmas.versions.Changes.{search_at, AfterChange, Changed, after_change, unchanged_map}
+use Rattle.mst_path.specs.AfterChange.{AfterChange}
+use Rattle.mst_path.proofs.lemmas.versions.Changes.{search_at, Changed, after_change, unchanged_map}
 use Rattle.mst_change.proofs.Cost.Remove.{cost_remove}
 use Rattle.mst_change.proofs.Remove.Trees.{removed_tree}
 use Rattle.mst_path.proofs.lemmas.steps.Rounds.{regrown}
