@@ -36,6 +36,11 @@ fn greatest_of(layers: &[u8]) -> u8
     top
 }
 
+/// How many of the keys with these layers are of one layer.
+fn count_of(layers: &[u8], layer: u8) -> usize {
+    layers.iter().filter(|other| **other == layer).count()
+}
+
 /// The entry of a pair, after the tree of the gap before it.
 fn entry_of<A: Allocator>(child: Option<Box<Node<A>, A>>, pair: &(Key, Value)) -> Entry<A>
     ensures entry { (format : Format) → tree_entry format result
@@ -81,7 +86,8 @@ fn subtree<A: Allocator + Copy>(
         return Ok(None);
     }
     let top = greatest_of(layers);
-    let mut entries = Vec::new(alloc);
+    // the entries have room from the start: a list that grew would have room for more than they are
+    let mut entries = Vec::with_capacity(alloc, count_of(layers, top))?;
     let mut start = 0;
     for (i, pair) in pairs.iter().enumerate() {
         if layers[i] == top {

@@ -27,7 +27,7 @@ loop-i-init g t c =
     c.greatest_of-top.ensures.greatest ∙ ap greatest c.requires.layers in
     record {
       gap = omega arith;
-      entries = rw c.new-entries.ensures.items;
+      entries = rw c.in_ok-entries.ensures.items;
       some = λ _. rw top (has_some (layer_in c.args.format) c.args.pairs.now some);
     }
 
