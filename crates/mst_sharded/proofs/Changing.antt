@@ -10,6 +10,7 @@ use Rattle.mst_sharded.specs.Directory.{KeepWithin, LacksDirectory}
 use Rattle.mst_sharded.specs.declared.faults.DirectoryFault.{DirectoryFault}
 use Rattle.mst_sharded.specs.declared.faults.DirectoryFault.TheVariants as fault
 use Rattle.mst_sharded.specs.Entries.{shard_from_at, shard_at, KeepsTo, IsFaultOf, entry_of, is_version, is_current, edit_of, edits_of, NewKeep, nothing_of}
+use Rattle.mst_sharded.proofs.Dealing.{length-shards}
 
 -- ---- the shard at a place
 
@@ -26,15 +27,10 @@ shard_get low (s ∷ splits) zero d le = refl
 shard_get low (s ∷ splits) (suc i) d le =
     shard_get s splits i d (omega (arith, le)) ∙ next_shard low s splits i
 
-pub count_shards : (low : List ℕ) (splits : List (List ℕ)) → length (shards_from low splits)
-    ≡ length splits + 1
-count_shards low [] = refl
-count_shards low (s ∷ splits) = let rest = count_shards s splits in omega (arith, rest)
-
 drop_shards : (splits : List (List ℕ)) (i : ℕ) → i ≤ length splits
     → drop i (shards_at splits) ≡ shard_at splits i ∷ drop (i + 1) (shards_at splits)
 drop_shards splits i le =
-    let count = count_shards least splits in
+    let count = length-shards least splits in
     drop_more (shards_at splits) i (shard_at splits i) (omega (arith, le, count))
     ∙ ap (λ (s : Shard). s ∷ drop (i + 1) (shards_at splits))
     (shard_get least splits i (shard_at splits i) le)
@@ -132,7 +128,7 @@ edits_next splits vs ps qs es fs i v p q many was low is_v is_p same keep pushed
 nothing_left : (splits : List (List ℕ)) (ps : List Known) (i : ℕ)
     → length ps ≡ length splits + 1 → length ps ≤ i → drop i (shards_at splits) ≡ []
 nothing_left splits ps i count last =
-    let shards = count_shards least splits in
+    let shards = length-shards least splits in
     drop_of_length-le (shards_at splits) (omega (arith, count, last, shards))
 
 -- at the end these are all edits
@@ -166,7 +162,7 @@ pub shard_keeps : (splits : List (List ℕ)) (ps : List Known) (i : ℕ) (p : Kn
     → length ps ≡ length splits + 1 → i < length ps → p ≡ get_or ps i p
     → KeepWithin (shards_at splits) (maps_of ps) → KeepsTo (shard_at splits i) p
 shard_keeps splits ps i p count low is keep =
-    let shards = count_shards least splits in
+    let shards = length-shards least splits in
     subst (λ (q : Known). KeepsTo (shard_at splits i) q) (sym is)
     (subst (λ (s : Shard). KeepsTo s (get_or ps i p))
     (shard_get least splits i (shard_at splits i) (omega (arith, count, low)))

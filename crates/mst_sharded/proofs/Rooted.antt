@@ -8,16 +8,17 @@ use Rattle.mst_key.specs.History.{after}
 use Rattle.mst_key.proofs.Alls.{filter-whole}
 use Rattle.mst_node.specs.Text.{root as root_of}
 use Rattle.mst_node.specs.Trail.{proof_text}
-use Rattle.mst_store.specs.Passes.{Known, Answers, format_seen}
+use Rattle.mst_store.specs.Passes.{Known, most_rows, Answers, format_seen}
 use Rattle.mst_sharded_proof.specs.Shards.{Shard, least, shards as shards_at, shard_from, shard_of, part_of, directory, sharded_root}
 use Rattle.mst_sharded_proof.specs.Frame.{framing, sharded_proof}
 use Rattle.mst_sharded_proof.specs.Theorem.{HasShardedRoot}
 use Rattle.mst_sharded_proof.proofs.Shards.{length-directory}
-use Rattle.mst_sharded.specs.Sharding.{IsSplits, place, sharding, maps_of, map_of}
+use Rattle.mst_sharded.specs.Sharding.{IsSplits, HaveFewPairs, place, sharding, maps_of, map_of}
 use Rattle.mst_sharded.specs.Directory.{OfClean}
 use Rattle.mst_sharded.specs.Listing.{Listing, HasListed}
 use Rattle.mst_sharded.specs.Entries.{low_at, shard_from_at, shard_at, Stays, ListsAll}
-use Rattle.mst_sharded.proofs.Changing.{next_shard, shard_get, count_shards, shard_keeps}
+use Rattle.mst_sharded.proofs.Changing.{next_shard, shard_get, shard_keeps}
+use Rattle.mst_sharded.proofs.Dealing.{length-shards}
 use Rattle.mst_sharded.proofs.Formats.{format_at}
 use Rattle.mst_sharded.proofs.Only.{stays, stays_becomes}
 use Rattle.mst_sharded.proofs.Parts.{HasParts, parts, union_map}
@@ -39,8 +40,8 @@ fewer test (p ∷ m) = go (test p) (fewer test m)
     go true few = omega (arith, few)
     go false few = omega (arith, few)
 
-few_in : (whole m : List Pair) (s : Shard) → part_of whole s ≡ part_of m s → length m ≤ 65535
-    → length (part_of whole s) ≤ 65535
+few_in : (whole m : List Pair) (s : Shard) → part_of whole s ≡ part_of m s → length m ≤ most_rows
+    → length (part_of whole s) ≤ most_rows
 few_in whole m s same few =
     let count : length (part_of whole s) ≡ length (part_of m s) =
     ap (λ (l : List Pair). length l) same in
@@ -49,8 +50,8 @@ few_in whole m s same few =
 
 few_each : (whole : List Pair) (shards : List Shard) (ps : List Known)
     → length shards ≡ length ps → HasParts whole shards (maps_of ps)
-    → AllByRecursion (λ (p : Known). length (after p.seen) ≤ 65535) ps
-    → AllByRecursion (λ (s : Shard). length (part_of whole s) ≤ 65535) shards
+    → HaveFewPairs ps
+    → AllByRecursion (λ (s : Shard). length (part_of whole s) ≤ most_rows) shards
 few_each whole [] ps count have few = tt
 few_each whole (s ∷ shards) [] count have few = absurd (omega (arith, count))
 few_each whole (s ∷ shards) (p ∷ ps) count have few = (
@@ -61,11 +62,11 @@ few_each whole (s ∷ shards) (p ∷ ps) count have few = (
 pub has_root : (format : Format) (splits : List (List ℕ)) (ps : List Known) (digest : List ℕ)
     → IsSplits splits → length ps ≡ length splits + 1
     → AllByRecursion (λ (p : Known). IsMap (after p.seen)) ps
-    → AllByRecursion (λ (p : Known). length (after p.seen) ≤ 65535) ps
+    → HaveFewPairs ps
     → digest ≡ sharded_root format (map_of (sharding splits ps)) splits
     → HasShardedRoot format (map_of (sharding splits ps)) splits digest
 has_root format splits ps digest is count maps few root =
-    let shards = count_shards least splits in
+    let shards = length-shards least splits in
     let few_splits = is.few in
     record {
       sharded = record {
@@ -141,7 +142,7 @@ map_at : (format : Format) (splits : List (List ℕ)) (l : Listing) (ps : List K
     → p ≡ get_or ps i p → ListsAll format splits l ps
     → after p.seen ≡ part_of (map_of (sharding splits ps)) (shard_at splits i)
 map_at format splits l ps i p is count low here all =
-    let shards = count_shards least splits in
+    let shards = length-shards least splits in
     let s = shard_at splits i in
     let whole = map_of (sharding splits ps) in
     let part = subst (λ (t : Shard). part_of whole t ≡ part_of (after (get_or ps i p).seen) t)
@@ -206,7 +207,7 @@ of_clean Says format splits l ps all says =
 pub root_told : (format : Format) (splits : List (List ℕ)) (l : Listing) (ps : List Known)
     (q : Known) (digest : List ℕ) → IsSplits splits → length ps ≡ length splits + 1
     → AllByRecursion (λ (p : Known). IsMap (after p.seen)) ps
-    → AllByRecursion (λ (p : Known). length (after p.seen) ≤ 65535) ps
+    → HaveFewPairs ps
     → HasListed splits l ps → ListsAll format splits l ps → Answers root_of l.pass digest q
     → OfClean (λ f m. HasShardedRoot f m splits digest) (sharding splits ps)
 root_told format splits l ps q digest is count maps few has all answered =

@@ -1,5 +1,5 @@
 -- Handles and snapshots beside a share of their map: their passes stay those of its stores.
-use Rattle.std.proofs.Common.{◌≡◌, ℕ, zero, suc, ◌+◌, ◌<◌, ◌≤◌, List, [], ◌∷◌, ◌++◌, inl, inr, Option, Some, None, slice_get, Result, Ok, Err, IfOk, IfErr, OnOk, length, map, reverse, set, get_or, refl, sym, ap, ◌∙◌, subst, arith, length-append, append_assoc}
+use Rattle.std.proofs.Common.{◌≡◌, ℕ, zero, suc, ◌+◌, ◌<◌, ◌≤◌, List, [], ◌∷◌, ◌++◌, inl, inr, Option, Some, None, slice_get, Result, Ok, Err, IfOk, IfErr, OnOk, length, map, reverse, take, drop, set, get_or, refl, sym, ap, ◌∙◌, subst, arith, length-append, append_assoc}
 use Rattle.std.specs.List.{swap_remove, SwappedAt}
 use Rattle.std.specs.Prelude.{slice_index_or}
 use Rattle.std.proofs.lemmas.List.{length-map, get_or-map, map-set, set-get_or}
@@ -24,13 +24,13 @@ use Rattle.mst_sharded.specs.Listing.{Listing, HasListed}
 use Rattle.std.specs.List.{AllByRecursion}
 use Rattle.mst_key.specs.declared.format.Format.{Format}
 use Rattle.mst_sharded.specs.Opening.{Shards, Dealt, dealt_from, directory_shape}
-use Rattle.mst_sharded.specs.Shared.{AreOf, IsRowOf, AreRowsOf}
+use Rattle.mst_sharded.specs.Shared.{AreOf, KeepsPins, IsRowOf, AreRowsOf}
 use Rattle.mst_key.specs.Map.{Pair, IsMap}
 use Rattle.mst_sharded_proof.specs.Shards.{least, shards_from, directory}
 use Rattle.mst_sharded.proofs.Dealing.{all_whole, length-shards}
-use Rattle.mst_sharded.specs.Sharding.{IsSplits, Sharding, place, sharding, IsSharding, Routes, AllStep, PinsNow, SeesMore}
+use Rattle.mst_sharded.specs.Sharding.{IsSplits, Sharding, place, sharding, IsSharding, HaveFewPairs, Routes, AllStep, PinsNow, SeesMore}
 use Rattle.mst_sharded.proofs.Listed.{handle_kept}
-use Rattle.mst_sharded.proofs.Moved.{read_any, put_back}
+use Rattle.mst_sharded.proofs.Moved.{read_any, put_back, given_back}
 use Rattle.mst_sharded.proofs.Pins.{moved_on}
 use Rattle.mst_sharded.proofs.Rows.{next_at}
 
@@ -324,19 +324,54 @@ found_as P splits others ps lifted h are same was has =
 pub record Lent (splits : List (List ℕ)) (l : Listing) (ps : List Known) : Type 0 where
   pub count : length ps ≡ length splits + 1
   pub maps : AllByRecursion (λ (p : Known). IsMap (after p.seen)) ps
-  pub few : AllByRecursion (λ (p : Known). length (after p.seen) ≤ 65535) ps
+  pub few : HaveFewPairs ps
   pub listed : HasListed splits l ps
 
 pub lent : (splits others : List (List ℕ)) (l lifted : Listing) (ps qs : List Known)
     → others ≡ splits → lifted ≡ l → qs ≡ ps → length ps ≡ length splits + 1
     → AllByRecursion (λ (p : Known). IsMap (after p.seen)) ps
-    → AllByRecursion (λ (p : Known). length (after p.seen) ≤ 65535) ps → HasListed splits l ps
+    → HaveFewPairs ps → HasListed splits l ps
     → Lent others lifted qs
 lent splits others l lifted ps qs are same seen count maps few listed =
     subst (λ (s : List (List ℕ)). Lent s lifted qs) (sym are)
     (subst (λ (x : Listing). Lent splits x qs) (sym same)
     (subst (λ (x : List Known). Lent splits l x) (sym seen)
     (record { count = count; maps = maps; few = few; listed = listed })))
+
+-- the same of the pins that a snapshot with a share of its map keeps
+pub lent_kept : (s : Shards) (number : ℕ) (others : List (List ℕ)) (l lifted : Listing)
+    (ps qs : List Known) → KeepsPins s number l ps → others ≡ s.splits → lifted ≡ l → qs ≡ ps
+    → Lent others lifted qs
+lent_kept s number others l lifted ps qs was are same seen =
+    lent s.splits others l lifted ps qs are same seen was.sharding_is.count was.maps was.few
+    was.listed
+
+-- pins that were lifted, lent to a call that gave them back as they were, and laid down again
+pub laid_back : (n : ℕ) (ps lifted lent given zs : List Known) → lifted ≡ ps → n ≡ length lifted
+    → lent ≡ ps → given ≡ lent → zs ≡ take n (given ++ drop (length given) lifted) → zs ≡ ps
+laid_back n ps lifted lent given zs same count seen back laid =
+    laid
+    ∙ given_back n given lifted ps (count ∙ ap (λ (l : List Known). length l) same) (back ∙ seen)
+
+-- the same, after a call that brought the directory up to date
+pub updated : (s : Shards) (number : ℕ) (l lifted given laid : Listing) (others : List (List ℕ))
+    (ps qs zs : List Known) → KeepsPins s number l ps → others ≡ s.splits → qs ≡ ps → zs ≡ ps
+    → HasListed others given qs → given.pass.store ≡ lifted.pass.store → lifted ≡ l → laid ≡ given
+    → KeepsPins s number laid zs
+updated s number l lifted given laid others ps qs zs was are seen now listed own same again =
+    let store = ap (λ (x : Listing). x.pass.store) again ∙ own
+    ∙ ap (λ (x : Listing). x.pass.store) same in
+    let here = subst (λ (x : List (List ℕ)). HasListed x given ps) are
+    (subst (λ (x : List Known). HasListed others given x) seen listed) in
+    subst (λ (x : List Known). KeepsPins s number laid x) (sym now)
+    (record {
+      sharding_is = was.sharding_is;
+      maps = was.maps;
+      few = was.few;
+      listed = subst (λ (x : Listing). HasListed s.splits x ps) (sym again) here;
+      own = was.own;
+      directory = was.directory ∙ ap Some (sym store);
+    })
 
 -- what holds anyway
 pub on_ok_weaker_from : {T E P : Type 0} (r : Result T E) → P → OnOk r P

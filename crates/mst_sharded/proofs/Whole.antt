@@ -12,12 +12,13 @@ use Rattle.mst_key.proofs.MapLaws.{map_determined, map_get-here, map_get-past, m
 use Rattle.mst_key.proofs.SpanLaws.{contains-cases, contains-nothing}
 use Rattle.mst_node.specs.Text.{root as root_of}
 use Rattle.mst_store.specs.Passes.{Known, StoreId, format_seen}
-use Rattle.mst_sharded_proof.specs.Shards.{Shard, least, shards_from, shards as shards_at, bound_text, listing, directory}
+use Rattle.mst_sharded_proof.specs.Shards.{Shard, least, shards as shards_at, bound_text, listing, directory}
 use Rattle.mst_sharded_proof.proofs.Shards.{directory_map}
 use Rattle.mst_sharded.specs.Sharding.{IsSplits, sharding, maps_of, map_of}
 use Rattle.mst_sharded.specs.Directory.{AllIn, KeepWithin}
 use Rattle.mst_sharded.specs.Listing.{Listing, AreListed, HasListed}
 use Rattle.mst_sharded.specs.Entries.{edits_of, NewKeep, versions_of, Becomes, HasRowsBeside, ListsAll}
+use Rattle.mst_sharded.proofs.Dealing.{length-shards}
 use Rattle.mst_sharded.proofs.Parts.{HasParts, parts}
 use Rattle.mst_sharded.proofs.Relisting.{RiseFrom, rise_from, lists_last, relist, lows, keys_relisted, small_edits}
 
@@ -72,11 +73,6 @@ few_keys b (s ∷ shards) (p ∷ m) rise ascending has =
     let rest = few_keys s.low shards (p ∷ m) rise.1 ascending
     (without_first s shards (p ∷ m) above has) in
     omega (arith, rest))
-
-length-shards : (low : List ℕ) (splits : List (List ℕ)) → length (shards_from low splits)
-    ≡ suc (length splits)
-length-shards low [] = refl
-length-shards low (s ∷ splits) = ap suc (length-shards s splits)
 
 pub all_rise : (splits : List (List ℕ)) → IsSplits splits → RiseFrom [] (shards_at splits)
 all_rise splits is = rise_from least splits [] is.rising refl

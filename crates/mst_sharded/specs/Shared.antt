@@ -1,16 +1,31 @@
 -- Handles with a share of their map: of which stores their passes are.
 use Rattle.std.specs.Prelude.{◌≡◌, ℕ, suc, List, [], ◌∷◌, Some, map, slice_get}
 use Rattle.mst_store.specs.Passes.{Known, StoreId}
+use Rattle.std.specs.List.{AllByRecursion}
 use Rattle.mst_key.specs.declared.format.Format.{Format}
+use Rattle.mst_key.specs.History.{after}
+use Rattle.mst_key.specs.Map.{IsMap}
 use Rattle.mst_sharded.specs.Applying.{StopsMigrating}
 use Rattle.mst_sharded.specs.Opening.{Shards, Dealt, IsWhole}
-use Rattle.mst_sharded.specs.Sharding.{Sharding, sharding}
+use Rattle.mst_sharded.specs.Listing.{Listing, HasListed}
+use Rattle.mst_sharded.specs.Sharding.{Sharding, sharding, IsSharding, HaveFewPairs}
 use Rattle.mst_sharded.specs.declared.faults.MoveFault.{MoveFault}
 use Rattle.mst_sharded.specs.declared.faults.MoveFault.TheVariants.{Memory, Shard}
 
 -- the passes are of these stores, one after the other
 abbrev pub AreOf : List StoreId → List Known → Type 0
 AreOf stores ps = map (λ p. p.store) ps ≡ stores
+
+-- What a snapshot with a share of a map keeps, of the handle with this number: its pins are those
+-- of a sharding, of maps that are no larger than a store, and of the stores of the map; and its
+-- directory, of the store at this number, has listed of them what it says.
+pub record KeepsPins (s : Shards) (number : ℕ) (l : Listing) (pins : List Known) : Type 0 where
+  pub sharding_is : IsSharding (sharding s.splits pins)
+  pub maps : AllByRecursion (λ (p : Known). IsMap (after p.seen)) pins
+  pub few : HaveFewPairs pins
+  pub listed : HasListed s.splits l pins
+  pub own : AreOf s.stores pins
+  pub directory : slice_get s.directories number ≡ Some l.pass.store
 
 -- what is dealt to the handle with this number, from 0, is of the stores of the map
 pub record IsRowOf (s : Shards) (number : ℕ) (d : Dealt) : Type 0 where

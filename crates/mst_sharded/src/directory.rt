@@ -30,29 +30,8 @@ impl<'a, A: Allocator + Copy, B: Allocator> Model for Directory<'a, A, B> {
     ghost view = { λ d. record { pass = d.pass; listed = d.listed.items } };
 }
 
-// Makes the edits. The pass is the only one of its store, so it is never refused the turn.
-fn apply<A: Allocator + Copy, C: Allocator + Copy>(
-    pass: &mut Pass<'_, A>,
-    alloc: C,
-    edits: &[Edit],
-) -> Result<(), DirectoryFault>
-    requires only { IsOnly pass.old }
-    requires room { HasRowsBeside (batched (after pass.old.seen) edits.now) pass.old }
-    ensures ok { OnOk result (Becomes (format_seen pass.old)
-        (batched (after pass.old.seen) edits.now) pass.old pass.new) }
-    ensures err { OnErr result (Stays pass.old pass.new) }
-    ensures fault { IfErr result (λ fault. (h : Sharding) → LacksDirectory fault h) }
-{
-    match pass.try_apply(alloc, edits) {
-        Ok(()) => Ok(()),
-        Err(ApplyFault::VersionsSpent) => Err(DirectoryFault::VersionsSpent),
-        Err(ApplyFault::Memory(refused)) => Err(DirectoryFault::Memory(refused)),
-        Err(ApplyFault::Busy) => unreachable!(),
-        Err(ApplyFault::NoRoom) => unreachable!(),
-    }
-}
-
-// Makes the edits, if there are any.
+// Makes the edits, if there are any. The pass is the only one of its store, so it is never refused
+// the turn.
 fn apply_all<A: Allocator + Copy, C: Allocator + Copy>(
     pass: &mut Pass<'_, A>,
     alloc: C,
@@ -66,9 +45,14 @@ fn apply_all<A: Allocator + Copy, C: Allocator + Copy>(
     ensures fault { IfErr result (λ fault. (h : Sharding) → LacksDirectory fault h) }
 {
     if edits.is_empty() {
-        Ok(())
-    } else {
-        apply(pass, alloc, edits)
+        return Ok(());
+    }
+    match pass.try_apply(alloc, edits) {
+        Ok(()) => Ok(()),
+        Err(ApplyFault::VersionsSpent) => Err(DirectoryFault::VersionsSpent),
+        Err(ApplyFault::Memory(refused)) => Err(DirectoryFault::Memory(refused)),
+        Err(ApplyFault::Busy) => unreachable!(),
+        Err(ApplyFault::NoRoom) => unreachable!(),
     }
 }
 

@@ -105,25 +105,16 @@ pub struct SharedSnapshot<A: Allocator + Copy> {
 
 /// Contracts see what they see of a [`Snapshot`](crate::Snapshot).
 impl<A: Allocator + Copy> Model for SharedSnapshot<A> {
-    ghost use Rattle.std.specs.Prelude.{◌≡◌, ◌≤◌, [], Some, length, slice_get, vec_len, vec_capacity};
+    ghost use Rattle.std.specs.Prelude.{◌≡◌, ◌≤◌, [], vec_len, vec_capacity};
     ghost use Rattle.std.specs.Arc.{arc_value};
-    ghost use Rattle.std.specs.List.{AllByRecursion};
-    ghost use Rattle.mst_key.specs.History.{after};
-    ghost use Rattle.mst_key.specs.Map.{IsMap};
-    ghost use Rattle.mst_sharded.specs.Listing.{HasListed};
-    ghost use Rattle.mst_sharded.specs.Shared.{AreOf};
-    ghost use Rattle.mst_sharded.specs.Sharding.{Sharding, sharding, IsSharding, HaveFewPairs};
+    ghost use Rattle.mst_sharded.specs.Shared.{KeepsPins};
+    ghost use Rattle.mst_sharded.specs.Sharding.{Sharding, sharding};
 
     ghost Value = { Sharding };
 
     ghost view = { λ s. sharding (arc_value s.map).splits s.pinned.items };
 
-    ghost invariant = { λ s. IsSharding (sharding (arc_value s.map).splits s.pinned.items)
-        × AllByRecursion (λ p. IsMap (after p.seen)) s.pinned.items
-        × HaveFewPairs s.pinned.items
-        × HasListed (arc_value s.map).splits s.directory s.pinned.items
-        × AreOf (arc_value s.map).stores s.pinned.items
-        × (slice_get (arc_value s.map).directories s.number ≡ Some s.directory.pass.store)
+    ghost invariant = { λ s. KeepsPins (arc_value s.map) s.number s.directory s.pinned.items
         × (s.room.items ≡ []) × (vec_len s.pinned ≤ vec_capacity s.room) };
 }
 

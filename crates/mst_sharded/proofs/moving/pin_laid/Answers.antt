@@ -4,8 +4,8 @@ use Rattle.std.specs.List.{AllByRecursion}
 use Rattle.mst_key.specs.History.{after}
 use Rattle.mst_key.specs.Map.{IsMap}
 use Rattle.mst_key.proofs.Alls.{alls-append}
-use Rattle.mst_store.specs.Passes.{Known}
-use Rattle.mst_sharded.specs.Sharding.{AllStep, PinsNow}
+use Rattle.mst_store.specs.Passes.{Known, most_rows}
+use Rattle.mst_sharded.specs.Sharding.{AllStep, PinsNow, HaveFewPairs}
 use Rattle.mst_sharded.proofs.Pins.{all_step_more, all_step_length, moved_on, none_done, all_done}
 use Rattle.mst_sharded.proofs.Shares.{popped_low, popped_own}
 use Rattle.mst_sharded.proofs.moving.pin_laid.Goals as goal
@@ -64,8 +64,7 @@ loop-laid-init g c =
       none_done PinsNow (vec_items c.args.passes) (vec_items c.reverse.new.self)
           (vec_items c.args.room) c.reverse.ensures.items c.requires.empty,
       subst (AllByRecursion (λ (x : Known). IsMap (after x.seen))) (sym c.requires.empty) tt,
-      subst (AllByRecursion (λ (x : Known). length (after x.seen) ≤ 65535))
-          (sym c.requires.empty) tt,
+      subst HaveFewPairs (sym c.requires.empty) tt,
       sym none,
     )
 
@@ -105,10 +104,12 @@ loop-laid-preserved g c =
       subst (AllByRecursion (λ (x : Known). IsMap (after x.seen))) (sym is)
           (alls-append (λ (x : Known). IsMap (after x.seen)) c.loop-laid.pinned.items (q ∷ [])
           was.3 (subst (λ (x : Known). IsMap (after x.seen)) (sym laid) c.pin.ensures.map, tt)),
-      subst (AllByRecursion (λ (x : Known). length (after x.seen) ≤ 65535)) (sym is)
-          (alls-append (λ (x : Known). length (after x.seen) ≤ 65535) c.loop-laid.pinned.items
-          (q ∷ []) was.4
-          (subst (λ (x : Known). length (after x.seen) ≤ 65535) (sym laid) c.pin.ensures.few, tt)),
+      subst HaveFewPairs (sym is)
+          (alls-append (λ (x : Known). length (after x.seen) ≤ most_rows) c.loop-laid.pinned.items
+          (q ∷ []) was.4 (
+            subst (λ (x : Known). length (after x.seen) ≤ most_rows) (sym laid) c.pin.ensures.few,
+            tt,
+          )),
       omega (arith, at, pushed),
     )
 

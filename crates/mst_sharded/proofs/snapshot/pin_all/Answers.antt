@@ -4,8 +4,8 @@ use Rattle.std.specs.List.{AllByRecursion}
 use Rattle.mst_key.specs.History.{after}
 use Rattle.mst_key.specs.Map.{IsMap}
 use Rattle.mst_key.proofs.Alls.{alls-append}
-use Rattle.mst_store.specs.Passes.{Known}
-use Rattle.mst_sharded.specs.Sharding.{AllStep, PinsNow}
+use Rattle.mst_store.specs.Passes.{Known, most_rows}
+use Rattle.mst_sharded.specs.Sharding.{AllStep, PinsNow, HaveFewPairs}
 use Rattle.mst_sharded.proofs.Pins.{all_step_more, moved_on, none_done, all_done}
 use Rattle.mst_sharded.proofs.snapshot.pin_all.Goals as goal
 
@@ -21,8 +21,7 @@ loop-pass-init g c =
       none_done PinsNow (vec_items c.args.passes) (vec_items c.reverse.new.self)
           (vec_items c.args.room) c.reverse.ensures.items c.requires.empty,
       subst (AllByRecursion (λ (x : Known). IsMap (after x.seen))) (sym c.requires.empty) tt,
-      subst (AllByRecursion (λ (x : Known). length (after x.seen) ≤ 65535))
-          (sym c.requires.empty) tt,
+      subst HaveFewPairs (sym c.requires.empty) tt,
     )
 
 pub push_reserved-requires : goal.push_reserved-requires
@@ -56,8 +55,8 @@ loop-pass-preserved g c =
       subst (AllByRecursion (λ (x : Known). IsMap (after x.seen))) (sym is)
           (alls-append (λ (x : Known). IsMap (after x.seen)) c.loop-pass.pinned.items (q ∷ [])
           was.3 (c.pin.ensures.map, tt)),
-      subst (AllByRecursion (λ (x : Known). length (after x.seen) ≤ 65535)) (sym is)
-          (alls-append (λ (x : Known). length (after x.seen) ≤ 65535) c.loop-pass.pinned.items
+      subst HaveFewPairs (sym is)
+          (alls-append (λ (x : Known). length (after x.seen) ≤ most_rows) c.loop-pass.pinned.items
           (q ∷ []) was.4 (c.pin.ensures.few, tt)),
     )
 

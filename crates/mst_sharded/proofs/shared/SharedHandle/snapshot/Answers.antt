@@ -14,15 +14,17 @@ invariant_of-result g c =
     let qs : List Known = vec_items c.pin_laid-pinned.result.0 in
     let pins = c.pin_laid-pinned.ensures in (
       record {
-        splits_are = was.0.splits_are;
-        count = all_step_length PinsNow ps qs pins.pins ∙ was.0.count;
+        sharding_is = record {
+          splits_are = was.0.splits_are;
+          count = all_step_length PinsNow ps qs pins.pins ∙ was.0.count;
+        };
+        maps = pins.maps;
+        few = pins.few;
+        listed = listed_later (arc_value c.self.inside.map).splits c.self.inside.directory ps qs
+            (pins_more ps qs pins.pins) was.1;
+        own = pins_own (arc_value c.self.inside.map).stores ps qs pins.pins was.2;
+        directory = was.3;
       },
-      pins.maps,
-      pins.few,
-      listed_later (arc_value c.self.inside.map).splits c.self.inside.directory ps qs
-          (pins_more ps qs pins.pins) was.1,
-      pins_own (arc_value c.self.inside.map).stores ps qs pins.pins was.2,
-      was.3,
       pins.empty,
       pins.room,
     )

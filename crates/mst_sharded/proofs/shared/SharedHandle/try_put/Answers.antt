@@ -3,39 +3,61 @@ use Rattle.std.specs.Arc.{arc_value}
 use Rattle.std.proofs.lemmas.Result.{IfOk-weaker, IfErr-weaker}
 use Rattle.mst_key.specs.declared.history.Change.TheVariants.{Put}
 use Rattle.mst_key.specs.History.{had}
-use Rattle.mst_store.specs.Passes.{Wrote, Refuses, made_by}
-use Rattle.mst_sharded.specs.Sharding.{Sharding, sharding, Routes}
+use Rattle.mst_store.specs.Passes.{Known, Wrote, Refuses, made_by}
+use Rattle.mst_sharded.specs.Sharding.{Sharding, sharding, place, Routes}
 use Rattle.mst_sharded.proofs.Listed.{tried_more}
-use Rattle.mst_sharded.proofs.Shares.{wrote_own}
-use Rattle.mst_store.specs.Passes.{Known}
-use Rattle.mst_sharded.specs.Sharding.{place}
-use Rattle.mst_sharded.proofs.Shares.{returned, routed}
+use Rattle.mst_sharded.proofs.Shares.{returned, routed, wrote_own}
+use Rattle.mst_sharded.proofs.shared.SharedHandle.try_put.Given.{Over}
 use Rattle.mst_sharded.proofs.shared.SharedHandle.try_put.Goals as goal
+
+-- ---- the pass is laid back after its step
+
+module _ (g : Over) (c : goal.After-lay_at g) where
+  are : c.split_keys.result.now ≡ (arc_value c.self.inside.map).splits
+  are = search rules
+
+  within : c.place_of-place.result ≤ length (arc_value c.self.inside.map).splits
+  within = subst (λ (x : List (List ℕ)). c.place_of-place.result ≤ length x) are
+      c.place_of-place.ensures.within
+
+  count : vec_len c.lift_at-pass.new.laid + 1 ≡ length (vec_items c.self.inside.passes)
+  count = c.lift_at-pass.ensures.len ∙ c.self.inside.passes.ok.0
+
+  again : length (vec_items c.lay_at.new.laid) ≡ vec_len c.lift_at-pass.new.laid + 1
+  again = sym c.lay_at.new.laid.ok.0 ∙ c.lay_at.ensures.len
+
+  routes : (S : Known → Known → Type 0) → S c.lift_at-pass.result c.try_put-put.new.self
+      → Routes c.args.key.now S c.args.self.now
+      (sharding (arc_value c.self.inside.map).splits (vec_items c.lay_at.new.laid))
+  routes S step =
+      let splits : List (List ℕ) = (arc_value c.self.inside.map).splits in
+      let zs : List Known = vec_items c.lay_at.new.laid in
+      subst (λ (h : Sharding). Routes c.args.key.now S h (sharding splits zs)) c.self.view_is
+      (routed splits c.args.key.now S (vec_items c.self.inside.passes)
+      (vec_items c.lift_at-pass.new.laid) zs c.place_of-place.result
+      (vec_len c.lift_at-pass.new.laid) c.lift_at-pass.result c.try_put-put.new.self
+      c.self.invariant.0 within
+      (c.place_of-place.ensures.place ∙ ap (λ (x : List (List ℕ)). place x c.args.key.now) are)
+      c.lift_at-pass.ensures.pass c.lift_at-pass.ensures.left count again c.lay_at.ensures.back
+      step)
 
 pub invariant_of-self : goal.invariant_of-self
 invariant_of-self g c =
     let was = c.self.invariant in
-    let splits : List (List ℕ) = (arc_value c.self.inside.map).splits in
-    let ps : List Known = vec_items c.self.inside.passes in
-    let ys : List Known = vec_items c.lift_at-pass.new.laid in
-    let zs : List Known = vec_items c.lay_at.new.laid in
-    let i : ℕ = c.place_of-place.result in
-    let n : ℕ = vec_len c.lift_at-pass.new.laid in
-    let p : Known = c.lift_at-pass.result in
-    let q : Known = c.try_put-put.new.self in
-    let are : c.split_keys.result.now ≡ (arc_value c.self.inside.map).splits = search rules in
-    let within : i ≤ length splits =
-    subst (λ (x : List (List ℕ)). i ≤ length x) are c.place_of-place.ensures.within in
-    let count : n + 1 ≡ length ps = c.lift_at-pass.ensures.len ∙ c.self.inside.passes.ok.0 in
-    let again : length zs ≡ n + 1 = sym c.lay_at.new.laid.ok.0 ∙ c.lay_at.ensures.len in
-    let kept = returned splits (arc_value c.self.inside.map).stores c.self.inside.directory ps ys
-    zs i n p q was.0 was.1 was.2 within c.lift_at-pass.ensures.pass c.lift_at-pass.ensures.left
-    count again c.lay_at.ensures.back
-    (tried_more c.try_put-put.result (Put c.args.key.now c.args.value.now) p q
-    c.try_put-put.ensures.ok
-    c.try_put-put.ensures.err)
-    (wrote_own c.try_put-put.result (Put c.args.key.now c.args.value.now) p q
+    let kept = returned (arc_value c.self.inside.map).splits (arc_value c.self.inside.map).stores
+    c.self.inside.directory (vec_items c.self.inside.passes) (vec_items c.lift_at-pass.new.laid)
+    (vec_items c.lay_at.new.laid) c.place_of-place.result (vec_len c.lift_at-pass.new.laid)
+    c.lift_at-pass.result c.try_put-put.new.self was.0 was.1 was.2 (within g c)
+    c.lift_at-pass.ensures.pass c.lift_at-pass.ensures.left (count g c) (again g c)
+    c.lay_at.ensures.back
+    (tried_more c.try_put-put.result (Put c.args.key.now c.args.value.now) c.lift_at-pass.result
+    c.try_put-put.new.self
+    c.try_put-put.ensures.ok c.try_put-put.ensures.err)
+    (wrote_own c.try_put-put.result (Put c.args.key.now c.args.value.now) c.lift_at-pass.result
+    c.try_put-put.new.self
     c.try_put-put.ensures.ok c.try_put-put.ensures.err) in
+    let taken = count g c in
+    let back = again g c in
     let before = c.self.inside.passes.ok.0 in
     let now = c.lay_at.new.laid.ok.0 in
     let room = was.5 in (
@@ -44,62 +66,24 @@ invariant_of-self g c =
       kept.own,
       was.3,
       was.4,
-      omega (arith, count, again, before, now, room),
+      omega (arith, taken, back, before, now, room),
     )
 
 pub returns-clause-ok : goal.returns-clause-ok
 returns-clause-ok g c =
-    let was = c.self.invariant in
-    let splits : List (List ℕ) = (arc_value c.self.inside.map).splits in
-    let ps : List Known = vec_items c.self.inside.passes in
-    let ys : List Known = vec_items c.lift_at-pass.new.laid in
-    let zs : List Known = vec_items c.lay_at.new.laid in
-    let i : ℕ = c.place_of-place.result in
-    let n : ℕ = vec_len c.lift_at-pass.new.laid in
     let p : Known = c.lift_at-pass.result in
-    let q : Known = c.try_put-put.new.self in
-    let are : c.split_keys.result.now ≡ (arc_value c.self.inside.map).splits = search rules in
-    let within : i ≤ length splits =
-    subst (λ (x : List (List ℕ)). i ≤ length x) are c.place_of-place.ensures.within in
-    let count : n + 1 ≡ length ps = c.lift_at-pass.ensures.len ∙ c.self.inside.passes.ok.0 in
-    let again : length zs ≡ n + 1 = sym c.lay_at.new.laid.ok.0 ∙ c.lay_at.ensures.len in
-    let at : i ≡ place splits c.args.key.now = c.place_of-place.ensures.place
-    ∙ ap (λ (x : List (List ℕ)). place x c.args.key.now) are in
     IfOk-weaker c.try_put-put.result
-    (λ old. Wrote (made_by p (Put c.args.key.now c.args.value.now)) p (had old) q) _
-    (λ old wrote. subst (λ (h : Sharding). Routes c.args.key.now
-    (λ x y. Wrote (made_by x (Put c.args.key.now c.args.value.now)) x (had old) y) h
-    (sharding splits zs)) c.self.view_is
-    (routed splits c.args.key.now
-    (λ x y. Wrote (made_by x (Put c.args.key.now c.args.value.now)) x (had old) y) ps ys zs i n
-    p q
-    was.0 within at c.lift_at-pass.ensures.pass c.lift_at-pass.ensures.left count again
-    c.lay_at.ensures.back wrote)) c.try_put-put.ensures.ok
+    (λ old. Wrote (made_by p (Put c.args.key.now c.args.value.now)) p (had old)
+    c.try_put-put.new.self) _
+    (λ old wrote. routes g c
+    (λ x y. Wrote (made_by x (Put c.args.key.now c.args.value.now)) x (had old) y)
+    wrote) c.try_put-put.ensures.ok
 
 pub returns-clause-err : goal.returns-clause-err
 returns-clause-err g c =
-    let was = c.self.invariant in
-    let splits : List (List ℕ) = (arc_value c.self.inside.map).splits in
-    let ps : List Known = vec_items c.self.inside.passes in
-    let ys : List Known = vec_items c.lift_at-pass.new.laid in
-    let zs : List Known = vec_items c.lay_at.new.laid in
-    let i : ℕ = c.place_of-place.result in
-    let n : ℕ = vec_len c.lift_at-pass.new.laid in
-    let p : Known = c.lift_at-pass.result in
-    let q : Known = c.try_put-put.new.self in
-    let are : c.split_keys.result.now ≡ (arc_value c.self.inside.map).splits = search rules in
-    let within : i ≤ length splits =
-    subst (λ (x : List (List ℕ)). i ≤ length x) are c.place_of-place.ensures.within in
-    let count : n + 1 ≡ length ps = c.lift_at-pass.ensures.len ∙ c.self.inside.passes.ok.0 in
-    let again : length zs ≡ n + 1 = sym c.lay_at.new.laid.ok.0 ∙ c.lay_at.ensures.len in
-    let at : i ≡ place splits c.args.key.now = c.place_of-place.ensures.place
-    ∙ ap (λ (x : List (List ℕ)). place x c.args.key.now) are in
     IfErr-weaker c.try_put-put.result
-    (λ fault. Refuses fault (Put c.args.key.now c.args.value.now) p q) _
-    (λ fault refused. subst (λ (h : Sharding). Routes c.args.key.now
-    (λ x y. Refuses fault (Put c.args.key.now c.args.value.now) x y) h (sharding splits zs))
-    c.self.view_is
-    (routed splits c.args.key.now (λ x y. Refuses fault (Put c.args.key.now c.args.value.now) x y)
-    ps ys zs i n p q
-    was.0 within at c.lift_at-pass.ensures.pass c.lift_at-pass.ensures.left count again
-    c.lay_at.ensures.back refused)) c.try_put-put.ensures.err
+    (λ fault. Refuses fault (Put c.args.key.now c.args.value.now) c.lift_at-pass.result
+    c.try_put-put.new.self) _
+    (λ fault refused. routes g c (λ x y. Refuses fault (Put c.args.key.now c.args.value.now) x y)
+    refused)
+    c.try_put-put.ensures.err

@@ -2,7 +2,7 @@ use Rattle.std.proofs.Common.{rules}
 use Rattle.mst_key.specs.History.{done}
 use Rattle.mst_sharded.proofs.Only.{batch_becomes}
 use Rattle.mst_sharded.proofs.Refused.{batch_spent, batch_memory, batch_room}
-use Rattle.mst_sharded.proofs.directory.apply.Goals as goal
+use Rattle.mst_sharded.proofs.directory.apply_all.Goals as goal
 
 pub unreachable-requires-in-Err-NoRoom : goal.unreachable-requires-in-Err-NoRoom
 unreachable-requires-in-Err-NoRoom g c =
