@@ -5,17 +5,14 @@ use crate::stores::{all_well, one_pass, opened, tell};
 use crate::words::Calls;
 use crate::{calls, kinds};
 use mst_key::{Format, Key};
-use mst_store::{Pass, Shape};
+use mst_store::{MOST_ROWS, Pass, Shape};
 use std::alloc::Global;
 use std::io;
-
-/// The most rows that a store has.
-const ROWS: u32 = 65_535;
 
 /// A store of one pass.
 pub fn shape(format: Format) -> Shape {
     Shape {
-        rows: ROWS,
+        rows: MOST_ROWS,
         passes: 1,
         format,
     }

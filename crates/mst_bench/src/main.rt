@@ -12,6 +12,7 @@
 #![tactic(auto)]
 
 ghost use Rattle.std.specs.Prelude.{◌<◌, ◌≤◌, IfOk, length};
+ghost use Rattle.mst_store.specs.Passes.{most_rows};
 
 mod alone;
 mod batches;
@@ -24,6 +25,7 @@ mod stores;
 mod words;
 
 use mst_key::Key;
+use mst_store::MOST_ROWS;
 use std::alloc::Global;
 use std::io;
 use words::{Calls, HELP, Loads, ShardedCalls, Task};
@@ -31,9 +33,9 @@ use words::{Calls, HELP, Loads, ShardedCalls, Task};
 // The keys, of which there are at least one, and at most as many as a store has rows.
 fn some(keys: Vec<Key>) -> io::Result<Vec<Key>>
     ensures some { IfOk result (λ keys. 0 < length keys.items) }
-    ensures few { IfOk result (λ keys. length keys.items ≤ 65535) }
+    ensures few { IfOk result (λ keys. length keys.items ≤ most_rows) }
 {
-    if keys.is_empty() || keys.len() > 65_535 {
+    if keys.is_empty() || keys.len() > MOST_ROWS as usize {
         return Err(io::ErrorKind::InvalidInput.into());
     }
     Ok(keys)
@@ -42,7 +44,7 @@ fn some(keys: Vec<Key>) -> io::Result<Vec<Key>>
 // The keys of the numbers below `count`.
 fn some_keys(alloc: Global, count: u32) -> io::Result<Vec<Key>>
     ensures some { IfOk result (λ keys. 0 < length keys.items) }
-    ensures few { IfOk result (λ keys. length keys.items ≤ 65535) }
+    ensures few { IfOk result (λ keys. length keys.items ≤ most_rows) }
 {
     some(keys::keys(alloc, count)?)
 }

@@ -2,6 +2,7 @@
 //! stores, and puts into a store with the pairs of a directory.
 ghost use Rattle.std.specs.Prelude.{◌≡◌, ◌<◌, ◌≤◌, IfOk, length};
 ghost use Rattle.mst_sharded.specs.Opening.{seats_of};
+ghost use Rattle.mst_store.specs.Passes.{most_rows};
 
 use crate::calls::{FIRST_NEW_VALUE, picked};
 use crate::keys::{listing, value};
@@ -105,7 +106,7 @@ fn opened(
     keys: &[Key],
     format: Format,
 ) -> io::Result<(Sharded<Global>, AllSeats<Global>)>
-    requires few { length keys.now ≤ 65535 }
+    requires few { length keys.now ≤ most_rows }
     ensures own { IfOk result (λ opened. opened.1 ≡ seats_of opened.0) }
 {
     let shape = Shape {
@@ -244,7 +245,7 @@ fn make_filled(
 // Makes calls of one kind of a sharded map.
 fn run_handle(rt: &HostRuntime, keys: &[Key], of: ShardedCalls) -> io::Result<()>
     requires some { 0 < length keys.now }
-    requires few { length keys.now ≤ 65535 }
+    requires few { length keys.now ≤ most_rows }
 {
     let (sharded, seats) = opened(rt.alloc(), keys, of.format)?;
     let handle = one_handle(rt.alloc(), &sharded, seats)?;
@@ -344,7 +345,7 @@ fn run_listings(rt: &HostRuntime, keys: &[Key], of: ShardedCalls) -> io::Result<
 /// Puts all keys, which rise, and makes calls of one kind.
 pub fn run(rt: &HostRuntime, keys: &[Key], of: ShardedCalls) -> io::Result<()>
     requires some { 0 < length keys.now }
-    requires few { length keys.now ≤ 65535 }
+    requires few { length keys.now ≤ most_rows }
 {
     match of.kind {
         Kind::GetOfPasses => run_passes(rt, keys, of),

@@ -1,25 +1,19 @@
 -- The handles that a sharded map deals, by their places.
-use Rattle.std.proofs.Common.{◌≡◌, ◌≢◌, ℕ, zero, suc, ◌+◌, ◌<◌, List, [], ◌∷◌, ◌++◌, length, length-append, get_or, refl, ap, ◌∙◌, arith}
+use Rattle.std.proofs.Common.{◌≡◌, ◌≢◌, ℕ, zero, suc, ◌+◌, ◌<◌, List, [], ◌∷◌, ◌++◌, length, get_or, ap, ◌∙◌, arith}
 use Rattle.std.proofs.lemmas.List.{get_or-append-add}
 use Rattle.std.proofs.Math.ListN.{get_or-append}
 use mathlib.Core.Logic.{dite}
 use native.Mathlib.Decide.{ℕ_discrete}
 use Rattle.mst_sharded.specs.Opening.{Shards, new_handle, first_handles, new_handles}
 use Rattle.mst_sharded.specs.Sharding.{Sharding}
-
-first_length : (s : Shards) (n : ℕ) → length (first_handles s n) ≡ n
-first_length s zero = refl
-first_length s (suc n) = let e : length (first_handles s n) ≡ n = first_length s n in
-    let a : length (first_handles s n ++ new_handle s (suc n) ∷ [])
-    ≡ length (first_handles s n) + 1 =
-    length-append (first_handles s n) (new_handle s (suc n) ∷ []) in omega (arith, e, a)
+use Rattle.mst_sharded.proofs.Dealing.{length-first_handles}
 
 first_at : (s : Shards) (n k : ℕ) (d : Sharding) → k < n
     → get_or (first_handles s n) k d ≡ new_handle s (k + 1)
 first_at s zero k d below = absurd (omega (arith, below))
 first_at s (suc n) k d below =
     let hs : List Sharding = first_handles s n in let h : Sharding = new_handle s (suc n) in
-    let e : length hs ≡ n = first_length s n in dite (ℕ_discrete k n)
+    let e : length hs ≡ n = length-first_handles s n in dite (ℕ_discrete k n)
     (λ (is : k ≡ n). let at : k ≡ length hs + 0 = omega (arith, is, e) in let next : suc n ≡ k + 1 =
     omega (arith, is) in
     ap (λ (j : ℕ). get_or (hs ++ h ∷ []) j d) at ∙ get_or-append-add hs (h ∷ []) 0 d
@@ -30,7 +24,7 @@ first_at s (suc n) k d below =
 
 -- there is one for each directory
 pub dealt_length : (s : Shards) → length (new_handles s) ≡ length s.directories
-dealt_length s = first_length s (length s.directories)
+dealt_length s = length-first_handles s (length s.directories)
 
 -- each handle that was dealt has its number
 pub dealt_at : (s : Shards) (hs : List Sharding) (k : ℕ) (d : Sharding) → hs ≡ new_handles s

@@ -1,22 +1,14 @@
 -- A script over a new sharded map.
-use Rattle.std.proofs.Common.{◌≡◌, ℕ, zero, suc, ◌≤◌, List, [], ◌∷◌, length, length-append, refl, ap, subst, arith}
+use Rattle.std.proofs.Common.{◌≡◌, ℕ, ◌≤◌, List, length, ap, subst, arith}
 use Rattle.std.proofs.lemmas.List.{length-map}
 use Rattle.mst_words.specs.declared.view.Shape.{Shape}
 use Rattle.mst_lines.specs.Runs.{Stopped}
 use Rattle.mst_sharded.specs.Sharding.{Sharding}
-use Rattle.mst_sharded.specs.Opening.{Shards, first_handles, new_handle, new_handles}
+use Rattle.mst_sharded.specs.Opening.{Shards, new_handles}
+use Rattle.mst_sharded.proofs.Dealing.{length-first_handles}
 use Rattle.mst_sharded_script.specs.States.{State, Free, are_free}
 use Rattle.mst_sharded_script.specs.Serving.{Serves}
 use Rattle.mst_command.specs.Programs.{IsOpened, BrokeSharded}
-
--- ---- its handles
-
-length-first_handles : (s : Shards) (n : ℕ) → length (first_handles s n) ≡ n
-length-first_handles s zero = refl
-length-first_handles s (suc n) =
-    let more = length-append (first_handles s n) (new_handle s (suc n) ∷ []) in
-    let before = length-first_handles s n in
-    omega (arith, more, before)
 
 pub few_handles : (shape : Shape) (word : List ℕ) (shards : Shards) (states : List State)
     → IsOpened shape word shards → states ≡ are_free (new_handles shards) → length states ≤ 32

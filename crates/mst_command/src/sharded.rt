@@ -1,5 +1,5 @@
 //! A script over a sharded map.
-ghost use Rattle.std.specs.Prelude.{◌≡◌, ◌<◌, ◌-◌, ◌+◌, ◌^◌, ◌↔◌, true, OnOk, IfOk, IfErr, IsErrOf};
+ghost use Rattle.std.specs.Prelude.{◌≡◌, ◌<◌, ◌-◌, ◌+◌, ◌^◌, ◌↔◌, OnOk, IfOk, IfErr, IsErrOf};
 ghost use Rattle.mst_store.specs.Passes.{IsShape};
 ghost use Rattle.mst_sharded_script.specs.States.{are_free};
 ghost use Rattle.mst_sharded.specs.Opening.{seats_of, new_handles};
@@ -14,15 +14,8 @@ use mst_key::Memory;
 use mst_script::RunFault;
 use mst_sharded::{AllSeats, Sharded, ShardsFault};
 use mst_sharded_script::{HandleState, run, states_of};
-use mst_store::Shape;
+use mst_store::{Shape, is_shape};
 use std::alloc::Allocator;
-
-// Whether a store of a shard may have this shape.
-fn is_shape(shape: Shape) -> bool
-    ensures { (result ≡ true) ↔ IsShape shape }
-{
-    (4..=65_535).contains(&shape.rows) && (1..=32).contains(&shape.passes)
-}
 
 // Opens a sharded map with the splits that the word spells.
 fn open_at<A: Allocator + Copy>(

@@ -2,7 +2,7 @@
 use crate::sharing::one_pass;
 use anyhow::Result;
 use mst_key::{Edit, Format, Key, Value};
-use mst_store::{Pass, Pinned, Shape, Store};
+use mst_store::{MOST_ROWS, Pass, Pinned, Shape, Store};
 use std::alloc::Global;
 
 const SHAPE: Shape = Shape {
@@ -34,7 +34,7 @@ fn add_puts(
     theirs: &mut Pinned<'_, Global>,
     edits: &mut Vec<Edit>,
 ) -> Result<()> {
-    for (key, value) in theirs.range(alloc, None, None, 65_535)? {
+    for (key, value) in theirs.range(alloc, None, None, MOST_ROWS as usize)? {
         if ours.get(&key) != Some(value.copy()) {
             edits.push(Edit::Put(key, value))?;
         }
@@ -49,7 +49,7 @@ fn add_removes(
     theirs: &mut Pinned<'_, Global>,
     edits: &mut Vec<Edit>,
 ) -> Result<()> {
-    for (key, _) in ours.range(alloc, None, None, 65_535)? {
+    for (key, _) in ours.range(alloc, None, None, MOST_ROWS as usize)? {
         if theirs.get(&key).is_none() {
             edits.push(Edit::Remove(key))?;
         }

@@ -2,7 +2,7 @@
 use crate::sharing::{one_pass, put_each};
 use anyhow::Result;
 use mst_key::{Format, Key};
-use mst_store::{Pass, Pinned, Shape, Store};
+use mst_store::{MOST_ROWS, Pass, Pinned, Shape, Store};
 use std::alloc::Global;
 use std::str;
 
@@ -26,7 +26,7 @@ fn tell_differing(
     one: &mut Pinned<'_, Global>,
     other: &mut Pinned<'_, Global>,
 ) -> Result<()> {
-    for (key, value) in one.range(rt.alloc(), None, None, 65_535)? {
+    for (key, value) in one.range(rt.alloc(), None, None, MOST_ROWS as usize)? {
         if other.get(&key) != Some(value) {
             tell_key(rt, name, &key)?;
         }

@@ -23,7 +23,8 @@ use Rattle.mst_load.specs.Reports.{HasSettled}
 use Rattle.mst_load.specs.Workers.{HasPut, MadePuts, HasWorked, HasAllCalls}
 use Rattle.mst_load.proofs.Counting.{by_all, to_all, nat_stable, all_events}
 use Rattle.mst_load.proofs.FewKeys.{is_call, AreCalls, few_pairs, each_few}
-use Rattle.mst_load.proofs.FewRows.{few_new, held_few}
+use Rattle.mst_versions.proofs.FewRows.{few_new}
+use Rattle.mst_load.proofs.FewRows.{held_few}
 use Rattle.mst_load.proofs.Kept.{each_of, pass_at}
 use Rattle.mst_load.proofs.Merged.{log, none, in_range, each_counted, few_puts}
 use Rattle.mst_load.proofs.Working.{put_same}

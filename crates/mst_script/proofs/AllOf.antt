@@ -1,43 +1,18 @@
 -- All passes of one store: so they are when they are dealt, and so they stay.
-use Rattle.std.proofs.Common.{◌≡◌, ℕ, zero, suc, ◌<◌, ◌≤◌, ◌≢◌, List, [], ◌∷◌, ◌++◌, append-nil, map, sym, refl, ap, ◌∙◌, subst, arith}
+use Rattle.std.proofs.Common.{◌≡◌, ℕ, zero, suc, List, [], ◌∷◌, ◌++◌, append-nil, map, sym, refl, ap, ◌∙◌, subst, arith}
 use Rattle.std.specs.List.{All, Contains}
 use Rattle.std.specs.List.Sorted.{IsPermutation}
-use Rattle.std.proofs.lemmas.List.Elements.{All-append, All-cons, All-head, All-tail, All-map, Contains-append_left, Contains-append_right}
+use Rattle.std.proofs.lemmas.List.Elements.{All-append, All-cons, All-head, All-tail, All-map}
 use Rattle.std.proofs.lemmas.List.Sorted.{IsPermutation-map, IsPermutation-sym, All-permutation, Contains-permutation}
-use mathlib.Core.Logic.{dite}
-use native.Mathlib.Decide.{ℕ_discrete}
 use Rattle.mst_key.specs.History.{History}
 use Rattle.mst_store.specs.Passes.{StoreId, Known, IsSamePass, having_asked, new_pass, first_passes, new_passes}
 use Rattle.mst_store.specs.Settling.{numbers, having_seen, AreAllPasses, Settled}
+use Rattle.mst_store.proofs.AllPasses.{first_stores, numbers-append, first_numbers, all_of_front, all_of_back}
 use Rattle.mst_script.specs.Serving.{AreAllOf, Roster, everyone}
-use Rattle.mst_script.proofs.Lines.{front_of, back_of}
-
-lone : (s : StoreId) (p : Known) → p.store ≡ s → All (λ q. q.store ≡ s) (p ∷ [])
-lone s p is zero d l = is
-lone s p is (suc k) d l = absurd (omega arith)
 
 lone_mine : (p : Known) → p.mine ≡ [] → All (λ q. q.mine ≡ []) (p ∷ [])
 lone_mine p is zero d l = is
 lone_mine p is (suc k) d l = absurd (omega arith)
-
-first_stores : (s : StoreId) (n : ℕ) → All (λ p. p.store ≡ s) (first_passes s n)
-first_stores s zero k d l = absurd (omega arith)
-first_stores s (suc n) k d l = All-append (λ (p : Known). p.store ≡ s) (first_passes s n)
-    (new_pass s (suc n) ∷ []) (first_stores s n) (lone s (new_pass s (suc n)) refl) k d l
-
-pub numbers-append : (ps qs : List Known) → numbers (ps ++ qs) ≡ numbers ps ++ numbers qs
-numbers-append [] qs = refl
-numbers-append (p ∷ ps) qs = ap (λ (l : List ℕ). p.number ∷ l) (numbers-append ps qs)
-
-first_numbers : (s : StoreId) (n k : ℕ) → 0 < k → k ≤ n → Contains (numbers (first_passes s n)) k
-first_numbers s zero k low high = absurd (omega arith)
-first_numbers s (suc n) k low high =
-    subst (λ (l : List ℕ). Contains l k)
-    (sym (numbers-append (first_passes s n) (new_pass s (suc n) ∷ []))) (dite (ℕ_discrete k (suc n))
-    (λ (is : k ≡ suc n). Contains-append_right (numbers (first_passes s n)) (suc n ∷ []) k
-    (0, omega arith, sym is))
-    (λ (other : k ≢ suc n). Contains-append_left (numbers (first_passes s n)) (suc n ∷ []) k
-    (first_numbers s n k low (omega (arith, other)))))
 
 first_mine : (s : StoreId) (n : ℕ) → All (λ p. p.mine ≡ []) (first_passes s n)
 first_mine s zero k d l = absurd (omega arith)
@@ -107,10 +82,10 @@ all_settled s r t st w = record {
   of_one = All-append (λ (p : Known). p.store ≡ s) t.free t.pinned
       (subst (All (λ p. p.store ≡ s)) (sym st.now)
       (All-map (λ (p : Known). p.store ≡ s) (having_seen st.log) r.free
-      (front_of (λ (p : Known). p.store ≡ s) r.free r.pinned w.of_one)))
+      (all_of_front (λ (p : Known). p.store ≡ s) r.free r.pinned w.of_one)))
       (subst (All (λ p. p.store ≡ s)) (sym st.still)
       (All-map (λ (p : Known). p.store ≡ s) (having_asked 3) r.pinned
-      (back_of (λ (p : Known). p.store ≡ s) r.free r.pinned w.of_one)));
+      (all_of_back (λ (p : Known). p.store ≡ s) r.free r.pinned w.of_one)));
   complete = λ n low high. subst (λ (l : List ℕ). Contains l n)
       (sym (settled_numbers r.free r.pinned t.free t.pinned st)) (w.complete n low high);
 }

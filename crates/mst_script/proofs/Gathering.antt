@@ -11,7 +11,7 @@ use Rattle.mst_key.proofs.HistoryLaws.{events_of-append, IsPrefix-nil, IsPrefix-
 use Rattle.mst_store.specs.Passes.{Known, Looks}
 use Rattle.mst_store.specs.Settling.{numbers, IsOfOne}
 use Rattle.mst_script.specs.Serving.{Gathers, SawItself, Turn}
-use Rattle.mst_script.proofs.Lines.{front_of, back_of}
+use Rattle.mst_store.proofs.AllPasses.{all_of_front, all_of_back}
 
 pub gathers_moved : (h : History) (ps qs : List Known) → IsPermutation ps qs → Gathers h ps
     → Gathers h qs
@@ -113,7 +113,7 @@ ends_there ps s h b seen itself g =
     let none : All (λ p. HasNone b.0 p.number) ps = λ k d l. none_behind (get_or ps k d) s h b
     (seen k d l) (itself k d l) (g.own k d l) in
     b.1 ∙ ap (λ (l : History). s ++ l)
-    (nobody ps b.0 (back_of (IsOfOne ps) s b.0 (subst (All (IsOfOne ps)) b.1 g.alone)) none)
+    (nobody ps b.0 (all_of_back (IsOfOne ps) s b.0 (subst (All (IsOfOne ps)) b.1 g.alone)) none)
     ∙ append-nil s
 
 -- two histories that gather the same passes are one
@@ -177,10 +177,10 @@ turned os p q g h log t saw seen turn met =
     let ps : List Known = q ∷ os in
     let alone : All (IsOfOne ps) (((g ++ r) ++ t) ++ s) = subst (All (IsOfOne ps)) h_is met.alone in
     let r_none : r ≡ [] =
-    nobody ps r (back_of (IsOfOne ps) g r
-    (front_of (IsOfOne ps) (g ++ r) t (front_of (IsOfOne ps) ((g ++ r) ++ t) s alone)))
+    nobody ps r (all_of_back (IsOfOne ps) g r
+    (all_of_front (IsOfOne ps) (g ++ r) t (all_of_front (IsOfOne ps) ((g ++ r) ++ t) s alone)))
     (λ k e m. (none k e m).0) in
-    let s_none : s ≡ [] = nobody ps s (back_of (IsOfOne ps) ((g ++ r) ++ t) s alone)
+    let s_none : s ≡ [] = nobody ps s (all_of_back (IsOfOne ps) ((g ++ r) ++ t) s alone)
     (λ k e m. (none k e m).1) in (
       log_is ∙ ap (λ (x : History). g ++ x) r_none ∙ append-nil g,
       h_is ∙ ap (λ (x : History). ((g ++ r) ++ t) ++ x) s_none ∙ append-nil ((g ++ r) ++ t)

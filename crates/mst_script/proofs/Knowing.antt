@@ -11,8 +11,8 @@ use native.Mathlib.Decide.{ℕ_discrete}
 use Rattle.mst_store.specs.Passes.{Known, having_asked}
 use Rattle.mst_store.specs.Settling.{numbers}
 use Rattle.mst_script.specs.Serving.{KnowsPins, IsNowhere, SawItself}
-use Rattle.mst_script.proofs.Lines.{front_of, back_of}
-use Rattle.mst_script.proofs.AllOf.{numbers-append, asked_numbers}
+use Rattle.mst_store.proofs.AllPasses.{numbers-append, all_of_front, all_of_back}
+use Rattle.mst_script.proofs.AllOf.{asked_numbers}
 
 -- what the pins are when the pass n pins this version, or none
 abbrev pub pinned_now : ℕ → Option ℕ → (ℕ → Option ℕ) → ℕ → Option ℕ
@@ -117,11 +117,11 @@ knows_pin pinned passes n q k nowhere number itself = let now =
     }
   where
     front_nowhere : (j : ℕ) → IsNowhere (passes ++ q ∷ []) j → IsNowhere passes j
-    front_nowhere j a = front_of (λ (x : Known). x.number ≢ j) passes (q ∷ []) a
+    front_nowhere j a = all_of_front (λ (x : Known). x.number ≢ j) passes (q ∷ []) a
 
     back_other : (j : ℕ) → IsNowhere (passes ++ q ∷ []) j → q.number ≢ j
     back_other j a = All-head (λ (x : Known). x.number ≢ j) q []
-        (back_of (λ (x : Known). x.number ≢ j) passes (q ∷ []) a)
+        (all_of_back (λ (x : Known). x.number ≢ j) passes (q ∷ []) a)
 
     other_pins : (j : ℕ) → IsNowhere (passes ++ q ∷ []) j → pinned_now n (Some (length q.seen))
         pinned

@@ -18,7 +18,8 @@ use Rattle.mst_requests.specs.Grammar.{asked}
 use Rattle.mst_requests.specs.Texts.{line_of, pinned_words}
 use Rattle.mst_script.specs.Machine.{Machine, with_pin, Acts, FreeStep, Recalls, PinnedStep, StepOf, Step, AnswersRequest}
 use Rattle.mst_script.specs.Serving.{AreAllOf, Roster, everyone, IsNowhere, KnowsPins, Shows, is_pin, is_unpin, Serves, Does, IsPlace, AsksFree, AsksPinned, Pins, Unpins}
-use Rattle.mst_script.proofs.Lines.{front_of, back_of, others_at, moved_back, now_back, moved_front, now_front}
+use Rattle.mst_store.proofs.AllPasses.{all_of_front, all_of_back}
+use Rattle.mst_script.proofs.Lines.{others_at, moved_back, now_back, moved_front, now_front}
 use Rattle.mst_script.proofs.AllOf.{all_moved, all_changed}
 use Rattle.mst_script.proofs.Gathering.{gathers_moved, turned, looked}
 use Rattle.mst_script.proofs.Knowing.{knows_pin, knows_unpin}
@@ -101,7 +102,7 @@ does_ask store n command r s place text all at nowhere other a = λ m shows t st
     (gathers_moved st.log (everyone s) (a.q ∷ o.0) o.2 (settled_gathers s t st)) in
     let new : Machine = record { history = m.history ++ a.asked.t; pinned = m.pinned } in
     let of_store : a.p.store ≡ store = ap (λ (x : Known). x.store) (sym (a.here a.p))
-    ∙ front_of (λ (x : Known). x.store ≡ store) r.free r.pinned all.of_one place a.p at.0 in
+    ∙ all_of_front (λ (x : Known). x.store ≡ store) r.free r.pinned all.of_one place a.p at.0 in
     let of_number : a.p.number ≡ n = ap (λ (x : Known). x.number) (sym (a.here a.p)) ∙ at.1 a.p in
     let now : a.q.seen ≡ new.history = turn.seen ∙ ap (λ (x : History). x ++ a.asked.t) both.0 in
     let acts = acts_there store n command text a.p a.q a.asked.log m.history new.history of_store
@@ -146,8 +147,8 @@ pinned_at m r n place p shows at here =
           ∙ ap (λ (x : Known). Some (length x.seen)) here,
       number,
       subst (λ (x : Known). IsPrefix x.seen m.history) here
-          (back_of (λ (x : Known). IsPrefix x.seen m.history) r.free r.pinned shows.gathered.later
-          place p at.0),
+          (all_of_back (λ (x : Known). IsPrefix x.seen m.history) r.free r.pinned
+          shows.gathered.later place p at.0),
     )
 
 pub all_recalled : (store : StoreId) (command : Command) (r s : Roster) (place : ℕ) (text : List ℕ)
@@ -164,7 +165,7 @@ does_recall store n command r s place text all at other a = λ m shows t st.
     subst (λ (x : Roster). IsPermutation (everyone r) (everyone x)) (sym a.same)
     (IsPermutation-refl (everyone r)) in
     let of_store : a.p.store ≡ store = ap (λ (x : Known). x.store) (sym (a.here a.p))
-    ∙ back_of (λ (x : Known). x.store ≡ store) r.free r.pinned all.of_one place a.p at.0 in
+    ∙ all_of_back (λ (x : Known). x.store ≡ store) r.free r.pinned all.of_one place a.p at.0 in
     let seen = take (length a.p.seen) m.history in
     let recalls : Recalls command (format_after store.format seen) (after seen) text =
     subst (λ (h : History). Recalls command (format_after store.format h) (after h) text)

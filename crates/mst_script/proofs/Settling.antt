@@ -10,7 +10,7 @@ use Rattle.mst_store.specs.Passes.{Known, having_asked}
 use Rattle.mst_store.specs.Settling.{having_seen, Settled}
 use Rattle.mst_script.specs.Machine.{Machine}
 use Rattle.mst_script.specs.Serving.{Gathers, Roster, everyone, SawItself, KnowsPins, Shows}
-use Rattle.mst_script.proofs.Lines.{front_of, back_of}
+use Rattle.mst_store.proofs.AllPasses.{all_of_front, all_of_back}
 use Rattle.mst_script.proofs.AllOf.{settled_numbers}
 use Rattle.mst_script.proofs.Gathering.{gathers_moved, one_history}
 use Rattle.mst_script.proofs.Knowing.{knows_asked}
@@ -29,14 +29,14 @@ gathers_settled s t st = record {
       (λ k d l. IsPrefix-itself st.log)))
       (subst (All (λ p. IsPrefix p.seen st.log)) (sym st.still)
       (All-map (λ (p : Known). IsPrefix p.seen st.log) (having_asked 3) s.pinned
-      (back_of (λ (p : Known). IsPrefix p.seen st.log) s.free s.pinned st.later)));
+      (all_of_back (λ (p : Known). IsPrefix p.seen st.log) s.free s.pinned st.later)));
   own = All-append (λ (p : Known). events_of p.number st.log ≡ p.mine) t.free t.pinned
       (subst (All (λ p. events_of p.number st.log ≡ p.mine)) (sym st.now)
       (All-map (λ (p : Known). events_of p.number st.log ≡ p.mine) (having_seen st.log) s.free
-      (front_of (λ (p : Known). events_of p.number st.log ≡ p.mine) s.free s.pinned st.own)))
+      (all_of_front (λ (p : Known). events_of p.number st.log ≡ p.mine) s.free s.pinned st.own)))
       (subst (All (λ p. events_of p.number st.log ≡ p.mine)) (sym st.still)
       (All-map (λ (p : Known). events_of p.number st.log ≡ p.mine) (having_asked 3) s.pinned
-      (back_of (λ (p : Known). events_of p.number st.log ≡ p.mine) s.free s.pinned st.own)));
+      (all_of_back (λ (p : Known). events_of p.number st.log ≡ p.mine) s.free s.pinned st.own)));
   alone = λ k d l. subst (λ (ns : List ℕ). Contains ns (get_or st.log k d).pass)
       (sym (settled_numbers s.free s.pinned t.free t.pinned st)) (st.alone k d l);
 }
@@ -54,7 +54,7 @@ shows_settled m s t st is k = record {
 pub all_itself : (m : Machine) (r : Roster) → Shows m r → All SawItself (everyone r)
 all_itself m r shows = All-append SawItself r.free r.pinned
     (λ k d l. ap (events_of (get_or r.free k d).number) (shows.seen k d l)
-    ∙ front_of (λ (p : Known). events_of p.number m.history ≡ p.mine) r.free r.pinned
+    ∙ all_of_front (λ (p : Known). events_of p.number m.history ≡ p.mine) r.free r.pinned
     shows.gathered.own k d l)
     shows.pins.own
 

@@ -1,14 +1,12 @@
 -- What is dealt to handles, and that it makes handles.
-use Rattle.std.proofs.Common.{◌≡◌, ◌≢◌, ℕ, zero, suc, ◌+◌, ◌<◌, List, [], ◌∷◌, ◌++◌, Option, None, map, length, get_or, refl, sym, ap, ◌∙◌, arith, length-append, append-nil, append_assoc}
+use Rattle.std.proofs.Common.{◌≡◌, ℕ, zero, suc, ◌+◌, ◌<◌, List, [], ◌∷◌, ◌++◌, Option, None, map, length, get_or, refl, sym, ap, ◌∙◌, arith, length-append, append-nil, append_assoc}
 use Rattle.std.specs.List.{AllByRecursion}
 use Rattle.std.proofs.lemmas.List.{same_lists, map-append, length-map}
-use Rattle.std.proofs.Math.ListN.{get_or-append}
 use Rattle.std.proofs.Math.Seq.{get_or-append_seam}
-use mathlib.Core.Logic.{dite}
-use native.Mathlib.Decide.{ℕ_discrete}
 use Rattle.mst_key.specs.declared.format.Format.{Format}
 use Rattle.mst_words.specs.declared.view.Shape.{Shape}
 use Rattle.mst_store.specs.Passes.{StoreId, Known, HasShape, new_pass, first_passes, new_passes}
+use Rattle.mst_store.proofs.AllPasses.{first_at as at_first}
 use Rattle.mst_sharded_proof.specs.Shards.{Shard, least, shards_from}
 use Rattle.mst_sharded.specs.Sharding.{Sharding, sharding}
 use Rattle.mst_sharded.specs.Listing.{AreListed}
@@ -16,25 +14,10 @@ use Rattle.mst_sharded.specs.Opening.{Shards, directory_shape, new_handle, first
 
 -- ---- the passes of a store
 
-length-first : (s : StoreId) (n : ℕ) → length (first_passes s n) ≡ n
-length-first s zero = refl
-length-first s (suc n) =
-    let e : n + 1 ≡ suc n = omega arith in
-    length-append (first_passes s n) (new_pass s (suc n) ∷ [])
-    ∙ ap (λ (j : ℕ). j + 1) (length-first s n) ∙ e
-
 first_at : (s : StoreId) (n k : ℕ) (d : Known) → k < n
     → get_or (first_passes s n) k d ≡ new_pass s (suc k)
-first_at s zero k d low = absurd (omega (arith, low))
-first_at s (suc n) k d low =
-    let last = new_pass s (suc n) in
-    let long = length-first s n in
-    dite (ℕ_discrete k n)
-    (λ (is : k ≡ n). ap (λ (j : ℕ). get_or (first_passes s n ++ last ∷ []) j d) (is ∙ sym long)
-    ∙ get_or-append_seam (first_passes s n) last [] d
-    ∙ ap (λ (j : ℕ). new_pass s (suc j)) (sym is))
-    (λ (other : k ≢ n). get_or-append (first_passes s n) (last ∷ []) d k
-    (omega (arith, low, other, long)) ∙ first_at s n k d (omega (arith, low, other)))
+first_at s n k d low =
+    let next : k + 1 ≡ suc k = omega arith in at_first s n k d low ∙ ap (new_pass s) next
 
 -- the only pass of a store of one
 pub only_pass : (s : StoreId) (all rest : List Known) (p : Known) → s.passes ≡ 1
@@ -112,6 +95,15 @@ rows_grow front ds s rows rows' passes are all count long each =
     ∙ ap (λ (n : ℕ). new_pass s n) (sym next))
     ∙ dealt_grows front s (get_or ds k s) (1 + k)
     ∙ sym (dealt_at (front ++ s ∷ []) ds 1 k d s few))
+
+-- ---- the handles of a map
+
+pub length-first_handles : (s : Shards) (n : ℕ) → length (first_handles s n) ≡ n
+length-first_handles s zero = refl
+length-first_handles s (suc n) =
+    let more = length-append (first_handles s n) (new_handle s (suc n) ∷ []) in
+    let before = length-first_handles s n in
+    omega (arith, more, before)
 
 -- ---- a row makes a handle
 

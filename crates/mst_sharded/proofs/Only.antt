@@ -1,7 +1,5 @@
 -- Steps of the only pass of a store: its history is what it did itself.
-use Rattle.std.proofs.Common.{◌≡◌, ℕ, ◌+◌, ◌*◌, ◌<◌, ◌≤◌, Bool, cond, List, [], ◌∷◌, ◌++◌, length, refl, sym, ap, ◌∙◌, subst, arith}
-use Rattle.std.proofs.lemmas.Bool.{eq-eqb}
-use Rattle.std.proofs.lemmas.List.Elements.{All-head, All-tail}
+use Rattle.std.proofs.Common.{◌≡◌, ℕ, ◌+◌, ◌*◌, ◌<◌, ◌≤◌, List, [], ◌∷◌, ◌++◌, length, refl, sym, ap, ◌∙◌, subst, arith}
 use Rattle.mst_key.specs.declared.format.Format.{Format}
 use Rattle.mst_key.specs.declared.history.Change.{Change}
 use Rattle.mst_key.specs.declared.history.Change.TheVariants.{Batch, Migrate}
@@ -11,22 +9,11 @@ use Rattle.mst_key.specs.History.{History, Reply, after, batched, changed, chang
 use Rattle.mst_key.proofs.HistoryLaws.{after-push, format_after-push}
 use Rattle.mst_words.specs.Notes.{IsOfPasses}
 use Rattle.mst_store.specs.Passes.{Known, StoreId, Looks, Wrote, made_by, format_seen, LacksRoom}
+use Rattle.mst_store.proofs.Lawful.{own_all}
 use Rattle.mst_versions.specs.Writes.{rows_of, rows_taken}
 use Rattle.mst_sharded.specs.Listing.{IsOnly}
 use Rattle.mst_sharded.specs.Entries.{Stays, Becomes, HasRowsBeside}
 use Rattle.mst_sharded.proofs.FewRows.{few_rows}
-
--- where each event is of the first pass, all are its own
-own_all : (log : History) → IsOfPasses 1 log → events_of 1 log ≡ log
-own_all [] all = refl
-own_all (e ∷ es) all =
-    let b = All-head (λ (x : Event). (0 < x.pass) × (x.pass ≤ 1)) e es all in
-    let pos = b.0 in
-    let low = b.1 in
-    let is : e.pass ≡ 1 = omega arith in
-    ap (λ (t : Bool). cond t (e ∷ events_of 1 es) (events_of 1 es)) (eq-eqb e.pass 1 is)
-    ∙ ap (λ (l : History). e ∷ l)
-    (own_all es (All-tail (λ (x : Event). (0 < x.pass) × (x.pass ≤ 1)) e es all))
 
 -- it has seen its own events alone
 saw_own : (p q : Known) → IsOnly p → q.store ≡ p.store → q.number ≡ p.number

@@ -11,7 +11,7 @@ ghost use Rattle.mst_sharded.specs.Opening.{directory_shape as shape_of_director
 
 use crate::faults::ShardsFault;
 use mst_key::{Format, Key, Memory};
-use mst_store::{OpenFault, Seats, Shape, Store};
+use mst_store::{OpenFault, Seats, Shape, Store, is_shape};
 use std::alloc::Allocator;
 use std::cmp::Ordering;
 use std::marker::Model;
@@ -115,13 +115,6 @@ fn are_splits(splits: &[Key]) -> bool
         unreachable!()
     };
     splits.len() <= MOST_SPLITS && rise(&least, splits)
-}
-
-// Whether a store of a shard may have this shape.
-fn is_shape(shape: Shape) -> bool
-    ensures { result ≡ true ↔ IsShape shape }
-{
-    (4..=65_535).contains(&shape.rows) && (1..=32).contains(&shape.passes)
 }
 
 // The shape of the store of a directory of this many shards.

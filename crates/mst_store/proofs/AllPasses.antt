@@ -12,20 +12,21 @@ use native.Mathlib.Decide.{ℕ_discrete}
 use Rattle.mst_store.specs.Passes.{StoreId, Known, IsSamePass, having_asked, new_pass, first_passes, new_passes}
 use Rattle.mst_store.specs.Settling.{numbers, AreAllPasses, having_seen, Settled}
 
-lone : (s : StoreId) (p : Known) → p.store ≡ s → All (λ q. q.store ≡ s) (p ∷ [])
+pub lone : (s : StoreId) (p : Known) → p.store ≡ s → All (λ q. q.store ≡ s) (p ∷ [])
 lone s p is zero d l = is
 lone s p is (suc k) d l = absurd (omega arith)
 
-first_stores : (s : StoreId) (n : ℕ) → All (λ p. p.store ≡ s) (first_passes s n)
+pub first_stores : (s : StoreId) (n : ℕ) → All (λ p. p.store ≡ s) (first_passes s n)
 first_stores s zero k d l = absurd (omega arith)
 first_stores s (suc n) k d l = All-append (λ (p : Known). p.store ≡ s) (first_passes s n)
     (new_pass s (suc n) ∷ []) (first_stores s n) (lone s (new_pass s (suc n)) refl) k d l
 
-numbers-append : (ps qs : List Known) → numbers (ps ++ qs) ≡ numbers ps ++ numbers qs
+pub numbers-append : (ps qs : List Known) → numbers (ps ++ qs) ≡ numbers ps ++ numbers qs
 numbers-append [] qs = refl
 numbers-append (p ∷ ps) qs = ap (λ (l : List ℕ). p.number ∷ l) (numbers-append ps qs)
 
-first_numbers : (s : StoreId) (n k : ℕ) → 0 < k → k ≤ n → Contains (numbers (first_passes s n)) k
+pub first_numbers : (s : StoreId) (n k : ℕ) → 0 < k → k ≤ n → Contains (numbers (first_passes s n))
+    k
 first_numbers s zero k low high = absurd (omega arith)
 first_numbers s (suc n) k low high =
     subst (λ (l : List ℕ). Contains l k)
@@ -34,6 +35,28 @@ first_numbers s (suc n) k low high =
     (0, omega arith, sym is))
     (λ (other : k ≢ suc n). Contains-append_left (numbers (first_passes s n)) (suc n ∷ []) k
     (first_numbers s n k low (omega (arith, other)))))
+
+-- by their places
+pub first_length : (s : StoreId) (n : ℕ) → length (first_passes s n) ≡ n
+first_length s zero = refl
+first_length s (suc n) = let e : length (first_passes s n) ≡ n = first_length s n in
+    let a : length (first_passes s n ++ new_pass s (suc n) ∷ []) ≡ length (first_passes s n) + 1 =
+    length-append (first_passes s n) (new_pass s (suc n) ∷ []) in omega (arith, e, a)
+
+pub first_at : (s : StoreId) (n k : ℕ) (d : Known) → k < n → get_or (first_passes s n) k d
+    ≡ new_pass s
+    (k + 1)
+first_at s zero k d below = absurd (omega (arith, below))
+first_at s (suc n) k d below =
+    let ps : List Known = first_passes s n in let p : Known = new_pass s (suc n) in
+    let e : length ps ≡ n = first_length s n in dite (ℕ_discrete k n)
+    (λ (is : k ≡ n). let at : k ≡ length ps + 0 = omega (arith, is, e) in let next : suc n ≡ k + 1 =
+    omega (arith, is) in
+    ap (λ (j : ℕ). get_or (ps ++ p ∷ []) j d) at ∙ get_or-append-add ps (p ∷ []) 0 d
+    ∙ ap (new_pass s) next)
+    (λ (other : k ≢ n). let low : k < n = omega (arith, below, other) in
+    let inside : k < length ps = omega (arith, low, e) in get_or-append ps (p ∷ []) d k inside
+    ∙ first_at s n k d low)
 
 -- those that were dealt
 pub all_new : (s : StoreId) → AreAllPasses (new_passes s)

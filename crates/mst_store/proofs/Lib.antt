@@ -1,6 +1,6 @@
 mod FewPairs
 mod FromSeats
-mod Lawful
+pub mod Lawful
 pub mod Courier
 pub mod AllPasses
 mod Waits

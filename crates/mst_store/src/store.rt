@@ -4,9 +4,10 @@ ghost use Rattle.mst_store.specs.Passes.{IsShape, HasShape, new_passes};
 
 use crate::faults::OpenFault;
 use crate::pass::Pass;
-use mst_arena::Desk;
+use mst_arena::{Desk, MOST_ROWS};
 use mst_key::Memory;
 use mst_versions::Numbers;
+use mst_words::layout::MOST_PASSES;
 use mst_words::{Board, Shape, Token};
 use std::alloc::Allocator;
 use std::marker::Model;
@@ -62,10 +63,10 @@ impl<A: Allocator + Copy> Model for Seats<A> {
 }
 
 /// Whether a store can have this size: 4 to 65,535 rows and 1 to 32 passes.
-fn is_shape(shape: Shape) -> bool
+pub fn is_shape(shape: Shape) -> bool
     ensures { result ≡ true ↔ IsShape shape }
 {
-    (4..=65_535).contains(&shape.rows) && (1..=32).contains(&shape.passes)
+    (4..=MOST_ROWS).contains(&shape.rows) && (1..=MOST_PASSES).contains(&shape.passes)
 }
 
 impl<A: Allocator + Copy> Store<A> {

@@ -35,8 +35,8 @@ use Rattle.mst_versions.specs.Turns.{Seat, StoodAtAsk, IsKept, AreKept, LeavesFr
 use Rattle.mst_versions.proofs.Asked.{some_drained}
 use Rattle.mst_words.proofs.Members.{each, in_later}
 use Rattle.mst_versions.proofs.Places.{reached_inside, place_of}
-use Rattle.mst_versions.proofs.Pinning.{link_of_root}
-use Rattle.mst_versions.proofs.SweptLives.{free_inside, is_not, live_of, reads_held, same_ages, same_rows, unreached}
+use Rattle.mst_versions.proofs.Pinning.{link_of_root, reads_all}
+use Rattle.mst_versions.proofs.SweptLives.{free_inside, is_not, live_of, same_ages, same_rows, unreached}
 use Rattle.mst_versions.proofs.Slots.{desk_there}
 
 -- what the turn is made of
@@ -286,7 +286,7 @@ module _ (before taken : Seat) (p : Takes (stored before.0.format) before taken)
       let content : AllByRecursion (λ x. content_of v x ≡ rows_in (row p.words) x) (numbers s.0) =
       subst (AllByRecursion (λ x. content_of v x ≡ rows_in (row p.words) x)) (sym s.1)
       (each (λ x. content_of v x ≡ rows_in (row p.words) x) p.used
-      (λ x within. reads_held v x refl (p.stands.inside x within))) in
+      (λ x within. reads_all v x refl (p.stands.inside x within))) in
       let t = aged_frame before.0.format format_there (rows_in (row p.words)) (content_of v)
       (root_in (field p.words p.desk.current)) root p.log p.desk.lives
       (map (swept_life a.live.items) p.desk.lives) s.0 content here (swept_ages a h.now)

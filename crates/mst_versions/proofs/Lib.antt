@@ -13,3 +13,4 @@ mod Written
 mod Migrated
 mod Batched
 mod Counted
+pub mod FewRows

@@ -1,8 +1,7 @@
 -- Which rows the holder of the turn may read, and what a sweep leaves of their lives.
-use Rattle.std.proofs.Common.{◌≡◌, ℕ, zero, suc, ◌<◌, ◌&&◌, ◌||◌, not, is_some, eqb, if◌then◌else◌, Bool, true, false, List, length, map, slice_index, Option, Some, None, refl, sym, ap, ◌∙◌, subst, arith}
+use Rattle.std.proofs.Common.{◌≡◌, ℕ, zero, suc, ◌<◌, ◌&&◌, ◌||◌, not, eqb, if◌then◌else◌, Bool, true, false, List, length, map, slice_index, Option, Some, None, refl, sym, ap, ◌∙◌, subst, arith}
 use Rattle.std.specs.Prelude.{slice_get, option_map}
 use Rattle.std.specs.List.{list_any}
-use Rattle.std.proofs.lemmas.Bool.{lt-ltb}
 use Rattle.std.proofs.lemmas.Bool.Decides.{nat_tests}
 use Rattle.std.proofs.lemmas.Option.{slice_get_within, slice_get-map}
 use Rattle.std.proofs.lemmas.List.{length-map}
@@ -11,23 +10,11 @@ use Rattle.mst_arena.specs.declared.life.Life.{Life}
 use Rattle.mst_arena.specs.declared.life.Life.TheVariants.{Free, Born, Dead}
 use Rattle.mst_arena.specs.Lists.{In}
 use Rattle.mst_path.proofs.lemmas.versions.Reached.{same_swept, free_swept, some_reach}
-use Rattle.mst_words.specs.declared.view.View.{View}
-use Rattle.mst_words.specs.Records.{row}
-use Rattle.mst_words.specs.Stored.{rows_in}
-use Rattle.mst_words.specs.Access.{content_of, all_below}
+use Rattle.mst_words.specs.Access.{all_below}
 use Rattle.mst_versions.specs.declared.turn.Asked.{Asked}
 use Rattle.mst_versions.specs.Asking.{HasAsked}
 use Rattle.mst_versions.specs.Turns.{Seat}
 use Rattle.mst_versions.proofs.Pinning.{in_list}
-
--- the holder of the turn may read each row
-pub reads_held : (v : View) (x : ℕ) → v.turn ≡ true → x < v.rows → content_of v x ≡ rows_in
-    (row v.known_words) x
-reads_held v x turn lt =
-    ap (λ (b : Bool). if (b && (v.turn || (is_some v.pin && list_any (eqb x) v.pinned_rows)))
-    then rows_in (row v.known_words) x else None) (lt-ltb x v.rows lt)
-    ∙ ap (λ (b : Bool). if (b || (is_some v.pin && list_any (eqb x) v.pinned_rows)) then rows_in
-    (row v.known_words) x else None) turn
 
 pub all_below_true : (n : ℕ) (p : ℕ → Bool) → ((r : ℕ) → r < n → p r ≡ true) → all_below n p ≡ true
 all_below_true zero p all = refl
