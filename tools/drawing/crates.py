@@ -9,7 +9,7 @@ from .maps import TOP
 LAYERS = [
     (("executable",), {"mst": 880}),
     (("command line",), {"mst_program": 880}),
-    (("exports for C;", "its tasks"), {"mst_exports": 350, "mst_command": 880}),
+    (("exports for C;", "tasks of programs"), {"mst_exports": 350, "mst_command": 880}),
     (("sharded maps for C;", "scripts over them"), {
         "mst_c_sharded": 350, "mst_sharded_script": 670,
     }),
