@@ -1,8 +1,8 @@
 """Makes the wheel by the standard library alone, as a build backend that pip calls.
 
-The wheel has the package, the licences, and libmst_store.so from the folder MST_STORE_DIR or from
-../out. The Python code is of no version of Python, and the library of one platform, so the tag is
-py3-none-PLATFORM.
+The wheel has the package, the licences, libmst_store.so from the folder MST_STORE_DIR or from
+../out, and the module mst_verifier, by which whoever has no store checks its proofs. The Python code
+is of no version of Python, and the library of one platform, so the tag is py3-none-PLATFORM.
 """
 import base64
 import hashlib
@@ -17,14 +17,22 @@ LICENCES = ["LICENSE-APACHE", "LICENSE-MIT"]
 PACKAGE = "mst_store"
 
 
-def _field(name):
-    with open(os.path.join(HERE, "pyproject.toml"), encoding="utf-8") as text:
-        return re.search(rf'^{name} = "(.*)"$', text.read(), re.MULTILINE).group(1)
-
-
 def _read(path):
     with open(path, "rb") as file:
         return file.read()
+
+
+def _project():
+    return _read(os.path.join(HERE, "pyproject.toml")).decode()
+
+
+def _field(name):
+    return re.search(rf'^{name} = "(.*)"$', _project(), re.MULTILINE).group(1)
+
+
+def _list(name):
+    listed = re.search(rf"^{name} = \[(.*?)\]", _project(), re.MULTILINE | re.DOTALL).group(1)
+    return re.findall(r'"(.*?)"', listed)
 
 
 def _files():
@@ -50,9 +58,13 @@ def build_wheel(wheel_directory, config_settings=None, metadata_directory=None):
     metadata = (f"Metadata-Version: 2.4\nName: {name}\nVersion: {version}\n"
                 f"Summary: {_field('description')}\nRequires-Python: {_field('requires-python')}\n"
                 f"License-Expression: {_field('license')}\n"
+                f"Keywords: {','.join(_list('keywords'))}\n"
+                + "".join(f"Classifier: {it}\n" for it in _list("classifiers"))
                 + "".join(f"License-File: {licence}\n" for licence in LICENCES))
     about = f"Wheel-Version: 1.0\nGenerator: make_wheel\nRoot-Is-Purelib: false\nTag: {tag}\n"
     contents = {f"{PACKAGE}/{file}": _read(os.path.join(HERE, PACKAGE, file)) for file in _files()}
+    verifier = os.path.join(HERE, "..", "..", "verifiers", "python", "mst_verifier.py")
+    contents["mst_verifier.py"] = _read(verifier)
     contents[f"{PACKAGE}/libmst_store.so"] = _read(os.path.join(folder, "libmst_store.so"))
     contents[f"{info}/METADATA"] = metadata.encode()
     contents[f"{info}/WHEEL"] = about.encode()
