@@ -23,12 +23,12 @@ LAYERS = [
         "mst_replay": 930,
     }),
     (("verifiers; trees in", "rows; pins"), {
-        "mst_sharded_proof": 330, "mst_read": 630, "mst_path": 783, "mst_pin": 930,
+        "mst_sharded_proof": 348, "mst_read": 600, "mst_path": 783, "mst_pin": 930,
     }),
     (("proofs; rows;", "changes; requests"), {
-        "mst_proof": 366, "mst_arena": 640, "mst_change": 800, "mst_requests": 1090,
+        "mst_proof": 366, "mst_arena": 640, "mst_change": 840, "mst_requests": 1090,
     }),
-    (("hashes that are kept",), {"mst_prefix": 640}),
+    (("hashes that are kept",), {"mst_prefix": 620}),
     (("trees, digests; lines",), {"mst_node": 610, "mst_lines": 1090}),
     (("keys, maps; devices",), {"mst_key": 610, "mst_devices": 1090}),
 ]

@@ -38,17 +38,12 @@ class Plot:
                 self.canvas.text(self.left - 12, y + 6, f"{time:,}", 17, "end")
         self.canvas.line([(self.left, self.upper), (self.left, self.lower)])
 
-    def draw_keys(self, numbers, width=0):
-        """The scale of keys, with a label below each number that has this width free to both
-        sides."""
-        places = [self.across(it) for it in numbers]
-        last = None
-        for keys, x in zip(numbers, places):
+    def draw_keys(self, numbers, unit=1):
+        """The scale of keys, with a label below each number: how many of this unit it is."""
+        for keys in numbers:
+            x = self.across(keys)
             self.canvas.line([(x, self.lower), (x, self.lower + 8)])
-            is_crowded = x != places[-1] and places[-1] - x < width
-            if not is_crowded and (last is None or x - last >= width):
-                self.canvas.text(x, self.lower + 30, f"{keys:,}", 17, "middle")
-                last = x
+            self.canvas.text(x, self.lower + 30, f"{keys // unit:,}", 17, "middle")
 
     def draw_curve(self, points, look, size=7):
         """A curve through points, each a number of keys and a time. Returns where they stand."""

@@ -23,9 +23,9 @@ def draw_panel(canvas, plot, title, engines):
     """The curves of one call, with their names where they end."""
     numbers = sorted({keys for times in engines.values() for keys in times})
     plot.draw_times(has_labels=plot.left == LEFT)
-    plot.draw_keys(numbers, 64)
+    plot.draw_keys(numbers, 1_000)
     canvas.text(plot.left, UPPER - 24, title, 17, bold=True)
-    canvas.text((plot.left + plot.right) / 2, LOWER + 60, "keys of the map", 17, "middle")
+    canvas.text((plot.left + plot.right) / 2, LOWER + 60, "thousands of keys", 17, "middle")
     names = sorted(engines, key=lambda it: it == "store")  # which then lies above the others
     ends = [plot.draw_curve(engines[it].items(), LOOKS[it], 6)[-1] for it in names]
     for engine, (x, y), high in zip(names, ends, apart([y for _, y in ends], 22)):

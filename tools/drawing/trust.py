@@ -47,8 +47,8 @@ BOXES = [
         "what no clause says",
         "crates/*_tests, tests",
     )),
-    ("dashed", RIGHT, PORTED, COLUMN, "what is not in Rattle", (
-        "C files, bindings, verifiers by hand",
+    ("thick", RIGHT, PORTED, COLUMN, "what is not in Rattle", (
+        "tested, and nothing of it is proved",
         "bindings, verifiers",
     )),
 ]
@@ -85,11 +85,11 @@ def picture():
     see_that_folders_exist()
     canvas = Canvas("trust", "The layers of trust", 784)
     canvas.text(LEFT, 34, "what a proof rests on, from what a caller reads down", 17, bold=True)
-    canvas.text(RIGHT, 34, "what is tried and tested", 17, bold=True)
+    canvas.text(RIGHT, 34, "what else is there", 17, bold=True)
     for box in BOXES:
         draw_box(canvas, *box)
     draw_arrow(canvas, 210, CONTRACTS + HIGH, DEFINITIONS, "cite")
-    draw_arrow(canvas, 210, CHECKED, DEFINITIONS + HIGH, "keeps the contracts")
+    draw_arrow(canvas, 210, CHECKED, DEFINITIONS + HIGH, "keeps what contracts say in these words")
     draw_arrow(canvas, 590, CHECKED, DEFINITIONS + HIGH, "show that it does")
     draw_arrow(canvas, 400, CHECKED + HIGH, PORTED, "rest on")
     draw_arrow(canvas, 400, PORTED + HIGH, TOOLCHAIN, "are checked and built by")

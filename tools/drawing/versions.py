@@ -91,7 +91,7 @@ def draw_links(canvas, placed):
 
 def draw_legend(canvas, counts, old, top):
     says = {
-        "dashed": f"rows of version {old.number} alone: dead, and kept while its pin lasts",
+        "dashed": f"rows of version {old.number} alone: readable while its pin lasts, then free",
         "thin": "rows that both versions have",
         "thick": "rows that the put wrote, which were free: one path, with the new entry",
     }
