@@ -25,8 +25,8 @@ def splits():
 
 
 def name(key):
-    """A key as text, in digits if it is no letters."""
-    return key.decode() if key.isalpha() else key.hex()
+    """A key as text, in hexadecimal digits if it is no letters."""
+    return key.decode() if key.isalpha() else "0x" + key.hex()
 
 
 def short(digest):
