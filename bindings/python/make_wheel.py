@@ -2,14 +2,15 @@
 
 The wheel has the package, the licences, libmst_store.so from the folder MST_STORE_DIR or from
 ../out, and the module mst_verifier, by which whoever has no store checks its proofs. The Python code
-is of no version of Python, and the library of one platform, so the tag is py3-none-PLATFORM.
+is of no version of Python, and the library of one platform, so the tag is py3-none-PLATFORM, where
+the platform says which glibc the library needs (PEP 600).
 """
 import base64
 import hashlib
 import os
+import platform
 import re
 import sys
-import sysconfig
 import zipfile
 
 HERE = os.path.dirname(os.path.abspath(__file__))
@@ -41,6 +42,12 @@ def _files():
     return [file for file in everything if file.endswith(".py") or file == "py.typed"]
 
 
+def _platform(library):
+    """The tag for the oldest glibc that has each symbol that the library asks for."""
+    needed = [int(it) for it in re.findall(rb"\0GLIBC_2\.(\d+)(?=[.\0])", library)]
+    return f"manylinux_2_{max([5, *needed])}_{platform.machine()}"
+
+
 def _record(contents, name):
     lines = []
     for path, data in contents.items():
@@ -52,9 +59,10 @@ def _record(contents, name):
 def build_wheel(wheel_directory, config_settings=None, metadata_directory=None):
     """The hook of PEP 517: writes the wheel into the folder, and returns its name."""
     name, version = _field("name"), _field("version")
-    tag = "py3-none-" + re.sub(r"[-.]", "_", sysconfig.get_platform())
-    info = f"{name}-{version}.dist-info"
     folder = os.environ.get("MST_STORE_DIR") or os.path.join(HERE, "..", "out")
+    library = _read(os.path.join(folder, "libmst_store.so"))
+    tag = "py3-none-" + _platform(library)
+    info = f"{name}-{version}.dist-info"
     metadata = (f"Metadata-Version: 2.4\nName: {name}\nVersion: {version}\n"
                 f"Summary: {_field('description')}\nRequires-Python: {_field('requires-python')}\n"
                 f"License-Expression: {_field('license')}\n"
@@ -65,7 +73,7 @@ def build_wheel(wheel_directory, config_settings=None, metadata_directory=None):
     contents = {f"{PACKAGE}/{file}": _read(os.path.join(HERE, PACKAGE, file)) for file in _files()}
     verifier = os.path.join(HERE, "..", "..", "verifiers", "python", "mst_verifier.py")
     contents["mst_verifier.py"] = _read(verifier)
-    contents[f"{PACKAGE}/libmst_store.so"] = _read(os.path.join(folder, "libmst_store.so"))
+    contents[f"{PACKAGE}/libmst_store.so"] = library
     contents[f"{info}/METADATA"] = metadata.encode()
     contents[f"{info}/WHEEL"] = about.encode()
     for licence in LICENCES:
