@@ -10,7 +10,7 @@ const char *mst_library_version(void) {
 /* The tests of a proof of one map. */
 static const char *of_proof(int32_t told) {
     switch (told) {
-    case MST_P1_VERSION: return "the proof fails P1: its first byte is not the format's";
+    case MST_P1_FORMAT_BYTE: return "the proof fails P1: its first byte is not the format's";
     case MST_P2_CUT_SHORT: return "the proof fails P2: it is cut short";
     case MST_P3_LEFT_OVER: return "the proof fails P3: bytes are left over";
     case MST_P4_NO_NODE: return "the proof fails P4: a text is not that of a node";

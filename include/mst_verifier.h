@@ -71,8 +71,8 @@ extern "C" {
 #define MST_BAD_KEY (-5)
 
 /* The proof fails this test first: P1 to P10 of docs/FORMAT.md are -11 to -20. */
-#define MST_P1_VERSION (-11)         /* the first byte is not the format's */
-#define MST_P2_CUT_SHORT (-12)       /* the version, the count, a length, a text or the tail is cut
+#define MST_P1_FORMAT_BYTE (-11)     /* the first byte is not the format's */
+#define MST_P2_CUT_SHORT (-12)       /* the format, the count, a length, a text or the tail is cut
                                         short */
 #define MST_P3_LEFT_OVER (-13)       /* bytes are left over after the last text, or the tail */
 #define MST_P4_NO_NODE (-14)         /* a text is not that of a node */
@@ -103,8 +103,8 @@ int32_t mst_verify(uint32_t format,
  * to S9 of docs/FORMAT.md first. S1 is -100, S2 is -200, and so on. S4 and S9 test the two parts of
  * the proof, and the number then tells the test of the part too: S4 P5 is -405, S9 P10 is -910.
  */
-#define MST_S1_VERSION (-100)       /* the first byte is not 03 in format 1, 04 in format 2 */
-#define MST_S2_CUT_SHORT (-200)     /* the version, the lower bound, a length or the directory's
+#define MST_S1_FORMAT_BYTE (-100)   /* the first byte is not 03 in format 1, 04 in format 2 */
+#define MST_S2_CUT_SHORT (-200)     /* the format, the lower bound, a length or the directory's
                                        proof is cut short */
 #define MST_S3_NO_KEY (-300)        /* the lower bound has no bytes, or more than 32 */
 #define MST_S4_DIRECTORY (-400)     /* the directory's proof fails P1 to P10: -401 to -410 */
@@ -145,8 +145,8 @@ int32_t mst_verify_sharded(uint32_t format,
  * Returns the length of the first text that a proof of one map frames: proof[MST_TOP_TEXT_AT] and
  * what follows. If the proof is a true one, this is the text of the top node of its map's tree.
  * Returns -1 if the proof frames no text, as that of the empty map, or if the first is cut short.
- * Nothing is verified: only the bytes up to the end of that text are looked at, and of the version
- * and the count only whether the count is 0.
+ * Nothing is verified: only the bytes up to the end of that text are looked at, and of the
+ * format's byte and the count only whether the count is 0.
  */
 int64_t mst_top_text(const uint8_t *proof, size_t proof_length);
 

@@ -54,7 +54,7 @@ static void sharded_edges(void)
     is("all null, no format", mst_verify_sharded(0, NULL, 0, NULL, 0, NULL, 0, NULL, 0),
        MST_UNKNOWN_FORMAT);
     is("a proof of format 1 in format 2",
-       mst_verify_sharded(2, root, 32, key, 5, proof, size, room, 64), MST_S1_VERSION);
+       mst_verify_sharded(2, root, 32, key, 5, proof, size, room, 64), MST_S1_FORMAT_BYTE);
     for (uint32_t format = 3; format; format *= 2)
         is("a format", mst_verify_sharded(format, root, 32, key, 5, proof, size, room, 64),
            MST_UNKNOWN_FORMAT);
@@ -81,7 +81,7 @@ static void sharded_edges(void)
         int32_t told =
             mst_verify_sharded(1, root, 32, bytes, length % 33, bytes, length, room, some() % 65);
         is("any bytes",
-           told == MST_BAD_KEY || (told <= MST_S1_VERSION && told >= MST_S4_DIRECTORY - 10), 1);
+           told == MST_BAD_KEY || (told <= MST_S1_FORMAT_BYTE && told >= MST_S4_DIRECTORY - 10), 1);
     }
     free(root);
     free(proof);
@@ -107,7 +107,7 @@ int main(void)
     is("all null, no format", mst_verify(0, NULL, 0, NULL, 0, NULL, 0, NULL, 0),
        MST_UNKNOWN_FORMAT);
     is("a proof of format 1 in format 2", mst_verify(2, root, 32, key, 1, proof, size, room, 64),
-       MST_P1_VERSION);
+       MST_P1_FORMAT_BYTE);
     is("format 3", mst_verify(3, root, 32, key, 1, proof, size, room, 64), MST_UNKNOWN_FORMAT);
     for (uint32_t format = 4; format; format *= 2)
         is("a format", mst_verify(format, root, 32, key, 1, proof, size, room, 64),
@@ -130,7 +130,7 @@ int main(void)
         int32_t told =
             mst_verify(1, root, 32, bytes, length % 33, bytes, length, room, some() % 65);
         is("any bytes",
-           told == MST_BAD_KEY || (told <= MST_P1_VERSION && told >= MST_P9_TEXT_BEHIND), 1);
+           told == MST_BAD_KEY || (told <= MST_P1_FORMAT_BYTE && told >= MST_P9_TEXT_BEHIND), 1);
         int64_t text = mst_top_text(bytes, length);
         is("any first text", text >= -1 && text + 6 <= (int64_t)(length < 6 ? 6 : length), 1);
     }

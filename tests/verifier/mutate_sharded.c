@@ -151,7 +151,7 @@ static void judge(const struct vector *it, FILE *to)
         apart++;
     if (told >= MST_ABSENT)
         wrong += !is_known(it, told, room);
-    else if (told <= MST_S1_VERSION && told > -1000 && MST_PART_TEST(told) <= 10)
+    else if (told <= MST_S1_FORMAT_BYTE && told > -1000 && MST_PART_TEST(told) <= 10)
         told_of[MST_SHARDED_TEST(told)][MST_PART_TEST(told)]++;
     else
         wrong++;

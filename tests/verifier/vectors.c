@@ -15,7 +15,7 @@ static int32_t told_by_other(const struct vector *it)
         return is_sharded ? MST_P2_CUT_SHORT : MST_S2_CUT_SHORT;
     if (it->proof[0] == version)
         return 0;
-    return is_sharded ? MST_P1_VERSION : MST_S1_VERSION;
+    return is_sharded ? MST_P1_FORMAT_BYTE : MST_S1_FORMAT_BYTE;
 }
 
 static int is_as_wanted(struct vector *it)

@@ -136,7 +136,7 @@ static inline void write_vector(FILE *to, const struct vector *it)
     if (it->told >= 0)
         write_bytes(to, it->value, (size_t)it->told);
     else if (it->told != MST_ABSENT)
-        fprintf(to, "%d", (int)(MST_P1_VERSION + 1 - it->told));
+        fprintf(to, "%d", (int)(MST_P1_FORMAT_BYTE + 1 - it->told));
     fputc('\n', to);
 }
 

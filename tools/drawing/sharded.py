@@ -72,7 +72,7 @@ def draw_proof(canvas, it):
     shard = it.shard_of(ASKED)
     parts = it.directory.proof(shard.low), shard.map.proof(ASKED)
     fields = [
-        ("version", f"{it.format + 2:02x}", 110),
+        ("format", f"{it.format + 2:02x}", 110),
         ("bound", f"{len(shard.low):02x} {shard.low.hex()}", 130),
         ("length", f"{len(parts[0]):08x}", 150),
         ("directory's proof", f"{len(parts[0])} bytes, for key {name(shard.low)}", 362),

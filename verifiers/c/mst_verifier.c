@@ -289,7 +289,7 @@ static int32_t read_parts(uint32_t format, struct text rest, struct parts *to)
     if (head == NULL)
         return MST_S2_CUT_SHORT;
     if (*head != format + 2)
-        return MST_S1_VERSION;
+        return MST_S1_FORMAT_BYTE;
     if ((size = take(&rest, 1)) == NULL || (to->low.at = take(&rest, *size)) == NULL)
         return MST_S2_CUT_SHORT;
     if (*size < 1 || *size > 32)
@@ -307,7 +307,7 @@ static int32_t read_parts(uint32_t format, struct text rest, struct parts *to)
 /* What is told of a part: a test that it fails has its number behind that of the part. */
 static int32_t told_of_part(int32_t part, int32_t told)
 {
-    return told <= MST_P1_VERSION ? part - (MST_P1_VERSION + 1 - told) : told;
+    return told <= MST_P1_FORMAT_BYTE ? part - (MST_P1_FORMAT_BYTE + 1 - told) : told;
 }
 
 int32_t mst_verify_sharded(uint32_t format, const uint8_t *root, size_t root_length,

@@ -180,9 +180,9 @@ func (n *node) entry(format Format, text *reader) {
 // readNode reads a text, and tells whether it is that of a node.
 func readNode(format Format, whole []byte) (*node, bool) {
 	text := reader{rest: whole}
-	version, layer, count := text.number(1), text.number(1), text.number(2)
+	first, layer, count := text.number(1), text.number(1), text.number(2)
 	n := &node{layer: layer, children: [][]byte{text.child()}}
-	if version != uint64(format) || count == 0 {
+	if first != uint64(format) || count == 0 {
 		return nil, false
 	}
 	for ; count > 0 && !text.isBroken; count-- {
@@ -218,8 +218,8 @@ func readTail(proof *reader) claim {
 
 func readFrame(format Format, whole []byte) (texts [][]byte, claimed claim, err error) {
 	proof := reader{rest: whole}
-	version := proof.number(1)
-	if !proof.isBroken && version != uint64(format) {
+	first := proof.number(1)
+	if !proof.isBroken && first != uint64(format) {
 		return nil, claim{}, Refused("P1")
 	}
 	for left := proof.number(1); left > 0; left-- {
@@ -336,8 +336,8 @@ type parts struct {
 
 func readParts(format Format, whole []byte) (parts, error) {
 	proof := reader{rest: whole}
-	version := proof.number(1)
-	if !proof.isBroken && version != uint64(format)+2 {
+	first := proof.number(1)
+	if !proof.isBroken && first != uint64(format)+2 {
 		return parts{}, Refused("S1")
 	}
 	low := proof.take(proof.number(1))

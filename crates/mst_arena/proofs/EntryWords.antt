@@ -10,7 +10,7 @@ use Rattle.mst_key.specs.Map.{Pair}
 use Rattle.mst_node.specs.Text.{counted}
 use Rattle.mst_arena.specs.declared.row.Row.{Row}
 use Rattle.mst_arena.specs.declared.row.Row.TheVariants.{Entry}
-use Rattle.mst_arena.specs.Row.{HasBytes, entry_links, entry_pair}
+use Rattle.mst_arena.specs.Row.{HasBytes, keyed_links, entry_pair}
 use Rattle.mst_arena.specs.Words.{bytes_in, part_in, lengths_word, first_key_word, first_value_word}
 use Rattle.mst_arena.proofs.Readers.{EntryIn, entry_with, entry_pair_of, four_bytes, eight_bytes, front_of}
 use borrow.Rule.Slice.PartMut.{put_mid, post_of}
@@ -82,7 +82,7 @@ pair_in_words words pair is =
     (λ i. Some (
       (sym front ∙ ap (λ (n : ℕ). front_of n 32 (slice_range words 4 8)) (sym len)) i,
       (sym back ∙ ap (λ (n : ℕ). front_of n 64 (slice_range words 8 16)) (sym size)) i,
-    ))) refl refl refl (subst (λ (o : Option Row). IsSome (option_and_then entry_links o))
+    ))) refl refl refl (subst (λ (o : Option Row). IsSome (option_and_then keyed_links o))
     (sym e.row) refl) in
     let both : (
       front_of (lengths % 256) 32 (slice_range words 4 8),

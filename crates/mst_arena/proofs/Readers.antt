@@ -9,8 +9,8 @@ use Rattle.mst_key.specs.Map.{Pair}
 use Rattle.mst_arena.specs.declared.row.Row.{Row}
 use Rattle.mst_arena.specs.declared.row.Row.TheVariants.{Entry, Head}
 use Rattle.mst_arena.specs.declared.row.HeadLinks.{HeadLinks}
-use Rattle.mst_arena.specs.declared.row.EntryLinks.{EntryLinks}
-use Rattle.mst_arena.specs.Row.{IsRow, HasBytes, head_links, head_digest, entry_links, entry_pair, entry_value}
+use Rattle.mst_arena.specs.declared.row.KeyedLinks.{KeyedLinks}
+use Rattle.mst_arena.specs.Row.{IsRow, HasBytes, head_links, head_digest, keyed_links, entry_pair, entry_value}
 use Rattle.mst_arena.specs.Words.{words_of, byte_of_words, bytes_in, row_in, part_in}
 use Rattle.mst_arena.specs.Content.{relinked}
 use Rattle.mst_arena.proofs.Packing.{packed, bytes_back, front_back}
@@ -172,14 +172,14 @@ head_digest_of words all digest read at some =
 abbrev pub front_of : ℕ → ℕ → List ℕ → List ℕ
 front_of n size words = take n (map (byte_of_words words) (range_with_len 0 size))
 
-pub entry_links_of : (words all : List ℕ) (o : Option EntryLinks)
+pub keyed_links_of : (words all : List ℕ) (o : Option KeyedLinks)
     → ((child next : ℕ) (key : List ℕ) → child ≤ 65535 → next ≤ 65535 → IsKey key
     → slice_index words 0 ≡ child → slice_index words 1 ≡ next → slice_index words 2 % 256 ≡ length
     key → front_of (length key) 32 (slice_range words 3 7) ≡ key
     → Some (record { child = child; next = next; key = key }) ≡ o) → words ≡ slice_range all 1 8
-    → IsSome (part_in entry_links all) → part_in entry_links all ≡ o
-entry_links_of words all o exact at some =
-    let e : EntryIn all = entry_with entry_links all (λ layer count first tail digest. refl) some in
+    → IsSome (part_in keyed_links all) → part_in keyed_links all ≡ o
+keyed_links_of words all o exact at some =
+    let e : EntryIn all = entry_with keyed_links all (λ layer count first tail digest. refl) some in
     let limits : IsRow (Entry e.child e.next e.key e.value) = e.limits in
     let bytes : HasBytes (Entry e.child e.next e.key e.value) = e.bytes in
     let is : words ≡ e.child ∷ e.next ∷ (length e.key + 256 * length e.value) ∷ packed 4 e.key =
@@ -189,7 +189,7 @@ entry_links_of words all o exact at some =
     let front : front_of (length e.key) 32 (slice_range words 3 7) ≡ e.key =
     ap (λ (l : List ℕ). front_of (length e.key) 32 (slice_range l 3 7)) is
     ∙ front_back 4 32 e.key bytes.1 bytes.0.1 (omega arith) in
-    ap (option_and_then entry_links) e.row ∙ exact e.child e.next e.key limits.0 limits.1 bytes.0
+    ap (option_and_then keyed_links) e.row ∙ exact e.child e.next e.key limits.0 limits.1 bytes.0
     (ap (λ (l : List ℕ). slice_index l 0) is) (ap (λ (l : List ℕ). slice_index l 1) is) size
     front
 
@@ -214,9 +214,9 @@ pub entry_pair_of : (lengths : ℕ) (first words all : List ℕ) (o : Option Pai
     → lengths / 256 ≡ length value → front_of (length key) 32 first ≡ key
     → front_of (length value) 64 words ≡ value → Some (key, value) ≡ o)
     → lengths ≡ slice_index all 3 → first ≡ slice_range all 4 8 → words ≡ slice_range all 8 16
-    → IsSome (part_in entry_links all) → part_in entry_pair all ≡ o
+    → IsSome (part_in keyed_links all) → part_in entry_pair all ≡ o
 entry_pair_of lengths first words all o exact three four eight some =
-    let e : EntryIn all = entry_with entry_links all (λ layer count first tail digest. refl) some in
+    let e : EntryIn all = entry_with keyed_links all (λ layer count first tail digest. refl) some in
     let bytes : HasBytes (Entry e.child e.next e.key e.value) = e.bytes in
     let third : lengths ≡ length e.key + 256 * length e.value =
     three ∙ ap (λ (l : List ℕ). slice_index l 3) (sym e.same) in
@@ -237,7 +237,7 @@ entry_pair_of lengths first words all o exact three four eight some =
 
 -- ---- from its parts to the row
 
-first_of_entry : (row : Row) → slice_index (words_of row) 0 ≡ 1 → IsSome (entry_links row)
+first_of_entry : (row : Row) → slice_index (words_of row) 0 ≡ 1 → IsSome (keyed_links row)
 first_of_entry (Entry child next key value) one = refl
 first_of_entry (Head layer count first tail digest) one = absurd (omega (arith, one))
 
@@ -259,12 +259,12 @@ part_there part n has words some first = go (row_in words) refl some
 abbrev its_links : {words : List ℕ} → HeadIn words → HeadLinks
 its_links h = record { layer = h.layer; count = h.count; first = h.first; tail = h.tail }
 
-abbrev its_entry : {words : List ℕ} → EntryIn words → EntryLinks
+abbrev its_entry : {words : List ℕ} → EntryIn words → KeyedLinks
 its_entry e = record { child = e.child; next = e.next; key = e.key }
 
 entry_of_first : (words : List ℕ) → IsSome (row_in words) → slice_index words 0 ≡ 1 → EntryIn words
-entry_of_first words some one = entry_with entry_links words (λ layer count first tail digest. refl)
-    (part_there entry_links 1 first_of_entry words some one)
+entry_of_first words some one = entry_with keyed_links words (λ layer count first tail digest. refl)
+    (part_there keyed_links 1 first_of_entry words some one)
 
 head_of_first : (words : List ℕ) → IsSome (row_in words) → slice_index words 0 ≡ 2 → HeadIn words
 head_of_first words some two = head_with head_links words (λ child next key value. refl)
@@ -324,32 +324,32 @@ no_head words len some two o of_links is =
     cc (l, is)
 
 pub entry_of_links : (words : List ℕ) → length words ≡ 16 → IsSome (row_in words)
-    → slice_index words 0 ≡ 1 → (o : Option EntryLinks) → Reads entry_links 1 8
+    → slice_index words 0 ≡ 1 → (o : Option KeyedLinks) → Reads keyed_links 1 8
     (map (slice_index words) (range_with_len 1 7)) o → (v : Option (List ℕ)) → ReadsValue words v
-    → (links : EntryLinks) → o ≡ Some links → (value : List ℕ) → v ≡ Some value
+    → (links : KeyedLinks) → o ≡ Some links → (value : List ℕ) → v ≡ Some value
     → row_in words ≡ Some (Entry links.child links.next links.key value)
 entry_of_links words len some one o of_links v of_value links is value is_value =
     let e : EntryIn words = entry_of_first words some one in
     let l : o ≡ Some (its_entry e) =
-    read_there entry_links words o (of_links words (words_at words 1 7 (omega (arith, len))))
-    (its_entry e) (has_part entry_links words _ _ e.row refl) in
+    read_there keyed_links words o (of_links words (words_at words 1 7 (omega (arith, len))))
+    (its_entry e) (has_part keyed_links words _ _ e.row refl) in
     let w : v ≡ Some e.value =
     read_there entry_value words v
     (of_value words refl (words_at words 8 8 (omega (arith, len)))) e.value
     (has_part entry_value words _ _ e.row refl) in
     let same : its_entry e ≡ links = cc (l, is) in
     let same_value : e.value ≡ value = cc (w, is_value) in
-    e.row ∙ ap (λ (x : EntryLinks). Some (Entry x.child x.next x.key e.value)) same
+    e.row ∙ ap (λ (x : KeyedLinks). Some (Entry x.child x.next x.key e.value)) same
     ∙ ap (λ (x : List ℕ). Some (Entry links.child links.next links.key x)) same_value
 
 pub no_entry : (words : List ℕ) → length words ≡ 16 → IsSome (row_in words) → slice_index words 0
-    ≡ 1 → (o : Option EntryLinks) → Reads entry_links 1 8
+    ≡ 1 → (o : Option KeyedLinks) → Reads keyed_links 1 8
     (map (slice_index words) (range_with_len 1 7)) o → o ≡ None → ⊥
 no_entry words len some one o of_links is =
     let e : EntryIn words = entry_of_first words some one in
     let l : o ≡ Some (its_entry e) =
-    read_there entry_links words o (of_links words (words_at words 1 7 (omega (arith, len))))
-    (its_entry e) (has_part entry_links words _ _ e.row refl) in
+    read_there keyed_links words o (of_links words (words_at words 1 7 (omega (arith, len))))
+    (its_entry e) (has_part keyed_links words _ _ e.row refl) in
     cc (l, is)
 
 pub no_value : (words : List ℕ) → length words ≡ 16 → IsSome (row_in words) → slice_index words 0
@@ -365,7 +365,7 @@ no_value words len some one v of_value is =
 -- ---- the same entry with other links
 
 pub relinked_words : (words : List ℕ) (row : Row) (child next : ℕ) → row_in words ≡ Some row
-    → IsSome (entry_links row) → child ≤ 65535 → next ≤ 65535
+    → IsSome (keyed_links row) → child ≤ 65535 → next ≤ 65535
     → row_in (set (set words 1 child) 2 next) ≡ Some (relinked child next row)
 relinked_words words (Entry c n key value) child next e some low small =
     let is : IsRow (Entry c n key value) × HasBytes (Entry c n key value)

@@ -8,13 +8,13 @@ use Rattle.mst_arena.specs.declared.sought.Way.TheVariants.{Child, Here, Next}
 use Rattle.mst_arena.specs.declared.sought.Stop.{Stop}
 use Rattle.mst_arena.specs.declared.sought.Stop.TheVariants.{Gap, Found, End}
 use Rattle.mst_arena.specs.Content.{Content, part_at}
-use Rattle.mst_arena.specs.Row.{entry_links}
+use Rattle.mst_arena.specs.Row.{keyed_links}
 use Rattle.mst_arena.specs.Ways.{entry_way, by_way, stop_from}
 
 -- a row from which there is a way is an entry
 entry_there : (k : List ℕ) (o : Option Row) (next : Way → Option Stop)
     → IsSome (option_and_then next (option_and_then (entry_way k) o))
-    → IsSome (option_and_then entry_links o)
+    → IsSome (option_and_then keyed_links o)
 entry_there k None next some = some
 entry_there k (Some (Head layer count first tail digest)) next some = some
 entry_there k (Some (Entry child link key value)) next some = refl
@@ -25,7 +25,7 @@ some_of_none some = cc
 -- what a search that ends somewhere finds at its first entry
 pub record AtEntry (k : List ℕ) (content : Content) (left link : ℕ) : Type 0 where
   pub some : 0 < link
-  pub there : IsSome (part_at entry_links content (link - 1))
+  pub there : IsSome (part_at keyed_links content (link - 1))
   pub goes : {w : Way} → part_at (entry_way k) content (link - 1) ≡ Some w
       → by_way link left (stop_from k content (left - 1)) w ≡ stop_from k content left link
 
@@ -38,7 +38,7 @@ at_entry k content (suc n) (suc row) lt some =
     let fewer : suc n - 1 ≡ n = omega arith in
     record {
       some = omega arith;
-      there = subst (λ (r : ℕ). IsSome (part_at entry_links content r)) (sym here)
+      there = subst (λ (r : ℕ). IsSome (part_at keyed_links content r)) (sym here)
           (entry_there k (content row) (by_way (suc row) (suc n) (stop_from k content n)) some);
       goes = λ {w} way.
           ap (λ (m : ℕ). by_way (suc row) (suc n) (stop_from k content m) w) fewer

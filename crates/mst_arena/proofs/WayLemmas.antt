@@ -6,18 +6,18 @@ use Rattle.mst_key.specs.Map.{key_cmp}
 use Rattle.mst_node.specs.Trail.{by_order}
 use Rattle.mst_arena.specs.declared.row.Row.{Row}
 use Rattle.mst_arena.specs.declared.row.Row.TheVariants.{Entry, Head}
-use Rattle.mst_arena.specs.declared.row.EntryLinks.{EntryLinks}
+use Rattle.mst_arena.specs.declared.row.KeyedLinks.{KeyedLinks}
 use Rattle.mst_arena.specs.declared.sought.Way.{Way}
 use Rattle.mst_arena.specs.declared.sought.Way.TheVariants.{Child, Here, Next}
 use Rattle.mst_arena.specs.Content.{Content, part_at}
-use Rattle.mst_arena.specs.Row.{IsRow, HasBytes, entry_links}
+use Rattle.mst_arena.specs.Row.{IsRow, HasBytes, keyed_links}
 use Rattle.mst_arena.specs.Words.{words_of, part_in}
 use Rattle.mst_arena.specs.Ways.{entry_way, way_at, words_order}
 use Rattle.mst_arena.proofs.Readers.{EntryIn, entry_with}
 use Rattle.mst_arena.proofs.WordOrder.{by_words}
 
 -- from the links and the key of an entry
-pub from_links : (k : List ℕ) (o : Option Row) (e : EntryLinks) → option_and_then entry_links o
+pub from_links : (k : List ℕ) (o : Option Row) (e : KeyedLinks) → option_and_then keyed_links o
     ≡ Some e → option_and_then (entry_way k) o ≡ Some (way_at k e.child e.next e.key)
 from_links k None e is = absurd (let no : None ≡ Some e = is in cc)
 from_links k (Some (Head layer count first tail digest)) e is =
@@ -25,11 +25,11 @@ from_links k (Some (Head layer count first tail digest)) e is =
 from_links k (Some (Entry child next key value)) e is =
     let some : Some (record { child = child; next = next; key = key }) ≡ Some e = is in
     let fields : record { child = child; next = next; key = key } ≡ e = cc in
-    ap (λ (x : EntryLinks). Some (way_at k x.child x.next x.key)) fields
+    ap (λ (x : KeyedLinks). Some (way_at k x.child x.next x.key)) fields
 
 -- the way that was returned is that from the entry
-pub way_is : (content : Content) (row : ℕ) (k : List ℕ) (e : EntryLinks) (w : Way)
-    → part_at entry_links content row ≡ Some e → part_at (entry_way k) content row ≡ Some w
+pub way_is : (content : Content) (row : ℕ) (k : List ℕ) (e : KeyedLinks) (w : Way)
+    → part_at keyed_links content row ≡ Some e → part_at (entry_way k) content row ≡ Some w
     → way_at k e.child e.next e.key ≡ w
 way_is content row k e w part is =
     let both : Some (way_at k e.child e.next e.key) ≡ Some w =
@@ -55,15 +55,15 @@ next_way Less child next link is = absurd cc
 next_way Equal child next link is = absurd cc
 next_way Greater child next link is = (refl, cc)
 
-pub to_child : (k : List ℕ) (e : EntryLinks) (link : ℕ) → way_at k e.child e.next e.key ≡ Child link
+pub to_child : (k : List ℕ) (e : KeyedLinks) (link : ℕ) → way_at k e.child e.next e.key ≡ Child link
     → (key_cmp k e.key ≡ Less) × (e.child ≡ link)
 to_child k e link = child_way (key_cmp k e.key) e.child e.next link
 
-pub is_here : (k : List ℕ) (e : EntryLinks) → way_at k e.child e.next e.key ≡ Here → key_cmp k e.key
+pub is_here : (k : List ℕ) (e : KeyedLinks) → way_at k e.child e.next e.key ≡ Here → key_cmp k e.key
     ≡ Equal
 is_here k e = here_way (key_cmp k e.key) e.child e.next
 
-pub to_next : (k : List ℕ) (e : EntryLinks) (link : ℕ) → way_at k e.child e.next e.key ≡ Next link
+pub to_next : (k : List ℕ) (e : KeyedLinks) (link : ℕ) → way_at k e.child e.next e.key ≡ Next link
     → (key_cmp k e.key ≡ Greater) × (e.next ≡ link)
 to_next k e link = next_way (key_cmp k e.key) e.child e.next link
 
@@ -75,10 +75,10 @@ pub record WayIn (k words : List ℕ) : Type 0 where
       (by_order (words_order k (slice_index words)) (Child (slice_index words 1)) Here
       (Next (slice_index words 2)))
 
-pub way_in_words : (k words : List ℕ) → IsKey k → IsBytes k → IsSome (part_in entry_links words)
+pub way_in_words : (k words : List ℕ) → IsKey k → IsBytes k → IsSome (part_in keyed_links words)
     → WayIn k words
 way_in_words k words size all some =
-    let e : EntryIn words = entry_with entry_links words (λ layer count first tail digest. refl)
+    let e : EntryIn words = entry_with keyed_links words (λ layer count first tail digest. refl)
     some in
     let limits : IsRow (Entry e.child e.next e.key e.value) = e.limits in
     let bytes : HasBytes (Entry e.child e.next e.key e.value) = e.bytes in

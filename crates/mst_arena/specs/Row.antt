@@ -6,8 +6,8 @@ use Rattle.mst_arena.specs.Limits.{highest_link, most_entries}
 use Rattle.mst_arena.specs.declared.row.Row.{Row}
 use Rattle.mst_arena.specs.declared.row.Row.TheVariants.{Entry, Head}
 use Rattle.mst_arena.specs.declared.row.HeadLinks.{HeadLinks}
-use Rattle.mst_arena.specs.declared.row.EntryLinks.{EntryLinks}
-use Rattle.mst_arena.specs.declared.row.Links.{Links}
+use Rattle.mst_arena.specs.declared.row.KeyedLinks.{KeyedLinks}
+use Rattle.mst_arena.specs.declared.row.BareLinks.{BareLinks}
 
 -- links, layer and count are within their limits, and a head has a first entry
 abbrev pub IsRow : Row → Type 0
@@ -37,14 +37,14 @@ head_digest (Entry child next key value) = None
 head_digest (Head layer count first tail digest) = Some digest
 
 -- links and key of an entry
-abbrev pub entry_links : Row → Option EntryLinks
-entry_links (Entry child next key value) = Some (record { child = child; next = next; key = key })
-entry_links (Head layer count first tail digest) = None
+abbrev pub keyed_links : Row → Option KeyedLinks
+keyed_links (Entry child next key value) = Some (record { child = child; next = next; key = key })
+keyed_links (Head layer count first tail digest) = None
 
 -- its links without its key
-abbrev pub entry_ends : Row → Option Links
-entry_ends (Entry child next key value) = Some (record { child = child; next = next })
-entry_ends (Head layer count first tail digest) = None
+abbrev pub bare_links : Row → Option BareLinks
+bare_links (Entry child next key value) = Some (record { child = child; next = next })
+bare_links (Head layer count first tail digest) = None
 
 -- its key and its value
 abbrev pub entry_pair : Row → Option Pair

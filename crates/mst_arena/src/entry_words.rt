@@ -5,7 +5,7 @@
 ghost use Rattle.std.specs.Prelude.{◌≡◌, ◌≤◌, ◌+◌, ◌*◌, ◌/◌, ◌%◌, ◌++◌, ℕ, List, length, take, slice_index, slice_range, IsSome, Some};
 ghost use Rattle.mst_key.specs.Map.{Pair};
 ghost use Rattle.mst_node.specs.Text.{child_text, counted};
-ghost use Rattle.mst_arena.specs.Row.{entry_links, entry_pair};
+ghost use Rattle.mst_arena.specs.Row.{keyed_links, entry_pair};
 ghost use Rattle.mst_arena.specs.Words.{bytes_in, part_in, lengths_word, first_key_word, first_value_word};
 
 use crate::parts::{bytes_of_eight, bytes_of_four};

@@ -45,6 +45,6 @@ pub use entry_words::take_words;
 pub use laws::{life_laws, standing_laws, words_laws};
 pub use life::Life;
 pub use plain::PlainRows;
-pub use row::{EntryLinks, HIGHEST_LINK, HeadLinks, Links, MOST_ENTRIES, MOST_ROWS, Root, Row};
+pub use row::{BareLinks, HIGHEST_LINK, HeadLinks, KeyedLinks, MOST_ENTRIES, MOST_ROWS, Root, Row};
 pub use rows::Rows;
 pub use sought::{Sought, Stop, Way};

@@ -2,10 +2,10 @@
 ghost use Rattle.std.specs.Prelude.{◌≡◌, ◌≤◌, ◌<◌, ◌+◌, ◌/◌, ◌%◌, ◌^◌, ◌↔◌, ℕ, List, map, take, slice_index, slice_range, Some, IsSome, IfSome, IsOk, IfOk};
 ghost use Rattle.mst_key.specs.Bytes.{IsKey, IsValue};
 ghost use Rattle.std.specs.List.{range_with_len};
-ghost use Rattle.mst_arena.specs.Row.{head_links, head_digest, entry_links, entry_pair, entry_value};
+ghost use Rattle.mst_arena.specs.Row.{head_links, head_digest, keyed_links, entry_pair, entry_value};
 ghost use Rattle.mst_arena.specs.Words.{byte_of_words, bytes_in, part_in, lengths_word, first_key_word, first_value_word, first_digest_word};
 
-use crate::row::{EntryLinks, HeadLinks, Row};
+use crate::row::{HeadLinks, KeyedLinks, Row};
 use mst_key::{Key, KeySize, Value, ValueSize};
 
 /// The 32 bytes of four words, the highest byte of each word first.
@@ -105,13 +105,13 @@ impl HeadLinks {
     }
 }
 
-impl EntryLinks {
+impl KeyedLinks {
     /// The links and the key of an entry, from words 1 to 7 of its sixteen.
     ///
     /// The links are the first two of these words. The key is the first bytes of the last four, as
     /// many as the low byte of the third word says. The result is `None` exactly if a link does not
     /// fit four bytes, or the key would have no bytes or more than 32.
-    pub fn read(words: &[u64; 7]) -> Option<EntryLinks>
+    pub fn read(words: &[u64; 7]) -> Option<KeyedLinks>
         ensures some { IfSome result (λ entry. (entry.child ≡ slice_index words.now 0)
             × (entry.next ≡ slice_index words.now 1)
             × (entry.key ≡ take (slice_index words.now 2 % 256)
@@ -120,14 +120,14 @@ impl EntryLinks {
             × (slice_index words.now 1 < 2 ^ 32) × (0 < slice_index words.now 2 % 256)
             × (slice_index words.now 2 % 256 ≤ 32)) }
         ensures part { (all : List ℕ) → words.now ≡ slice_range all 1 8
-            → IsSome (part_in entry_links all) → part_in entry_links all ≡ result }
+            → IsSome (part_in keyed_links all) → part_in keyed_links all ≡ result }
     {
         let [child, next, lengths, a, b, c, d] = *words;
         let len = (lengths % 256) as usize;
         if len > 32 {
             return None;
         }
-        Some(EntryLinks {
+        Some(KeyedLinks {
             child: u32::try_from(child).ok()?,
             next: u32::try_from(next).ok()?,
             key: key_of(&[a, b, c, d], len).ok()?,
@@ -174,7 +174,7 @@ impl Row {
         ensures part { (all : List ℕ) → lengths ≡ slice_index all lengths_word
             → key.now ≡ slice_range all first_key_word first_value_word
             → value.now ≡ slice_range all first_value_word 16
-            → IsSome (part_in entry_links all) → part_in entry_pair all ≡ result }
+            → IsSome (part_in keyed_links all) → part_in entry_pair all ≡ result }
     {
         let len = lengths % 256;
         let size = lengths / 256;

@@ -2,7 +2,7 @@
 ghost use Rattle.std.specs.Prelude.{◌≡◌, ◌≤◌, ◌<◌, None, IfOk, replicate};
 ghost use Rattle.mst_arena.specs.Limits.{most_rows};
 
-use crate::row::{EntryLinks, HeadLinks, Row};
+use crate::row::{HeadLinks, KeyedLinks, Row};
 use crate::rows::Rows;
 use crate::sought::{Sought, Way};
 use mst_key::{Memory, Value};
@@ -94,7 +94,7 @@ impl<A: Allocator> Rows for PlainRows<A> {
         }
     }
 
-    fn entry(&mut self, row: u32) -> EntryLinks {
+    fn entry(&mut self, row: u32) -> KeyedLinks {
         match &self.places[row as usize] {
             Some(
                 Row::Entry {
@@ -103,7 +103,7 @@ impl<A: Allocator> Rows for PlainRows<A> {
                     key,
                     ..
                 },
-            ) => EntryLinks {
+            ) => KeyedLinks {
                 child: *child,
                 next: *next,
                 key: key.copy(),

@@ -53,7 +53,7 @@ pub struct HeadLinks {
 
 /// What a search needs of an entry.
 #[derive(Debug, Drop, PartialEq, Eq)]
-pub struct EntryLinks {
+pub struct KeyedLinks {
     pub child: u32,
     pub next: u32,
     pub key: Key,
@@ -61,7 +61,7 @@ pub struct EntryLinks {
 
 /// What a walk needs of an entry whose key it does not read.
 #[derive(Clone, Copy, Debug, PartialEq, Eq)]
-pub struct Links {
+pub struct BareLinks {
     /// The link of the head of the tree in the gap before the key.
     pub child: u32,
     /// The link of the next entry of the node.

@@ -4,12 +4,12 @@ ghost use Rattle.mst_key.specs.Bytes.{IsKey, IsValue};
 ghost use Rattle.mst_key.specs.Map.{Pair};
 ghost use Rattle.mst_node.specs.Text.{child_text, counted, held_of, held_text};
 ghost use Rattle.mst_arena.specs.Limits.{highest_link};
-ghost use Rattle.mst_arena.specs.Row.{IsRow, IsHead, head_links, head_digest, entry_links, entry_ends, entry_pair, entry_value};
+ghost use Rattle.mst_arena.specs.Row.{IsRow, IsHead, head_links, head_digest, keyed_links, bare_links, entry_pair, entry_value};
 ghost use Rattle.mst_arena.specs.Content.{part_at, Writes, relinked};
 ghost use Rattle.mst_arena.specs.Ways.{entry_way, stop_from};
 
 use crate::entry_text::take_whole;
-use crate::row::{EntryLinks, HeadLinks, Links, Row};
+use crate::row::{BareLinks, HeadLinks, KeyedLinks, Row};
 use crate::sought::{Sought, Stop, Way};
 use mst_key::{Format, Key, Value};
 use mst_node::TextSink;
@@ -54,7 +54,7 @@ pub trait Rows {
     /// Copies the entry at a number into a blank row, with another child and another next. It
     /// returns the entry's value, so that a caller does not load its words once more.
     fn copy_entry(&mut self, from: u32, to: u32, child: u32, next: u32) -> Value
-        requires there { IsSome (part_at entry_links (content self.old) from) }
+        requires there { IsSome (part_at keyed_links (content self.old) from) }
         requires blank { IsTrue (blank self.old to) }
         requires child { child ≤ highest_link }
         requires next { next ≤ highest_link }
@@ -117,9 +117,9 @@ pub trait Rows {
     }
 
     /// The links and the key of the entry at this number.
-    fn entry(&mut self, row: u32) -> EntryLinks
-        requires there { IsSome (part_at entry_links (content self.old) row) }
-        ensures value { part_at entry_links (content self.old) row ≡ Some result }
+    fn entry(&mut self, row: u32) -> KeyedLinks
+        requires there { IsSome (part_at keyed_links (content self.old) row) }
+        ensures value { part_at keyed_links (content self.old) row ≡ Some result }
         ensures same { self.new ≡ self.old }
     {
         match self.read(row) {
@@ -128,19 +128,19 @@ pub trait Rows {
                 next,
                 key,
                 ..
-            } => EntryLinks { child, next, key },
+            } => KeyedLinks { child, next, key },
             Row::Head { .. } => unreachable!(),
         }
     }
 
     /// The links of the entry at this number, for a walk that does not read its key.
-    fn links(&mut self, row: u32) -> Links
-        requires there { IsSome (part_at entry_links (content self.old) row) }
-        ensures value { part_at entry_ends (content self.old) row ≡ Some result }
+    fn links(&mut self, row: u32) -> BareLinks
+        requires there { IsSome (part_at keyed_links (content self.old) row) }
+        ensures value { part_at bare_links (content self.old) row ≡ Some result }
         ensures same { self.new ≡ self.old }
     {
         let entry = self.entry(row);
-        Links {
+        BareLinks {
             child: entry.child,
             next: entry.next,
         }
@@ -148,7 +148,7 @@ pub trait Rows {
 
     /// The key and the value of the entry at this number.
     fn pair(&mut self, row: u32) -> (Key, Value)
-        requires there { IsSome (part_at entry_links (content self.old) row) }
+        requires there { IsSome (part_at keyed_links (content self.old) row) }
         ensures value { part_at entry_pair (content self.old) row ≡ Some result }
         ensures same { self.new ≡ self.old }
     {
@@ -158,7 +158,7 @@ pub trait Rows {
 
     /// Adds the key and the value of the entry at this number to a list that has room for a pair.
     fn push_pair<A: Allocator>(&mut self, row: u32, list: &mut Vec<(Key, Value), A>)
-        requires there { IsSome (part_at entry_links (content self.old) row) }
+        requires there { IsSome (part_at keyed_links (content self.old) row) }
         requires room { length list.old.items < vec_capacity list.old }
         ensures pushed { (pair : Pair) → part_at entry_pair (content self.old) row ≡ Some pair
             → list.new.items ≡ list.old.items ++ pair ∷ [] }
@@ -176,7 +176,7 @@ pub trait Rows {
         child: Option<[u8; 32]>,
         sink: &mut S,
     )
-        requires there { IsSome (part_at entry_links (content self.old) row) }
+        requires there { IsSome (part_at keyed_links (content self.old) row) }
         ensures entry { (pair : Pair) → part_at entry_pair (content self.old) row ≡ Some pair
             → (m : List ℕ) → S.took sink.old m
             → S.took sink.new (m ++ child_text child ++ counted pair.0
@@ -191,7 +191,7 @@ pub trait Rows {
 
     /// Where a search for the key goes on from the entry at this number.
     fn way(&mut self, row: u32, key: &Sought) -> Way
-        requires there { IsSome (part_at entry_links (content self.old) row) }
+        requires there { IsSome (part_at keyed_links (content self.old) row) }
         ensures way { part_at (entry_way key.now) (content self.old) row ≡ Some result }
         ensures same { self.new ≡ self.old }
     {

@@ -6,7 +6,7 @@ ghost use Rattle.mst_arena.specs.Row.{IsRow, HasBytes};
 ghost use Rattle.mst_arena.specs.Words.{word_from, words_of, bytes_in, row_in, root_in};
 
 use crate::parts::bytes_of_four;
-use crate::row::{EntryLinks, HeadLinks, Root, Row};
+use crate::row::{HeadLinks, KeyedLinks, Root, Row};
 use mst_key::{Key, Value};
 
 /// The byte at an index, or 0 past the end.
@@ -90,7 +90,7 @@ fn entry_of(words: &[u64; 16]) -> Option<Row>
         v6,
         v7,
     ] = *words;
-    let links = EntryLinks::read(&[child, next, lengths, k0, k1, k2, k3])?;
+    let links = KeyedLinks::read(&[child, next, lengths, k0, k1, k2, k3])?;
     let value = Row::read_value(lengths, &[v0, v1, v2, v3, v4, v5, v6, v7])?;
     Some(Row::Entry {
         child: links.child,

@@ -6,7 +6,7 @@ use Rattle.mst_key.specs.declared.format.Format.{Format}
 use Rattle.mst_arena.specs.Content.{Content, part_at}
 use Rattle.mst_arena.specs.Row.{head_links, entry_value}
 use Rattle.mst_arena.specs.declared.row.HeadLinks.{HeadLinks}
-use Rattle.mst_arena.specs.declared.row.EntryLinks.{EntryLinks}
+use Rattle.mst_arena.specs.declared.row.KeyedLinks.{KeyedLinks}
 use Rattle.mst_arena.specs.Standing.{Placed, none, head, Chain, link_of, head_row, rows_of, HasRows}
 use Rattle.mst_read.specs.Search.{Lies, head_of}
 use Rattle.mst_read.proofs.Walk.{Onward, AtCell, further}
@@ -49,7 +49,7 @@ begins format content link p lies some h read items =
         sym (ap (option_and_then head_links) there) ∙ read
 
 -- the tree before an entry is added, and then its pair
-pub goes_on : {format : Format} {content : Content} {tail row done all : ℕ} {e : EntryLinks}
+pub goes_on : {format : Format} {content : Content} {tail row done all : ℕ} {e : KeyedLinks}
     (l : ℕ) (items whole : List Item)
     (a : AtCell format content tail row done all e (Makes l items whole))
     (between after : List Item) (value : List ℕ) → between ≡ items ++ tree_items a.child

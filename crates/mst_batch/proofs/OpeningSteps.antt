@@ -13,11 +13,11 @@ use Rattle.mst_key.specs.Map.{Pair, IsAscending}
 use Rattle.mst_key.proofs.SpanLaws.{contains-first, contains-later}
 use Rattle.mst_node.specs.Tree.{pairs, entries_pairs, IsMstEntries}
 use Rattle.mst_arena.specs.Content.{Content, part_at}
-use Rattle.mst_arena.specs.Row.{head_links, entry_links, entry_value}
+use Rattle.mst_arena.specs.Row.{head_links, keyed_links, entry_value}
 use Rattle.mst_arena.specs.declared.row.Row.{Row}
 use Rattle.mst_arena.specs.declared.row.Row.TheVariants.{Entry}
 use Rattle.mst_arena.specs.declared.row.HeadLinks.{HeadLinks}
-use Rattle.mst_arena.specs.declared.row.EntryLinks.{EntryLinks}
+use Rattle.mst_arena.specs.declared.row.KeyedLinks.{KeyedLinks}
 use Rattle.mst_arena.specs.Standing.{Placed, none, head, Chain, end, cell, tree_of, entries_of, link_of, first_of, tail_of, count_of, rows_of, chain_rows, HasRows}
 use Rattle.mst_arena.proofs.Stands.{all-front, all-back}
 use Rattle.mst_change.proofs.Split.Trees.{rest_rises}
@@ -128,7 +128,7 @@ module _ (format : Format) (content : Content) (whole : Placed) (link : ℕ)
 -- the entry that was read, with the tree before it, and what is left after it
 pub record AtEntry (format : Format) (content : Content) (whole : Placed) (layer : ℕ)
     (old new : List Item) (all : List Pair) (left : List Edit) (tail row done count : ℕ)
-    (e : EntryLinks) : Type 0 where
+    (e : KeyedLinks) : Type 0 where
   pub child : PartOf format content whole e.child
   pub falls : height_at content e.child < layer + 1
   pub key_is : layer_in format e.key ≡ layer
@@ -145,20 +145,20 @@ module _ (format : Format) (content : Content) (whole : Placed) (layer : ℕ)
     (o : Opening format content whole layer old new all left tail next done count) where
   -- an entry stands at the next link
   pub entry_there : done < count
-      → IsSome (part_at entry_links content (next - 1)) × IsSome (part_at entry_value content
+      → IsSome (part_at keyed_links content (next - 1)) × IsSome (part_at entry_value content
       (next - 1)) × (0 < next)
   entry_there some = go o.rest o.first_is o.counted o.rows
     where
       go : (c : Chain) → first_of c ≡ next → count_of c + done ≡ count
           → HasRows content (chain_rows format c)
-          → IsSome (part_at entry_links content (next - 1))
+          → IsSome (part_at keyed_links content (next - 1))
           × IsSome (part_at entry_value content (next - 1)) × (0 < next)
       go (end p) first counted has = absurd (omega (arith, some, counted))
       go (cell at p key value c) first counted has =
           let same : next - 1 ≡ at = omega (arith, first) in
           let there : content (next - 1) ≡ Some (Entry (link_of p) (first_of c) key value) =
           ap content same ∙ has.0 in (
-            subst (λ (r : Option Row). IsSome (option_and_then entry_links r)) (sym there) refl,
+            subst (λ (r : Option Row). IsSome (option_and_then keyed_links r)) (sym there) refl,
             subst (λ (r : Option Row). IsSome (option_and_then entry_value r)) (sym there) refl,
             omega (arith, first),
           )
@@ -218,8 +218,8 @@ module _ (format : Format) (content : Content) (whole : Placed) (layer : ℕ)
               };
         }
 
-    pub at_entry : done < count → (e : EntryLinks)
-        → part_at entry_links content (next - 1) ≡ Some e
+    pub at_entry : done < count → (e : KeyedLinks)
+        → part_at keyed_links content (next - 1) ≡ Some e
         → AtEntry format content whole layer old new all left tail (next - 1) done count e
     at_entry some e read =
         go o.rest o.first_is o.tail_is o.counted o.rows o.search o.rise o.within o.is
@@ -238,7 +238,7 @@ module _ (format : Format) (content : Content) (whole : Placed) (layer : ℕ)
             let there : content (next - 1) ≡ Some (Entry (link_of p) (first_of c) key value) =
             ap content same ∙ has.0 in
             let both : Some (record { child = link_of p; next = first_of c; key = key })
-            ≡ Some e = sym (ap (option_and_then entry_links) there) ∙ read in
+            ≡ Some e = sym (ap (option_and_then keyed_links) there) ∙ read in
             let same_links : record { child = link_of p; next = first_of c; key = key } ≡ e = cc
             in
             subst (AtEntry format content whole layer old new all left tail (next - 1) done count)

@@ -7,7 +7,7 @@ use Rattle.mst_arena.specs.Content.{Content, part_at}
 use Rattle.mst_arena.specs.Row.{entry_value}
 use Rattle.mst_arena.specs.Standing.{Placed, Chain, end, cell, link_of, count_of}
 use Rattle.mst_arena.specs.declared.row.Row.{Row}
-use Rattle.mst_arena.specs.declared.row.EntryLinks.{EntryLinks}
+use Rattle.mst_arena.specs.declared.row.KeyedLinks.{KeyedLinks}
 use Rattle.mst_arena.specs.declared.row.HeadLinks.{HeadLinks}
 use Rattle.mst_read.specs.Search.{LiesBehind}
 use Rattle.mst_read.proofs.Walk.{Onward, AtCell, further}
@@ -60,7 +60,7 @@ module _ {A : Type 0} (xs : List (PlanEntry A)) (t : PlanTree) where
       ))),
     )
 
-  module _ {format : Format} {content : Content} {far row i all : ℕ} {links : EntryLinks}
+  module _ {format : Format} {content : Content} {far row i all : ℕ} {links : KeyedLinks}
       (c : Chain) (a : AtCell format content far row i all links (IsSameFrom c i)) where
     pub value_at : part_at entry_value content row ≡ Some a.value
     value_at = ap (λ (r : Option Row). part_at entry_value (λ n. r) 0) a.here

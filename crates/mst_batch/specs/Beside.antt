@@ -9,7 +9,7 @@ use Rattle.mst_node.specs.Tree as tree
 use Rattle.mst_node.specs.Tree.{Tree, Entries}
 use Rattle.mst_arena.specs.Lists.{In}
 use Rattle.mst_arena.specs.Standing.{Placed, none, head, Chain, end, cell, tree_of, link_of}
-use Rattle.mst_arena.specs.declared.row.EntryLinks.{EntryLinks}
+use Rattle.mst_arena.specs.declared.row.KeyedLinks.{KeyedLinks}
 use Rattle.mst_arena.specs.Ages.{placed_nodes}
 use Rattle.mst_batch.specs.Kept.{is_marked}
 use Rattle.mst_batch.specs.Plans.{PlanTree, PlanEntries, PlannedEntry, kept, made, last, entry}
@@ -76,7 +76,7 @@ kept_entries (cell at child key value rest) =
     entry (kept (link_of child)) key value (kept_entries rest)
 
 -- an entry that stands with these links and this value, with the tree before it kept
-abbrev pub kept_entry : EntryLinks → List ℕ → PlannedEntry
+abbrev pub kept_entry : KeyedLinks → List ℕ → PlannedEntry
 kept_entry links value = record { child = kept links.child; key = links.key; value = value }
 
 -- a node that stands, with each tree below it kept; nothing at link 0

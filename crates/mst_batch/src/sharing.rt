@@ -11,7 +11,7 @@ ghost use Rattle.mst_batch.specs.Beside.{plan_beside, entries_beside, link_of_ke
 ghost use Rattle.mst_batch.specs.Plans.{plan_of, plan_of_node, planned_entry, with_planned, kept, made, last};
 
 use crate::plan::{Plan, PlanEntry, PlanNode};
-use mst_arena::{EntryLinks, HeadLinks, Root, Rows, Sought};
+use mst_arena::{HeadLinks, KeyedLinks, Root, Rows, Sought};
 use mst_key::Memory;
 use mst_read::{RowPlace, head_at, seek};
 use std::alloc::Allocator;
@@ -53,7 +53,7 @@ fn keeps<B: Allocator>(plan: &Plan<Box<PlanNode<B>, B>>, link: u32) -> bool
 fn is_entry<R: Rows, B: Allocator>(
     rows: &mut R,
     row: u32,
-    links: &EntryLinks,
+    links: &KeyedLinks,
     entry: &PlanEntry<B>,
 ) -> bool
     requires there { IsSome (part_at entry_value (R.content rows.old) row) }

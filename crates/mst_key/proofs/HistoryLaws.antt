@@ -188,17 +188,6 @@ reply_past_migration first other to g h by pass e =
 
 -- ---- histories of possible changes
 
-pub IsPossible-append : (g h : History) → IsPossible g → IsPossible h → IsPossible (g ++ h)
-IsPossible-append = alls-append (λ e. IsWithinLimits e.change)
-
-pub IsPossible-push : (h : History) (e : Event) → IsPossible h → IsWithinLimits e.change
-    → IsPossible (h ++ e ∷ [])
-IsPossible-push h e possible within = IsPossible-append h (e ∷ []) possible (within, tt)
-
-pub IsPossible-begins : (g h : History) → IsPrefix g h → IsPossible h → IsPossible g
-IsPossible-begins g h begins possible = alls-front (λ e. IsWithinLimits e.change) g begins.0
-    (subst IsPossible begins.1 possible)
-
 -- ---- one history begins another
 
 pub IsPrefix-nil : (h : History) → IsPrefix [] h

@@ -120,25 +120,15 @@ remove-first back k k' w equal above =
 
 module _ (m front back : List Pair) (k : List ℕ) (split : m ≡ front ++ back)
     (below : AllBelow front k) (above : AllAbove back k) where
-  pub map_get-between : map_get m k ≡ None
-  map_get-between = ap (λ (l : List Pair). map_get l k) split ∙ map_get-right front back k below
-      ∙ map_get-above back k above
 
   pub put-between : (v : List ℕ) → put m k v ≡ front ++ (k, v) ∷ back
   put-between v = ap (λ (l : List Pair). put l k v) split ∙ put-right front back k v below
       ∙ ap (λ (l : List Pair). front ++ l) (put-before back k v above)
 
-  pub remove-between : remove m k ≡ m
-  remove-between = ap (λ (l : List Pair). remove l k) split ∙ remove-right front back k below
-      ∙ ap (λ (l : List Pair). front ++ l) (above-stays back k above) ∙ sym split
-
 -- ---- a list that has the key, split at its pair
 
 module _ (m front back : List Pair) (k k' w : List ℕ) (split : m ≡ front ++ (k', w) ∷ back)
     (equal : key_cmp k' k ≡ Equal) (below : AllBelow front k) (above : AllAbove back k) where
-  pub map_get-at : map_get m k ≡ Some w
-  map_get-at = ap (λ (l : List Pair). map_get l k) split ∙ map_get-right front ((k', w) ∷ back) k
-      below ∙ map_get-here (k', w) back k (same_from_equal k' k equal)
 
   pub put-at : (v : List ℕ) → put m k v ≡ front ++ (k, v) ∷ back
   put-at v = ap (λ (l : List Pair). put l k v) split ∙ put-right front ((k', w) ∷ back) k v below
@@ -217,38 +207,3 @@ parts_absent m k rise none = sym (remove-unchanged m k rise none) ∙ remove-par
 pub parts_found : (m : List Pair) (k v : List ℕ) → IsAscending m → map_get m k ≡ Some v
     → m ≡ filter (λ p. is_lt (key_cmp p.0 k)) m ++ (k, v) ∷ filter (λ p. is_gt (key_cmp p.0 k)) m
 parts_found m k v rise found = sym (put-unchanged m k v rise found)
-
--- ---- how many pairs there are
-
-pub length-put_new : (m : List Pair) (k v : List ℕ) → IsAscending m → map_get m k ≡ None
-    → length (put m k v) ≡ length m + 1
-length-put_new m k v rise none =
-    let low : List Pair = filter (λ (p : Pair). is_lt (key_cmp p.0 k)) m in
-    let high : List Pair = filter (λ (p : Pair). is_gt (key_cmp p.0 k)) m in
-    let old : length m ≡ length low + length high = ap length (parts_absent m k rise none)
-    ∙ length-append low high in
-    let new : length (put m k v) ≡ length low + length ((k, v) ∷ high) =
-    length-append low ((k, v) ∷ high) in
-    omega arith
-
-pub length-put_again : (m : List Pair) (k v w : List ℕ) → IsAscending m → map_get m k ≡ Some w
-    → length (put m k v) ≡ length m
-length-put_again m k v w rise found =
-    let low : List Pair = filter (λ (p : Pair). is_lt (key_cmp p.0 k)) m in
-    let high : List Pair = filter (λ (p : Pair). is_gt (key_cmp p.0 k)) m in
-    let old : length m ≡ length low + length ((k, w) ∷ high) =
-    ap length (parts_found m k w rise found) ∙ length-append low ((k, w) ∷ high) in
-    let new : length (put m k v) ≡ length low + length ((k, v) ∷ high) =
-    length-append low ((k, v) ∷ high) in
-    omega arith
-
-pub length-remove : (m : List Pair) (k w : List ℕ) → IsAscending m → map_get m k ≡ Some w
-    → length (remove m k) + 1 ≡ length m
-length-remove m k w rise found =
-    let low : List Pair = filter (λ (p : Pair). is_lt (key_cmp p.0 k)) m in
-    let high : List Pair = filter (λ (p : Pair). is_gt (key_cmp p.0 k)) m in
-    let old : length m ≡ length low + length ((k, w) ∷ high) =
-    ap length (parts_found m k w rise found) ∙ length-append low ((k, w) ∷ high) in
-    let new : length (remove m k) ≡ length low + length high = ap length (remove-parts m k rise)
-    ∙ length-append low high in
-    omega arith

@@ -6,7 +6,7 @@ use Rattle.mst_key.specs.declared.format.Format.{Format}
 use Rattle.mst_key.specs.declared.format.Format.TheVariants.{One, Two}
 use Rattle.mst_key.specs.Layer.{digits, zeros_in_front, layer_in, digits_a_byte, most_layer}
 
-zeros_le : (ds : List ℕ) → zeros_in_front ds ≤ length ds
+pub zeros_le : (ds : List ℕ) → zeros_in_front ds ≤ length ds
 zeros_le [] = omega arith
 zeros_le (d ∷ ds) = go (d == 0) (zeros_le ds)
   where

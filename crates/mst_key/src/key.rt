@@ -1,6 +1,8 @@
 //! Keys: short byte strings in bytewise order.
-ghost use Rattle.std.specs.Prelude.{⊤, ◌≡◌, ◌↔◌, List, ℕ, IsOk, IfOk};
+ghost use Rattle.std.specs.Prelude.{⊤, ◌≡◌, ◌↔◌, List, ℕ, IsOk, IfOk, IsTrue};
+ghost use Rattle.std.specs.declared.cmp.Ordering.TheVariants.{Less};
 ghost use Rattle.mst_key.specs.Bytes.{IsKey, IsBytes};
+ghost use Rattle.mst_key.specs.Map.{key_cmp};
 
 use arrayvec::ArrayVec;
 use std::alloc::AllocError;
@@ -98,6 +100,23 @@ impl Key {
         ensures range { IsBytes result.now }
     {
         self.bytes.as_slice()
+    }
+
+    /// Says that the key has 1 to 32 bytes, as each has by its type.
+    pub fn key_limits(&self)
+        ensures limits { IsKey self.now }
+    {
+        let _bytes = self.bytes();
+    }
+
+    /// Whether the key comes before another.
+    pub fn precedes(&self, other: &Key) -> bool
+        ensures less { IsTrue result ↔ (key_cmp self.now other.now ≡ Less) }
+    {
+        match self.cmp(other) {
+            Ordering::Less => true,
+            Ordering::Equal | Ordering::Greater => false,
+        }
     }
 
     /// A copy of the key, as by `clone`, but without an error: it takes no memory.

@@ -63,6 +63,13 @@ impl Value {
         self.bytes.as_slice()
     }
 
+    /// Says that the value has at most 64 bytes, as each has by its type.
+    pub fn value_limits(&self)
+        ensures limits { IsValue self.now }
+    {
+        let _bytes = self.bytes();
+    }
+
     /// A copy of the value, as by `clone`, but without an error: it takes no memory.
     pub fn copy(&self) -> Value
         ensures same { result ≡ self.now }

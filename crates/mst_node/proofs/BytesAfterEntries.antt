@@ -83,18 +83,3 @@ whole-empty x [] = refl
 whole-empty x (b ∷ left) = grind (arith, nat_tests)
 
 -- ---- the heading of a text
-
-pub node-heading : (text body : List ℕ) (n : ℕ) → 4 ≤ length text → get_or text 0 0 ≡ 1
-    → n ≡ from_be_bytes w16 (get_or text 2 0 ∷ get_or text 3 0 ∷ []) → body ≡ take (length text - 4)
-    (drop 4 text) → node_at One text ≡ cond (n == 0) None
-    (body_at One n body >>= λ b. Some (node_of One (get_or text 1 0) b))
-unfolding node_at
-node-heading [] body n h v e is = absurd (omega arith)
-node-heading (a ∷ []) body n h v e is = absurd (omega arith)
-node-heading (a ∷ b ∷ []) body n h v e is = absurd (omega arith)
-node-heading (a ∷ b ∷ c ∷ []) body n h v e is = absurd (omega arith)
-node-heading (a ∷ b ∷ c ∷ d ∷ bytes) body n h v e is =
-    let same : (a == 1) ≡ true = grind (arith, nat_tests) in
-    let width : length (a ∷ b ∷ c ∷ d ∷ bytes) - 4 ≡ length bytes = omega arith in
-    let all : bytes ≡ body = sym (is ∙ ap (λ (k : ℕ). take k bytes) width ∙ take-length bytes) in
-    rw (same, ← e, all)

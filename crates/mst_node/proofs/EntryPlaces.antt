@@ -115,12 +115,6 @@ child_before-end [] tail i h = refl
 child_before-end (x ∷ es) tail zero h = absurd (omega arith)
 child_before-end (x ∷ es) tail (suc i) h = child_before-end es tail i (omega arith)
 
-pub slice_get-map : {A B : Type 0} (f : A → B) (xs : List A) (i : ℕ) (x : A) → slice_get xs i ≡ Some
-    x → slice_get (map f xs) i ≡ Some (f x)
-slice_get-map f [] i x h = absurd (cc)
-slice_get-map f (y ∷ xs) zero x h = ap (λ z. Some (f z)) (some_same y x h)
-slice_get-map f (y ∷ xs) (suc i) x h = slice_get-map f xs i x h
-
 -- ---- a body that is seen as these entries and this last child
 
 pub seen-count : (format : Format) (n : ℕ) (bytes : List ℕ) (es : List FlatEntry)

@@ -1,6 +1,8 @@
 -- Trees of two formats share no subtree, so a map that changes its format has all its nodes anew.
 use Rattle.std.proofs.Common.{◌≡◌, ℕ, ◌+◌, ◌==◌, Bool, true, false, not, cond, ◌&&◌, ◌||◌, List, [], ◌∷◌, ◌++◌, length, length-append, refl, ◌∙◌, ap, arith, true≢false}
 use Rattle.std.specs.List.{list_any}
+use Rattle.std.proofs.lemmas.Bool.{or_from}
+use Rattle.std.proofs.lemmas.List.Folds.{list_any-append}
 use Rattle.mst_key.specs.declared.format.Format.{Format}
 use Rattle.mst_key.specs.Map.{Pair}
 use Rattle.mst_node.specs.Tree.{Tree, empty, node, Entries, last, entry, entry_count, pairs, entries_pairs, tree, IsMst, IsMstEntries}
@@ -8,16 +10,12 @@ use Rattle.mst_node.specs.Cost.{subtrees, entries_subtrees, same_format, same_tr
 use Rattle.mst_node.proofs.Weights.{weigh, weigh_is, weigh-append}
 use Rattle.mst_node.proofs.UniqueTree.{pairs_tree, tree_mst}
 
-none_either : (p : Tree → Bool) (xs ys : List Tree) → list_any p xs ≡ false → list_any p ys ≡ false
+-- a test that no element of two lists passes
+pub none_either : (p : Tree → Bool) (xs ys : List Tree) → list_any p xs ≡ false → list_any p ys
+    ≡ false
     → list_any p (xs ++ ys) ≡ false
-none_either p [] ys a b = b
-none_either p (x ∷ xs) ys a b = go (p x) a (λ c. none_either p xs ys c b)
-  where
-    go : (t : Bool) → (t || list_any p xs) ≡ false
-        → (list_any p xs ≡ false → list_any p (xs ++ ys) ≡ false) → (t || list_any p (xs ++ ys))
-        ≡ false
-    go true c more = absurd (true≢false c)
-    go false c more = more c
+none_either p xs ys a b =
+    list_any-append p xs ys ∙ or_from (list_any p xs) (list_any p ys) a b
 
 module _ (f g : Format) (other : same_format g f ≡ false) where
   module _ (l : ℕ) (es : Entries) where

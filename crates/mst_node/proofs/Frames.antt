@@ -39,7 +39,7 @@ first_takes (v ∷ n ∷ a ∷ e ∷ c ∷ d ∷ bytes) p h b =
     (four_fit a e c d a_fits e_fits c_fits d_fits) part.1 in
     let small : size < 2 ^ 32 = omega arith in
     record {
-      version = v;
+      format_byte = v;
       count = n;
       rest = p.1;
       some = grind (arith, nat_tests, some.0);

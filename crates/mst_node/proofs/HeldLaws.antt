@@ -13,7 +13,8 @@ use Rattle.mst_node.specs.Cost.{subtrees, is_subtree, top_entries}
 use Rattle.mst_node.specs.Stays.{tree_at, lasts, is_kept, has_stayed, rows_first_at, held_below, held}
 use Rattle.mst_node.proofs.UniqueTree.{pairs_tree, tree_mst}
 use Rattle.mst_node.proofs.Distinct.{copies, once}
-use Rattle.mst_node.proofs.VersionLists.{and_true, true_and, or_true, true_or, up_to, any_in, in_any, any_more, any_same, and_true_same, not_from, from_not}
+use Rattle.std.proofs.lemmas.Bool.{and_parts, and_from, or_cases}
+use Rattle.mst_node.proofs.VersionLists.{true_or, up_to, any_in, in_any, any_more, any_same, and_true_same, not_from, from_not}
 use Rattle.mst_node.proofs.Weights.{weigh, weigh_is, all, weigh_all, weigh_none, weigh_weaker, weigh_split, weigh_common}
 
 -- ---- the same versions
@@ -106,7 +107,7 @@ module _ (format : Format) (h : History) where
   pub lasts_stands : (u w : ℕ) (t : Tree) → lasts format h u w t ≡ true → stands w t ≡ true
   lasts_stands u zero t is = is
   lasts_stands u (suc w) t is =
-      (and_true (stands (suc w) t) (nat_lt w u || lasts format h u w t) is).0
+      (and_parts (stands (suc w) t) (nat_lt w u || lasts format h u w t) is).0
 
   -- what has stayed up to a version stood in the version before, which is kept, or it had stayed up
   -- to that one
@@ -116,10 +117,10 @@ module _ (format : Format) (h : History) where
     stayed_from is =
         let found = any_in (λ u. nat_lt u (suc w) && lasts format h u (suc w) t) live is in
         let u = found.0 in
-        let both = and_true (nat_lt u (suc w)) (lasts format h u (suc w) t) found.2 in
+        let both = and_parts (nat_lt u (suc w)) (lasts format h u (suc w) t) found.2 in
         let first : nat_lt u (suc w) ≡ true = both.0 in
         let before : u ≤ w = grind (arith, nat_tests, first) in
-        let two = and_true (stands (suc w) t) (lasts format h u w t)
+        let two = and_parts (stands (suc w) t) (lasts format h u w t)
         (sym (lasts_on u w t before) ∙ both.1) in (
           lasts_stands u w t two.1,
           true_or (is_kept live w) (stayed live w t) (elim (up_to u w before) [
@@ -128,7 +129,7 @@ module _ (format : Format) (h : History) where
                 grind (arith, nat_tests, same) in e))
             | inr less ↦ inr
                 (in_any (λ v. nat_lt v w && lasts format h v w t) live u found.1
-                (true_and (nat_lt u w) (lasts format h u w t) (let e : nat_lt u w ≡ true =
+                (and_from (nat_lt u w) (lasts format h u w t) (let e : nat_lt u w ≡ true =
                 grind (arith, nat_tests, less) in e) two.1))
           ]),
           two.0,
@@ -136,11 +137,11 @@ module _ (format : Format) (h : History) where
 
     stays_on : stands (suc w) t ≡ true → stands w t ≡ true → (is_kept live w || stayed live w t)
         ≡ true → stayed live (suc w) t ≡ true
-    stays_on now was is = elim (or_true (is_kept live w) (stayed live w t) is) [
+    stays_on now was is = elim (or_cases (is_kept live w) (stayed live w t) is) [
       | inl kept ↦ let found = any_in (λ v. v == w) live kept in goes_on found.0 found.1
           (same_version found.0 found.2) (last_of found.0 found.2)
       | inr there ↦ let found = any_in (λ v. nat_lt v w && lasts format h v w t) live there in
-          let both = and_true (nat_lt found.0 w) (lasts format h found.0 w t) found.2 in
+          let both = and_parts (nat_lt found.0 w) (lasts format h found.0 w t) found.2 in
           goes_on found.0 found.1 (earlier found.0 both.0) both.1
     ]
       where
@@ -159,8 +160,8 @@ module _ (format : Format) (h : History) where
         goes_on v has before long =
             let e : nat_lt v (suc w) ≡ true = grind (arith, nat_tests, before) in
             in_any (λ u. nat_lt u (suc w) && lasts format h u (suc w) t) live v has
-            (true_and (nat_lt v (suc w)) (lasts format h v (suc w) t) e
-            (lasts_on v w t before ∙ true_and (stands (suc w) t) (lasts format h v w t) now
+            (and_from (nat_lt v (suc w)) (lasts format h v (suc w) t) e
+            (lasts_on v w t before ∙ and_from (stands (suc w) t) (lasts format h v w t) now
             long))
 
   first_is : (live : List ℕ) (w : ℕ) → rows_first_at format h live w ≡ weigh
@@ -177,10 +178,10 @@ module _ (format : Format) (h : History) where
 
     late_due : (w : ℕ) (t : Tree) → late (suc w) t ≡ true → (stands w t && due w t) ≡ true
     late_due w t is =
-        let both = and_true (stayed more (suc w) t) (not (stayed one (suc w) t)) is in
+        let both = and_parts (stayed more (suc w) t) (not (stayed one (suc w) t)) is in
         let from = stayed_from more w t both.0 in
-        true_and (stands w t) (due w t) from.0
-        (true_and (is_kept more w || stayed more w t) (not (is_kept one w || stayed one w t)) from.1
+        and_from (stands w t) (due w t) from.0
+        (and_from (is_kept more w || stayed more w t) (not (is_kept one w || stayed one w t)) from.1
         (not_from (is_kept one w || stayed one w t)
         (λ e. from_not (stayed one (suc w) t) both.1 (stays_on one w t from.2 from.0 e))))
 
@@ -202,8 +203,8 @@ module _ (format : Format) (h : History) where
     none_late =
         let none : (t : Tree) → late zero t ≡ true → false ≡ true = λ t is. let found =
         any_in (λ u. nat_lt u zero && lasts format h u zero t) more
-        (and_true (stayed more zero t) (not (stayed one zero t)) is).0 in let low =
-        (and_true (nat_lt found.0 zero) (lasts format h found.0 zero t) found.2).0 in
+        (and_parts (stayed more zero t) (not (stayed one zero t)) is).0 in let low =
+        (and_parts (nat_lt found.0 zero) (lasts format h found.0 zero t) found.2).0 in
         absurd (not_below found.0 low) in
         omega (
           arith,

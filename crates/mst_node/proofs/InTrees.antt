@@ -1,13 +1,14 @@
 -- What stands in a tree: the tree itself and all trees below its nodes.
 use Rattle.std.proofs.Common.{◌≡◌, Bool, true, false, ◌||◌, ◌⊎◌, inl, inr, ◌∷◌, refl, sym, subst, ◌∙◌, true≢false}
 use Rattle.std.proofs.lemmas.List.Folds.{list_any-append}
-use Rattle.std.proofs.lemmas.Bool.{false_from_ne_true}
+use Rattle.std.proofs.lemmas.Bool.{false_from_ne_true, or_cases}
 use Rattle.std.specs.List.{AllByRecursion, list_any}
 use Rattle.mst_key.specs.Map.{Pair}
 use Rattle.mst_key.proofs.Alls.{alls-front, alls-back}
 use Rattle.mst_node.specs.Tree.{Tree, empty, node, Entries, last, entry, pairs, entries_pairs}
 use Rattle.mst_node.specs.Cost.{subtrees, entries_subtrees, same_tree, is_subtree}
 use Rattle.mst_node.proofs.SameTrees.{tree_from_same, same_from_tree}
+use Rattle.mst_node.proofs.VersionLists.{true_or}
 
 abbrev mutual
   pub InTree : Tree → Tree → Type 0
@@ -18,20 +19,11 @@ abbrev mutual
   InEntries s (last child) = InTree s child
   InEntries s (entry child key value rest) = InTree s child ⊎ InEntries s rest
 
-either_true : (a b : Bool) → (a || b) ≡ true → (a ≡ true) ⊎ (b ≡ true)
-either_true true b e = inl refl
-either_true false b e = inr e
-
-true_either : (a b : Bool) → (a ≡ true) ⊎ (b ≡ true) → (a || b) ≡ true
-true_either true b e = refl
-true_either false b (inl e) = absurd (true≢false (sym e))
-true_either false b (inr e) = e
-
 mutual
   in_from_test : (t s : Tree) → list_any (same_tree s) (subtrees t) ≡ true → InTree s t
   in_from_test empty s e = absurd (true≢false (sym e))
   in_from_test (node g l es) s e =
-      elim (either_true (same_tree s (node g l es)) (list_any (same_tree s) (entries_subtrees es))
+      elim (or_cases (same_tree s (node g l es)) (list_any (same_tree s) (entries_subtrees es))
       e) [
         | inl is ↦ inl (tree_from_same s (node g l es) is)
         | inr is ↦ inr (in_entries_from_test es s is)
@@ -41,7 +33,7 @@ mutual
       ≡ true → InEntries s es
   in_entries_from_test (last child) s e = in_from_test child s e
   in_entries_from_test (entry child key value rest) s e =
-      elim (either_true (list_any (same_tree s) (subtrees child))
+      elim (or_cases (list_any (same_tree s) (subtrees child))
       (list_any (same_tree s) (entries_subtrees rest))
       (sym (list_any-append (same_tree s) (subtrees child) (entries_subtrees rest)) ∙ e)) [
         | inl is ↦ inl (in_from_test child s is)
@@ -51,9 +43,9 @@ mutual
 mutual
   test_from_in : (t s : Tree) → InTree s t → list_any (same_tree s) (subtrees t) ≡ true
   test_from_in empty s is = absurd is
-  test_from_in (node g l es) s (inl is) = true_either (same_tree s (node g l es))
+  test_from_in (node g l es) s (inl is) = true_or (same_tree s (node g l es))
       (list_any (same_tree s) (entries_subtrees es)) (inl (same_from_tree s (node g l es) is))
-  test_from_in (node g l es) s (inr is) = true_either (same_tree s (node g l es))
+  test_from_in (node g l es) s (inr is) = true_or (same_tree s (node g l es))
       (list_any (same_tree s) (entries_subtrees es)) (inr (test_from_in_entries es s is))
 
   test_from_in_entries : (es : Entries) (s : Tree) → InEntries s es → list_any (same_tree s)
@@ -61,11 +53,11 @@ mutual
   test_from_in_entries (last child) s is = test_from_in child s is
   test_from_in_entries (entry child key value rest) s (inl is) =
       list_any-append (same_tree s) (subtrees child) (entries_subtrees rest)
-      ∙ true_either (list_any (same_tree s) (subtrees child))
+      ∙ true_or (list_any (same_tree s) (subtrees child))
       (list_any (same_tree s) (entries_subtrees rest)) (inl (test_from_in child s is))
   test_from_in_entries (entry child key value rest) s (inr is) =
       list_any-append (same_tree s) (subtrees child) (entries_subtrees rest)
-      ∙ true_either (list_any (same_tree s) (subtrees child))
+      ∙ true_or (list_any (same_tree s) (subtrees child))
       (list_any (same_tree s) (entries_subtrees rest)) (inr (test_from_in_entries rest s is))
 
 pub in_old : (s old : Tree) → is_subtree s old ≡ true → InTree s old

@@ -11,6 +11,8 @@ use Rattle.mst_key.specs.Bytes.{IsBytes, IsKey, IsValue}
 use Rattle.mst_key.specs.Layer.{layer_in}
 use Rattle.mst_key.specs.Map.{Pair, key_cmp, IsAscending, IsMap}
 use Rattle.std.specs.declared.cmp.Ordering.TheVariants.{Less}
+use Rattle.mst_key.proofs.Splits.{IsAscending-back}
+use Rattle.mst_node.proofs.ReadIsSpelled.{bytes-split}
 use Rattle.mst_node.specs.Tree.{Tree, empty, node, Entries, last, entry, pairs, entries_pairs, entry_count, IsMst, IsMstEntries}
 use Rattle.mst_node.specs.Text.{FlatEntry, FlatNode, child_text, counted, held_text, entry_text, child_digest, flat_entries, tail_digest, flat, held_of, text, spelling}
 use Rattle.mst_node.specs.Grammar.{IsDigest, IsHeld, IsFlatEntry, IsFlatNode, InGrammar, flat_pairs}
@@ -89,10 +91,6 @@ entries_some : (format : Format) (es : Entries) → length (flat_entries format 
 entries_some format (last child) = refl
 entries_some format (entry child key value rest) = omega (arith, entries_some format rest)
 
-ascending-back : (xs ys : List Pair) → IsAscending (xs ++ ys) → IsAscending ys
-ascending-back [] ys rise = rise
-ascending-back (x ∷ xs) ys rise = ascending-back xs ys rise.1
-
 -- what is before all pairs is before all entries
 entries_above : (format : Format) (k : List ℕ) (es : Entries)
     → AllByRecursion (λ (p : Pair). key_cmp k p.0 ≡ Less) (entries_pairs es)
@@ -107,7 +105,7 @@ entries_rise : (format : Format) (es : Entries) → IsAscending (entries_pairs e
     → IsAscending (flat_pairs (flat_entries format es))
 entries_rise format (last child) rise = tt
 entries_rise format (entry child key value rest) rise =
-    let here = ascending-back (pairs child) ((key, value) ∷ entries_pairs rest) rise in
+    let here = IsAscending-back (pairs child) ((key, value) ∷ entries_pairs rest) rise in
     (entries_above format key rest here.0, entries_rise format rest here.1)
 
 all-both : (m : List Pair) → AllByRecursion (λ p. IsKey p.0 × IsValue p.1) m
@@ -141,10 +139,6 @@ in_grammar format (node g l es) mst is bytes some few =
     )
 
 -- ---- a node of a map whose text has bytes
-
-bytes-split : (xs ys : List ℕ) → IsBytes (xs ++ ys) → IsBytes xs × IsBytes ys
-bytes-split [] ys b = (tt, b)
-bytes-split (x ∷ xs) ys b = let rest = bytes-split xs ys b.1 in ((b.0, rest.0), rest.1)
 
 held_is : (format : Format) (v : List ℕ) → IsValue v → IsBytes (held_text format (held_of format v))
     → IsHeld format (held_of format v)

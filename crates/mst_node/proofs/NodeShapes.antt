@@ -187,9 +187,3 @@ text_out A format n =
     (record { format = format; layer = l; entries = map (flat_entry format) xs; tail = d }))
     (tail_digest_with xs t)
     ∙ simp (flat_map-map, length-map)
-
--- a node that stands in a child's place has its digest there
-pub child_digest_out : (A : Type 0) (format : Format) (n : Node A) → child_digest (tree_of format n)
-    ≡ Some (digest (tree_of format n))
-child_digest_out A format n = ap child_digest (tree_of_out A format n)
-    ∙ sym (ap (λ t. Some (digest t)) (tree_of_out A format n))

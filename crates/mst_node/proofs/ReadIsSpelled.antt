@@ -10,7 +10,7 @@ use Rattle.std.proofs.lemmas.Nat.{be_bytes_2}
 use Rattle.mst_key.specs.declared.format.Format.{Format}
 use Rattle.mst_key.specs.declared.format.Format.TheVariants.{One, Two}
 use Rattle.mst_key.specs.Bytes.{IsBytes}
-use Rattle.mst_node.specs.Text.{FlatEntry, FlatNode, child_text, counted, held_text, entry_text, spelling, version}
+use Rattle.mst_node.specs.Text.{FlatEntry, FlatNode, child_text, counted, held_text, entry_text, spelling, format_byte}
 use Rattle.mst_node.specs.Grammar.{IsDigest, IsHeld, IsFlatEntry}
 use Rattle.mst_node.specs.Reading.{◌>>=◌, part_at, child_at, counted_at, held_at, entry_at, entries_at, whole, body_at, node_of, node_at}
 
@@ -212,9 +212,9 @@ node_takes format [] n h b = absurd (cc)
 node_takes format (v ∷ []) n h b = absurd (cc)
 node_takes format (v ∷ l ∷ []) n h b = absurd (cc)
 node_takes format (v ∷ l ∷ g ∷ []) n h b = absurd (cc)
-node_takes format (v ∷ l ∷ g ∷ k ∷ bytes) n h b = go (v == version format) refl h
+node_takes format (v ∷ l ∷ g ∷ k ∷ bytes) n h b = go (v == format_byte format) refl h
   where
-    go : (u : Bool) → (v == version format) ≡ u
+    go : (u : Bool) → (v == format_byte format) ≡ u
         → cond u (cond (from_be_bytes w16 (g ∷ k ∷ []) == 0) None
         (body_at format (from_be_bytes w16 (g ∷ k ∷ [])) bytes >>= λ body. Some
         (node_of format l body))) None ≡ Some n → TakesNode format (v ∷ l ∷ g ∷ k ∷ bytes) n
@@ -227,7 +227,7 @@ node_takes format (v ∷ l ∷ g ∷ k ∷ bytes) n h b = go (v == version forma
         let body = bind_ok (body_at format count bytes) (λ body. Some (node_of format l body)) n
         some.1 in
         let takes = body_takes format count bytes body.0 body.1 b.1.1.1.1 in
-        let version_is : v ≡ version format = grind (arith, nat_tests) in
+        let byte_is : v ≡ format_byte format = grind (arith, nat_tests) in
         let more : 0 < count = grind (arith, nat_tests, some.0) in
         let g_fits : g < 256 = b.1.1.0 in
         let k_fits : k < 256 = b.1.1.1.0 in
@@ -236,9 +236,9 @@ node_takes format (v ∷ l ∷ g ∷ k ∷ bytes) n h b = go (v == version forma
         be_bytes_2 (g ∷ k ∷ []) (length body.0.0) refl (two_fit g k g_fits k_fits) takes.count
         in
         let text : v ∷ l ∷ g ∷ k ∷ bytes ≡ spelling (node_of format l body.0) =
-        ap (λ (x : ℕ). x ∷ l ∷ g ∷ k ∷ bytes) version_is
-        ∙ ap (λ (xs : List ℕ). version format ∷ l ∷ g ∷ k ∷ xs) takes.text
-        ∙ ap (λ (xs : List ℕ). version format ∷ l ∷ xs ++ flat_map (entry_text format) body.0.0
+        ap (λ (x : ℕ). x ∷ l ∷ g ∷ k ∷ bytes) byte_is
+        ∙ ap (λ (xs : List ℕ). format_byte format ∷ l ∷ g ∷ k ∷ xs) takes.text
+        ∙ ap (λ (xs : List ℕ). format_byte format ∷ l ∷ xs ++ flat_map (entry_text format) body.0.0
         ++ child_text body.0.1) (sym number) in
         subst (TakesNode format (v ∷ l ∷ g ∷ k ∷ bytes))
         (some_same (node_of format l body.0) n body.2)

@@ -5,23 +5,15 @@ use Rattle.std.specs.declared.cmp.Ordering.TheVariants.{Less}
 use Rattle.std.proofs.lemmas.Cmp.{nat_list_cmp_total}
 use Rattle.std.proofs.lemmas.List.{take_more}
 use Rattle.mst_key.specs.Map.{Pair, key_cmp, IsAscending}
-
-pub all-last : (P : Pair → Type 0) (m : List Pair) (x : Pair) → AllByRecursion P (m ++ x ∷ []) → P x
-all-last P [] x all = all.0
-all-last P (p ∷ m) x all = all-last P m x all.1
-
-pub all-push : (P : Pair → Type 0) (m : List Pair) (x : Pair) → AllByRecursion P m → P x
-    → AllByRecursion P (m ++ x ∷ [])
-all-push P [] x all here = (here, tt)
-all-push P (p ∷ m) x all here = (all.0, all-push P m x all.1 here)
+use Rattle.mst_key.proofs.Alls.{alls-append, alls-back}
 
 pub rising-push : (m : List Pair) (x y : Pair) → IsAscending (m ++ x ∷ []) → key_cmp x.0 y.0 ≡ Less
     → IsAscending ((m ++ x ∷ []) ++ y ∷ [])
 rising-push [] x y rise less = ((less, tt), (tt, tt))
 rising-push (p ∷ m) x y rise less =
     let P : Pair → Type 0 = λ q. key_cmp p.0 q.0 ≡ Less in (
-      all-push P (m ++ x ∷ []) y rise.0
-          ((nat_list_cmp_total).trans p.0 x.0 y.0 (all-last P m x rise.0) less),
+      alls-append P (m ++ x ∷ []) (y ∷ []) rise.0
+          ((nat_list_cmp_total).trans p.0 x.0 y.0 (alls-back P m (x ∷ []) rise.0).0 less, tt),
       rising-push m x y
           rise.1 less,
     )

@@ -1,23 +1,12 @@
 -- The test of two trees returns whether they are the same.
 use Rattle.std.proofs.Common.{◌≡◌, ℕ, Bool, true, false, ◌&&◌, ◌==◌, refl, sym, ap, ◌∙◌, arith, true≢false}
+use Rattle.std.proofs.lemmas.Bool.{and_parts, and_from}
 use Rattle.std.proofs.lemmas.Bool.Decides.{nat_tests}
 use Rattle.mst_key.specs.declared.format.Format.{Format}
 use Rattle.mst_key.specs.declared.format.Format.TheVariants.{One, Two}
 use Rattle.mst_key.proofs.KeyOrder.{same_from_test, test_of_same}
 use Rattle.mst_node.specs.Tree.{Tree, empty, node, Entries, last, entry}
 use Rattle.mst_node.specs.Cost.{same_bytes, same_format, same_tree, same_entries}
-
-both_left : (a b : Bool) → (a && b) ≡ true → a ≡ true
-both_left true b e = refl
-both_left false b e = e
-
-both_right : (a b : Bool) → (a && b) ≡ true → b ≡ true
-both_right true b e = e
-both_right false b e = absurd (true≢false (sym e))
-
-both : (a b : Bool) → a ≡ true → b ≡ true → (a && b) ≡ true
-both true b e f = f
-both false b e f = e
 
 same_number : (a b : ℕ) → (a == b) ≡ true → a ≡ b
 same_number a b e = grind (arith, nat_tests)
@@ -41,12 +30,11 @@ mutual
   tree_from_same empty (node g k fs) e = absurd (true≢false (sym e))
   tree_from_same (node f l es) empty e = absurd (true≢false (sym e))
   tree_from_same (node f l es) (node g k fs) e =
-      let top = both_left (same_format f g && (l == k)) (same_entries es fs) e in
-      let format = format_from_same f g (both_left (same_format f g) (l == k) top) in
-      let layer = same_number l k (both_right (same_format f g) (l == k) top) in
-      let entries =
-      entries_from_same es fs (both_right (same_format f g && (l == k)) (same_entries es fs) e)
-      in
+      let all = and_parts (same_format f g && (l == k)) (same_entries es fs) e in
+      let top = and_parts (same_format f g) (l == k) all.0 in
+      let format = format_from_same f g top.0 in
+      let layer = same_number l k top.1 in
+      let entries = entries_from_same es fs all.1 in
       λ i. node (format i) (layer i) (entries i)
 
   entries_from_same : (es fs : Entries) → same_entries es fs ≡ true → es ≡ fs
@@ -54,31 +42,28 @@ mutual
   entries_from_same (last c) (entry d j w fs) e = absurd (true≢false (sym e))
   entries_from_same (entry c k v es) (last d) e = absurd (true≢false (sym e))
   entries_from_same (entry c k v es) (entry d j w fs) e =
-      let three = both_left (same_tree c d && same_bytes k j && same_bytes v w) (same_entries es fs)
-      e in
-      let two = both_left (same_tree c d && same_bytes k j) (same_bytes v w) three in
-      let child = tree_from_same c d (both_left (same_tree c d) (same_bytes k j) two) in
-      let key = same_from_test k j (both_right (same_tree c d) (same_bytes k j) two) in
-      let value =
-      same_from_test v w (both_right (same_tree c d && same_bytes k j) (same_bytes v w) three)
-      in
-      let rest =
-      entries_from_same es fs
-      (both_right (same_tree c d && same_bytes k j && same_bytes v w) (same_entries es fs) e) in
+      let all =
+      and_parts (same_tree c d && same_bytes k j && same_bytes v w) (same_entries es fs) e in
+      let three = and_parts (same_tree c d && same_bytes k j) (same_bytes v w) all.0 in
+      let two = and_parts (same_tree c d) (same_bytes k j) three.0 in
+      let child = tree_from_same c d two.0 in
+      let key = same_from_test k j two.1 in
+      let value = same_from_test v w three.1 in
+      let rest = entries_from_same es fs all.1 in
       λ i. entry (child i) (key i) (value i) (rest i)
 
 mutual
   pub tree_itself : (t : Tree) → same_tree t t ≡ true
   tree_itself empty = refl
-  tree_itself (node f l es) = both (same_format f f && (l == l)) (same_entries es es)
-      (both (same_format f f) (l == l) (format_itself f) (number_itself l)) (entries_itself es)
+  tree_itself (node f l es) = and_from (same_format f f && (l == l)) (same_entries es es)
+      (and_from (same_format f f) (l == l) (format_itself f) (number_itself l)) (entries_itself es)
 
   entries_itself : (es : Entries) → same_entries es es ≡ true
   entries_itself (last c) = tree_itself c
   entries_itself (entry c k v es) =
-      both (same_tree c c && same_bytes k k && same_bytes v v) (same_entries es es)
-      (both (same_tree c c && same_bytes k k) (same_bytes v v)
-      (both (same_tree c c) (same_bytes k k) (tree_itself c) (test_of_same k k refl))
+      and_from (same_tree c c && same_bytes k k && same_bytes v v) (same_entries es es)
+      (and_from (same_tree c c && same_bytes k k) (same_bytes v v)
+      (and_from (same_tree c c) (same_bytes k k) (tree_itself c) (test_of_same k k refl))
       (test_of_same v v refl))
       (entries_itself es)
 

@@ -18,7 +18,7 @@ use Rattle.mst_node.proofs.ReadIsSpelled.{bind_ok, some_same}
 
 -- ---- keys that fit
 
-lt-Decides : (r : Ordering) → Decides (is_lt r) (r ≡ Less)
+pub lt-Decides : (r : Ordering) → Decides (is_lt r) (r ≡ Less)
 lt-Decides Less = (λ e. refl, λ e. refl)
 lt-Decides Equal = (λ e. absurd (cc), λ e. ap is_lt e)
 lt-Decides Greater = (λ e. absurd (cc), λ e. ap is_lt e)

@@ -10,7 +10,7 @@ use Rattle.std.proofs.lemmas.Bool.Decides.{nat_tests}
 use Rattle.std.proofs.lemmas.Cmp.{nat_list_cmp_total}
 use Rattle.mst_key.specs.declared.format.Format.{Format}
 use Rattle.mst_key.specs.Map.{key_cmp}
-use Rattle.mst_node.specs.Text.{FlatEntry, FlatNode, version}
+use Rattle.mst_node.specs.Text.{FlatEntry, FlatNode, format_byte}
 use Rattle.mst_node.specs.Gaps.{IsBetween}
 use Rattle.mst_node.specs.Grammar.{KeysFit}
 use Rattle.mst_node.specs.KeyPlace.{place_among, place_of, LiesWithin}
@@ -282,9 +282,9 @@ text-scanned format k [] x h = absurd (cc)
 text-scanned format k (v ∷ []) x h = absurd (cc)
 text-scanned format k (v ∷ l ∷ []) x h = absurd (cc)
 text-scanned format k (v ∷ l ∷ g ∷ []) x h = absurd (cc)
-text-scanned format k (v ∷ l ∷ g ∷ c ∷ bytes) x h = go (v == version format) refl h
+text-scanned format k (v ∷ l ∷ g ∷ c ∷ bytes) x h = go (v == format_byte format) refl h
   where
-    go : (u : Bool) → (v == version format) ≡ u
+    go : (u : Bool) → (v == format_byte format) ≡ u
         → cond u (cond (from_be_bytes w16 (g ∷ c ∷ []) == 0) None
         (body_scan_at format l k (from_be_bytes w16 (g ∷ c ∷ [])) bytes >>= λ b. Some
         (l, first_at format bytes, b.0, b.1))) None ≡ Some x → Scanned format k
@@ -322,9 +322,10 @@ node-scanned format k [] n h fit none = absurd (cc)
 node-scanned format k (v ∷ []) n h fit none = absurd (cc)
 node-scanned format k (v ∷ l ∷ []) n h fit none = absurd (cc)
 node-scanned format k (v ∷ l ∷ g ∷ []) n h fit none = absurd (cc)
-node-scanned format k (v ∷ l ∷ g ∷ c ∷ bytes) n h fit none = go (v == version format) refl h none
+node-scanned format k (v ∷ l ∷ g ∷ c ∷ bytes) n h fit none =
+    go (v == format_byte format) refl h none
   where
-    go : (u : Bool) → (v == version format) ≡ u
+    go : (u : Bool) → (v == format_byte format) ≡ u
         → cond u (cond (from_be_bytes w16 (g ∷ c ∷ []) == 0) None
         (body_at format (from_be_bytes w16 (g ∷ c ∷ [])) bytes >>= λ y. Some (node_of format l y)))
         None ≡ Some n → cond {A = Option (ℕ × Option (List ℕ) × Passing × Option (List ℕ))} u

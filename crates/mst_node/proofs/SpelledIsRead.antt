@@ -10,7 +10,7 @@ use Rattle.std.proofs.Math.Seq.{take-append_seam, drop-append_seam}
 use Rattle.std.proofs.lemmas.Nat.{from_be_bytes-to_be_bytes_2}
 use Rattle.mst_key.specs.declared.format.Format.{Format}
 use Rattle.mst_key.specs.declared.format.Format.TheVariants.{One, Two}
-use Rattle.mst_node.specs.Text.{FlatEntry, FlatNode, child_text, counted, held_text, entry_text, spelling, version}
+use Rattle.mst_node.specs.Text.{FlatEntry, FlatNode, child_text, counted, held_text, entry_text, spelling, format_byte}
 use Rattle.mst_node.specs.Grammar.{IsDigest, IsHeld, IsFlatEntry, IsFlatNode}
 use Rattle.mst_node.proofs.ReadIsSpelled.{some_same}
 use Rattle.mst_node.specs.Reading.{part_at, child_at, counted_at, held_at, entry_at, entries_at, body_at, node_at}
@@ -94,20 +94,20 @@ node_again n is =
     let count : from_be_bytes w16 (to_be_bytes w16 (length n.entries)) ≡ length n.entries =
     from_be_bytes-to_be_bytes_2 (length n.entries) (omega (arith, is.few)) in
     let some : (length n.entries == 0) ≡ false = grind (arith, nat_tests, is.some) in
-    let same : (version n.format == version n.format) ≡ true = grind (arith, nat_tests) in
+    let same : (format_byte n.format == format_byte n.format) ≡ true = grind (arith, nat_tests) in
     rw (same, count, some, body_again n.format n.entries n.tail is.entries is.tail)
 
-version_same : (f g : Format) → version f ≡ version g → f ≡ g
-version_same One One e = refl
-version_same One Two e = absurd (omega (arith, e))
-version_same Two One e = absurd (omega (arith, e))
-version_same Two Two e = refl
+format_byte_same : (f g : Format) → format_byte f ≡ format_byte g → f ≡ g
+format_byte_same One One e = refl
+format_byte_same One Two e = absurd (omega (arith, e))
+format_byte_same Two One e = absurd (omega (arith, e))
+format_byte_same Two Two e = refl
 
 -- each text spells one flat node
 pub one_node : (m n : FlatNode) → IsFlatNode m → IsFlatNode n → spelling m ≡ spelling n → m ≡ n
 one_node m n is js e =
-    let first : version m.format ≡ version n.format = cc in
-    let formats = version_same m.format n.format first in
+    let first : format_byte m.format ≡ format_byte n.format = cc in
+    let formats = format_byte_same m.format n.format first in
     some_same m n
     (sym (node_again m is) ∙ ap (node_at m.format) e
     ∙ ap (λ (f : Format). node_at f (spelling n)) formats ∙ node_again n js)

@@ -1,6 +1,8 @@
 -- The top of a list's tree, and the text of the node there.
-use Rattle.std.proofs.Common.{◌≡◌, ◌≢◌, ℕ, suc, ◌+◌, ◌<◌, ◌≤◌, max, Bool, true, false, ◌==◌, cond, List, [], ◌∷◌, ◌++◌, length, filter, get_or, drop, Option, Some, refl, sym, ◌∙◌, ap, arith, append_assoc}
+use Rattle.std.proofs.Common.{◌≡◌, ◌≢◌, ℕ, suc, ◌+◌, ◌<◌, ◌≤◌, max, Bool, true, false, ◌==◌, cond, List, [], ◌∷◌, ◌++◌, length, length-append, filter, get_or, drop, Option, Some, refl, sym, ◌∙◌, ap, arith, append_assoc}
 use Rattle.std.proofs.lemmas.Bool.Decides.{nat_tests}
+use Rattle.std.proofs.lemmas.List.Elements.{filter-append}
+use Rattle.std.proofs.lemmas.List.Sums.{length-filter, count_by-le-length}
 use Rattle.std.specs.List.{flat_map}
 use Rattle.std.specs.Prelude.{slice_range}
 use Rattle.mst_key.specs.declared.format.Format.{Format}
@@ -23,29 +25,28 @@ pub greatest-push : (layer : List ℕ → ℕ) (m : List Pair) (p : Pair)
 greatest-push layer [] p = grind arith
 greatest-push layer (q ∷ m) p = let e = greatest-push layer m p in grind arith
 
+at_layer-push : (layer : List ℕ → ℕ) (l : ℕ) (m : List Pair) (p : Pair) (t : Bool)
+    → (layer p.0 == l) ≡ t
+    → length (at_layer layer l (m ++ p ∷ [])) ≡ length (at_layer layer l m) + cond t 1 0
+at_layer-push layer l m p t e =
+    ap length (filter-append (λ q. layer q.0 == l) m (p ∷ []))
+    ∙ length-append (at_layer layer l m) (cond (layer p.0 == l) (p ∷ []) [])
+    ∙ ap (λ (n : ℕ). length (at_layer layer l m) + n) (one (layer p.0 == l) t e)
+  where
+    one : (s t : Bool) → s ≡ t → length (cond s (p ∷ []) []) ≡ cond t 1 0
+    one true true e = refl
+    one false false e = refl
+    one true false e = absurd (cc)
+    one false true e = absurd (cc)
+
 pub at_layer-push_yes : (layer : List ℕ → ℕ) (l : ℕ) (m : List Pair) (p : Pair) → layer p.0 ≡ l
     → length (at_layer layer l (m ++ p ∷ [])) ≡ length (at_layer layer l m) + 1
-at_layer-push_yes layer l [] p e = let t : (layer p.0 == l) ≡ true = grind (arith, nat_tests) in
-    rw t
-at_layer-push_yes layer l (q ∷ m) p e = go (layer q.0 == l) (at_layer-push_yes layer l m p e)
-  where
-    go : (t : Bool) → length (at_layer layer l (m ++ p ∷ [])) ≡ length (at_layer layer l m) + 1
-        → length (cond t (q ∷ at_layer layer l (m ++ p ∷ [])) (at_layer layer l (m ++ p ∷ [])))
-        ≡ length (cond t (q ∷ at_layer layer l m) (at_layer layer l m)) + 1
-    go true h = omega (arith, h)
-    go false h = h
+at_layer-push_yes layer l m p e = at_layer-push layer l m p true (grind (arith, nat_tests))
 
 pub at_layer-push_no : (layer : List ℕ → ℕ) (l : ℕ) (m : List Pair) (p : Pair) → layer p.0 ≢ l
     → length (at_layer layer l (m ++ p ∷ [])) ≡ length (at_layer layer l m)
-at_layer-push_no layer l [] p e = let t : (layer p.0 == l) ≡ false = grind (arith, nat_tests) in
-    rw t
-at_layer-push_no layer l (q ∷ m) p e = go (layer q.0 == l) (at_layer-push_no layer l m p e)
-  where
-    go : (t : Bool) → length (at_layer layer l (m ++ p ∷ [])) ≡ length (at_layer layer l m)
-        → length (cond t (q ∷ at_layer layer l (m ++ p ∷ [])) (at_layer layer l (m ++ p ∷ [])))
-        ≡ length (cond t (q ∷ at_layer layer l m) (at_layer layer l m))
-    go true h = omega (arith, h)
-    go false h = h
+at_layer-push_no layer l m p e = omega
+    (arith, at_layer-push layer l m p false (grind (arith, nat_tests)))
 
 -- no key has a layer above the greatest
 pub at_layer-none : (layer : List ℕ → ℕ) (l : ℕ) (m : List Pair) → greatest (layers layer m) < l
@@ -57,13 +58,12 @@ at_layer-none layer l (p ∷ m) h =
 
 pub at_layer-le : (layer : List ℕ → ℕ) (l : ℕ) (m : List Pair) → length (at_layer layer l m)
     ≤ length m
-at_layer-le layer l [] = omega arith
-at_layer-le layer l (p ∷ m) = go (layer p.0 == l) (at_layer-le layer l m)
-  where
-    go : (t : Bool) → length (at_layer layer l m) ≤ length m
-        → length (cond t (p ∷ at_layer layer l m) (at_layer layer l m)) ≤ suc (length m)
-    go true h = omega arith
-    go false h = omega arith
+at_layer-le layer l m =
+    omega (
+      arith,
+      length-filter (λ p. layer p.0 == l) m,
+      count_by-le-length (λ p. layer p.0 == l) m,
+    )
 
 -- ---- the text of the top node
 

@@ -2,6 +2,7 @@
 use Rattle.std.proofs.Common.{◌≡◌, ℕ, ◌<◌, ◌≤◌, ◌==◌, Bool, true, false, not, ◌&&◌, ◌||◌, ◌⊎◌, inl, inr, List, [], ◌∷◌, refl, sym, ap, ◌∙◌, arith, true≢false}
 use Rattle.std.specs.Prelude.{◌↔◌, Contains}
 use Rattle.std.specs.List.{list_any}
+use Rattle.std.proofs.lemmas.Bool.{or_cases}
 use Rattle.std.proofs.lemmas.Bool.Decides.{nat_tests}
 use Rattle.mst_key.proofs.SpanLaws.{contains-cases, contains-nothing, contains-first, contains-later}
 
@@ -15,18 +16,6 @@ same_bool true true is = refl
 same_bool true false is = sym (is.0 refl)
 same_bool false true is = is.1 refl
 same_bool false false is = refl
-
-pub and_true : (a b : Bool) → (a && b) ≡ true → (a ≡ true) × (b ≡ true)
-and_true true b e = (refl, e)
-and_true false b e = absurd (true≢false (sym e))
-
-pub true_and : (a b : Bool) → a ≡ true → b ≡ true → (a && b) ≡ true
-true_and true b e f = f
-true_and false b e f = e
-
-pub or_true : (a b : Bool) → (a || b) ≡ true → (a ≡ true) ⊎ (b ≡ true)
-or_true true b e = inl refl
-or_true false b e = inr e
 
 pub true_or : (a b : Bool) → (a ≡ true) ⊎ (b ≡ true) → (a || b) ≡ true
 true_or true b e = refl
@@ -46,7 +35,7 @@ up_to u w le = go (u == w) refl
 pub any_in : (p : ℕ → Bool) (live : List ℕ) → list_any p live ≡ true → (v : ℕ) × Contains live v
     × (p v ≡ true)
 any_in p [] e = absurd (true≢false (sym e))
-any_in p (u ∷ live) e = elim (or_true (p u) (list_any p live) e) [
+any_in p (u ∷ live) e = elim (or_cases (p u) (list_any p live) e) [
   | inl is ↦ (u, contains-first u live u refl, is)
   | inr is ↦ let more = any_in p live is in (more.0, contains-later u live more.0 more.1, more.2)
 ]

@@ -6,17 +6,8 @@ use Rattle.mst_key.specs.declared.format.Format.{Format}
 use Rattle.mst_key.specs.declared.format.Format.TheVariants.{One, Two}
 use Rattle.mst_key.specs.Map.{Pair, key_cmp}
 use Rattle.mst_node.specs.Tree.{Tree, empty, node, Entries, last, entry, entry_count, tree}
+pub use Rattle.mst_node.specs.Tree.{subtrees, entries_subtrees}
 use Rattle.mst_node.specs.Trail.{trail}
-
--- the tree and all trees in it that are not empty, from the top down and from left to right
-abbrev mutual
-  pub subtrees : Tree → List Tree
-  subtrees empty = []
-  subtrees (node format l es) = node format l es ∷ entries_subtrees es
-
-  pub entries_subtrees : Entries → List Tree
-  entries_subtrees (last child) = subtrees child
-  entries_subtrees (entry child key value rest) = subtrees child ++ entries_subtrees rest
 
 -- ---- whether two trees are the same
 

@@ -2,12 +2,12 @@
 use Rattle.std.specs.Prelude.{◌≡◌, ℕ, ◌<◌, ◌^◌, List, ◌∷◌, ◌++◌, length}
 use Rattle.std.specs.Int.{w32, to_be_bytes}
 
--- the bytes begin with a version of any number, a number of texts that is not 0, and this text
--- after its length in four bytes, the high one first
+-- the bytes begin with any format byte, a number of texts that is not 0, and this text after its
+-- length in four bytes, the high one first
 pub record FramesFirst (bytes text : List ℕ) : Type 0 where
-  pub version : ℕ
+  pub format_byte : ℕ
   pub count : ℕ
   pub rest : List ℕ
   pub some : 0 < count
   pub size : length text < 2 ^ 32
-  pub whole : bytes ≡ version ∷ count ∷ to_be_bytes w32 (length text) ++ text ++ rest
+  pub whole : bytes ≡ format_byte ∷ count ∷ to_be_bytes w32 (length text) ++ text ++ rest

@@ -4,7 +4,7 @@ use Rattle.std.specs.Prelude.{◌≡◌, ℕ, zero, suc, ◌==◌, nat_lt, if◌
 use Rattle.std.specs.Int.{w16, w32, from_be_bytes}
 use Rattle.mst_key.specs.declared.format.Format.{Format}
 use Rattle.mst_key.specs.declared.format.Format.TheVariants.{One, Two}
-use Rattle.mst_node.specs.Text.{FlatEntry, FlatNode, version}
+use Rattle.mst_node.specs.Text.{FlatEntry, FlatNode, format_byte}
 
 infixl 10 ◌>>=◌
 abbrev pub ◌>>=◌ : {A B : Type 0} → Option A → (A → Option B) → Option B
@@ -76,8 +76,8 @@ abbrev pub node_of : Format → ℕ → List FlatEntry × Option (List ℕ) → 
 node_of format layer body =
     record { format = format; layer = layer; entries = body.0; tail = body.1 }
 
--- the flat node of a whole text: its version, its layer, the number of its entries, which is not 0,
--- and its body
+-- the flat node of a whole text: the format's byte, its layer, the number of its entries, which is
+-- not 0, and its body
 unfoldable pub node_at : Format → List ℕ → Option FlatNode
 node_at format [] = None
 node_at format (v ∷ []) = None
@@ -85,7 +85,7 @@ node_at format (v ∷ l ∷ []) = None
 node_at format (v ∷ l ∷ h ∷ []) = None
 node_at format (v ∷ l ∷ h ∷ k ∷ bytes) =
     let n = from_be_bytes w16 (h ∷ k ∷ []) in
-    if v == version format
+    if v == format_byte format
     then (if n == 0 then None else (body_at format n bytes >>= λ b. Some (node_of format l b)))
     else None
 
@@ -93,8 +93,8 @@ node_at format (v ∷ l ∷ h ∷ k ∷ bytes) =
 abbrev pub body_or_empty : Format → ℕ → List ℕ → List FlatEntry × Option (List ℕ)
 body_or_empty format n bytes = unwrap_or (body_at format n bytes) ([], None)
 
--- the first text of a proof: after the version, the number of texts, which is not 0, and the length
--- of the text in four bytes
+-- the first text of a proof: after a byte for the format, the number of texts, which is not 0, and
+-- the length of the text in four bytes
 unfoldable pub first_text_at : List ℕ → Option (List ℕ × List ℕ)
 first_text_at [] = None
 first_text_at (v ∷ []) = None

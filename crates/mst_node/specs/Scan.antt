@@ -10,7 +10,7 @@ use Rattle.mst_key.specs.declared.format.Format.{Format}
 use Rattle.mst_key.specs.Bytes.{IsKey, IsValue}
 use Rattle.mst_key.specs.Layer.{layer_in}
 use Rattle.mst_key.specs.Map.{key_cmp}
-use Rattle.mst_node.specs.Text.{FlatEntry, version}
+use Rattle.mst_node.specs.Text.{FlatEntry, format_byte}
 use Rattle.mst_node.specs.Reading.{◌>>=◌, child_at, entry_at, whole}
 use Rattle.mst_node.specs.Seen.{seen}
 use Rattle.mst_node.specs.declared.finding.Coming.{Coming}
@@ -105,7 +105,7 @@ text_scan_at format k (v ∷ l ∷ []) = None
 text_scan_at format k (v ∷ l ∷ h ∷ []) = None
 text_scan_at format k (v ∷ l ∷ h ∷ c ∷ bytes) =
     let n = from_be_bytes w16 (h ∷ c ∷ []) in
-    if v == version format
+    if v == format_byte format
     then (if n == 0 then None else
     (body_scan_at format l k n bytes >>= λ b. Some (l, first_at format bytes, b.0, b.1)))
     else None

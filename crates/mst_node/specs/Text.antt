@@ -24,9 +24,10 @@ pub record FlatNode : Type 0 where
 
 -- ---- the text that spells a flat node
 
-abbrev pub version : Format → ℕ
-version One = 1
-version Two = 2
+-- the byte with which texts and proofs of a format begin
+abbrev pub format_byte : Format → ℕ
+format_byte One = 1
+format_byte Two = 2
 
 -- a byte 1 and the digest of the child, or a byte 0 if there is none
 abbrev pub child_text : Option (List ℕ) → List ℕ
@@ -58,14 +59,14 @@ entry_text format e = child_text e.child ++ counted e.key ++ held_text format e.
 abbrev pub highest_count : ℕ
 highest_count = 65535
 
--- what stands in front of the entries: the version, the layer, and the number of entries in two
--- bytes, the high one first
+-- what stands in front of the entries: the format's byte, the layer, and the number of entries in
+-- two bytes, the high one first
 abbrev pub heading : Format → ℕ → ℕ → List ℕ
-heading format layer count = version format ∷ layer ∷ to_be_bytes w16 count
+heading format layer count = format_byte format ∷ layer ∷ to_be_bytes w16 count
 
 -- the heading, the entries, and the last child
 abbrev pub spelling : FlatNode → List ℕ
-spelling n = version n.format ∷ n.layer ∷ to_be_bytes w16 (length n.entries) ++ flat_map
+spelling n = format_byte n.format ∷ n.layer ∷ to_be_bytes w16 (length n.entries) ++ flat_map
     (entry_text n.format) n.entries ++ child_text n.tail
 
 -- the digest of a text

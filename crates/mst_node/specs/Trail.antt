@@ -8,7 +8,7 @@ use Rattle.mst_key.specs.declared.format.Format.{Format}
 use Rattle.mst_key.specs.declared.format.Format.TheVariants.{One, Two}
 use Rattle.mst_key.specs.Map.{Pair, key_cmp, map_get}
 use Rattle.mst_node.specs.Tree.{Tree, empty, node, Entries, last, entry, tree}
-use Rattle.mst_node.specs.Text.{text, version, counted}
+use Rattle.mst_node.specs.Text.{text, format_byte, counted}
 
 -- what a key's order to an entry's key chooses: what stands before the entry, the entry, or what
 -- stands after it
@@ -44,10 +44,11 @@ answer_text One answer = []
 answer_text Two None = 0 ∷ []
 answer_text Two (Some value) = 1 ∷ counted value
 
--- the bytes that frame these texts for this answer: the version, the number of texts, and the texts
+-- the bytes that frame these texts for this answer: the format's byte, the number of texts, and the
+-- texts
 abbrev pub framing : Format → List (List ℕ) → Option (List ℕ) → List ℕ
 framing format texts answer =
-    version format ∷ length texts ∷ framed texts ++ answer_text format answer
+    format_byte format ∷ length texts ∷ framed texts ++ answer_text format answer
 
 -- the proof of a map's answer for a key: the texts of the trail
 abbrev pub proof_text : Format → List Pair → List ℕ → List ℕ

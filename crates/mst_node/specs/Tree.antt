@@ -59,15 +59,15 @@ abbrev mutual
   entries_pairs (last child) = pairs child
   entries_pairs (entry child key value rest) = pairs child ++ (key, value) ∷ entries_pairs rest
 
--- the nodes of a tree, each before those below it
+-- the tree and all trees in it that are not empty, from the top down and from left to right
 abbrev mutual
-  pub nodes : Tree → List Tree
-  nodes empty = []
-  nodes (node format l es) = node format l es ∷ nodes_below es
+  pub subtrees : Tree → List Tree
+  subtrees empty = []
+  subtrees (node format l es) = node format l es ∷ entries_subtrees es
 
-  pub nodes_below : Entries → List Tree
-  nodes_below (last child) = nodes child
-  nodes_below (entry child key value rest) = nodes child ++ nodes_below rest
+  pub entries_subtrees : Entries → List Tree
+  entries_subtrees (last child) = subtrees child
+  entries_subtrees (entry child key value rest) = subtrees child ++ entries_subtrees rest
 
 -- how many entries there are
 abbrev pub entry_count : Entries → ℕ

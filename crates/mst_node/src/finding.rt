@@ -296,9 +296,9 @@ fn text_scan<'a>(
     ensures limits { IfSome result (λ x. PassedFits (seen_passed x.2)) }
 {
     match text {
-        [version, layer, high, low, body @ ..] => {
+        [first_byte, layer, high, low, body @ ..] => {
             let count = u16::from_be_bytes([*high, *low]);
-            if *version == format_byte(format) && count != 0 {
+            if *first_byte == format_byte(format) && count != 0 {
                 let (passed, tail) = body_scan(format, *layer, key, count, body)?;
                 let first = first_key(format, body);
                 Some((*layer, first, passed, tail))

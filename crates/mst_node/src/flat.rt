@@ -63,9 +63,9 @@ pub(crate) fn flat_of(format: Format, text: &[u8]) -> Option<Flat<'_>>
     ensures reading { Gives (λ f. f) result (node_at format text.now) }
 {
     match text {
-        [version, layer, high, low, body @ ..] => {
+        [first_byte, layer, high, low, body @ ..] => {
             let count = u16::from_be_bytes([*high, *low]);
-            if *version == format_byte(format)
+            if *first_byte == format_byte(format)
                 && count != 0
                 && has_body(format, body, count as usize)
             {

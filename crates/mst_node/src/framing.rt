@@ -20,7 +20,7 @@ fn first_text(proof: &[u8]) -> Option<(&[u8], &[u8])>
     }
 }
 
-/// The first text that a proof frames: after a byte for the version, whatever it is, and a byte for
+/// The first text that a proof frames: after a byte for the format, whatever it is, and a byte for
 /// the number of texts, each text stands after its length in four bytes, the high one first.
 /// Returns `None` exactly if the number of texts is 0, or anything up to the end of the first text
 /// is cut short.

@@ -2,7 +2,6 @@
 ghost use Rattle.std.specs.Prelude.{◌≡◌, ◌↔◌, IsTrue, None};
 ghost use Rattle.mst_node.specs.Gaps.{IsBetween};
 
-use crate::order::precedes;
 use mst_key::{Key, Value};
 
 /// The keys strictly between two bounds, each of them optional: those of a node, or of a gap
@@ -30,11 +29,11 @@ impl Span {
     {
         let above = match &self.low {
             None => true,
-            Some(low) => precedes(low, key),
+            Some(low) => low.precedes(key),
         };
         let below = match &self.high {
             None => true,
-            Some(high) => precedes(key, high),
+            Some(high) => key.precedes(high),
         };
         above && below
     }

@@ -7,7 +7,7 @@ ghost use Rattle.mst_key.specs.Map.{Pair, IsMap, IsAscending};
 ghost use Rattle.mst_key.specs.declared.format.Format.{Format};
 ghost use Rattle.mst_node.specs.Collision.{HasCollision};
 ghost use Rattle.mst_node.specs.Reading.{node_at};
-ghost use Rattle.mst_node.specs.Tree.{Tree, empty, node, Entries, layers, greatest, entries_of, tree, pairs, nodes_below, IsMst};
+ghost use Rattle.mst_node.specs.Tree.{Tree, empty, node, Entries, layers, greatest, entries_of, tree, pairs, entries_subtrees, IsMst};
 ghost use Rattle.mst_node.specs.Gaps.{LayersFall, LiesBetween};
 ghost use Rattle.mst_node.specs.Text.{FlatNode, spelling, text, digest_of, highest_count};
 ghost use Rattle.mst_node.specs.Grammar.{IsFlatNode, InGrammar, KeysFit};
@@ -42,7 +42,8 @@ pub fn order_of_tree()
         → LiesBetween None None (tree format m) }
     // if layers fall, each node below another, however far, has a lesser layer
     ensures below { (format other : Format) (l k : ℕ) (es below : Entries)
-        → LayersFall (node format l es) → Contains (nodes_below es) (node other k below) → k < l }
+        → LayersFall (node format l es) → Contains (entries_subtrees es) (node other k below)
+        → k < l }
 {}
 
 /// A text spells one flat node. The text of each node of the tree of a map is in the grammar, so it

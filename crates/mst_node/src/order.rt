@@ -1,7 +1,6 @@
 //! The order of the keys of a list.
 ghost use Rattle.std.specs.Prelude.{◌≡◌, ◌<◌, ◌↔◌, IsTrue, IfSome};
 ghost use Rattle.std.specs.declared.cmp.Ordering.TheVariants.{Less, Greater};
-ghost use Rattle.mst_key.specs.Bytes.{IsKey, IsValue};
 ghost use Rattle.mst_key.specs.Map.{key_cmp, IsAscending, IsMap};
 
 use mst_key::{Key, Value};
@@ -49,34 +48,16 @@ pub(crate) fn comes_before(one: &[u8], other: &[u8]) -> bool
     }
 }
 
-/// Whether a key comes before another.
-pub(crate) fn precedes(one: &Key, other: &Key) -> bool
-    ensures less { IsTrue result ↔ (key_cmp one.now other.now ≡ Less) }
-{
-    match one.cmp(other) {
-        Ordering::Less => true,
-        Ordering::Equal | Ordering::Greater => false,
-    }
-}
-
 /// Whether the keys of the list rise strictly, as those of the empty list do.
 pub fn ascending(pairs: &[(Key, Value)]) -> bool
     ensures rising { IsTrue result ↔ IsAscending pairs.now }
 {
     for i in 1..pairs.len() {
-        if !precedes(&pairs[i - 1].0, &pairs[i].0) {
+        if !pairs[i - 1].0.precedes(&pairs[i].0) {
             return false;
         }
     }
     true
-}
-
-/// Says that the key and the value are within their limits, as all are by their types.
-fn within_limits(pair: &(Key, Value))
-    ensures limits { IsKey pair.now.0 × IsValue pair.now.1 }
-{
-    let _key = pair.0.bytes();
-    let _value = pair.1.bytes();
 }
 
 /// Whether the list is a map: whether its keys rise strictly.
@@ -84,7 +65,8 @@ pub fn is_map(pairs: &[(Key, Value)]) -> bool
     ensures map { IsTrue result ↔ IsMap pairs.now }
 {
     for pair in pairs {
-        within_limits(pair);
+        pair.0.key_limits();
+        pair.1.value_limits();
     }
     ascending(pairs)
 }

@@ -2,7 +2,7 @@
 ghost use Rattle.std.specs.Prelude.{◌≡◌, ◌≤◌, ℕ, List, [], ◌++◌, length, Option, Some, None, IfSome, IfOk, OnErr};
 ghost use Rattle.sha2.specs.Hashers.{Holds256};
 ghost use Rattle.sha2.specs.Sha256.{sha256};
-ghost use Rattle.mst_node.specs.Text.{heading, version, child_text, counted, held_of, held_text, told_text};
+ghost use Rattle.mst_node.specs.Text.{heading, format_byte as byte_of, child_text, counted, held_of, held_text, told_text};
 
 use crate::hashing::digest;
 use crate::short::ShortText;
@@ -21,8 +21,8 @@ pub trait TextSink: Drop {
     fn take(&mut self, bytes: &[u8])
         ensures took { (m : List ℕ) → took self.old m → took self.new (m ++ bytes.now) };
 
-    /// Takes what stands in front of the entries: the number of the format, the layer, and the
-    /// number of entries in two bytes, the high one first.
+    /// Takes what stands in front of the entries: the format's byte, the layer, and the number
+    /// of of entries in two bytes, the high one first.
     final fn heading(&mut self, format: Format, layer: u8, count: u16)
         ensures heading { (m : List ℕ) → took self.old m
             → took self.new (m ++ heading format layer count) }
@@ -148,7 +148,7 @@ fn take_counted<S: TextSink>(sink: &mut S, bytes: &[u8])
 
 /// The byte that begins a text of a format.
 pub fn format_byte(format: Format) -> u8
-    ensures byte { result ≡ version format }
+    ensures byte { result ≡ byte_of format }
 {
     match format {
         Format::One => 1,

@@ -44,9 +44,10 @@ fn node_digest<A: Allocator>(format: Format, node: &Node<A>) -> [u8; 32]
     hasher.finalize()
 }
 
-/// The text of a node in format 1: the version 1, the layer, the number of entries in two bytes,
-/// the high one first, then each child and each pair from left to right. A child is the byte 00 for
-/// none, or the byte 01 and its digest; a key and a value stand after their length in one byte.
+/// The text of a node in format 1: the byte 1 for the format, the layer, the number of entries in
+/// two bytes, the high one first, then each child and each pair from left to right. A child is the
+/// byte 00 for none, or the byte 01 and its digest; a key and a value stand after their length in
+/// one byte.
 ///
 /// The node is one of a tree of at most 65,535 pairs. Returns `Memory` only if a growth was
 /// refused. The work is linear in the pairs below the node.
@@ -57,8 +58,8 @@ pub fn text<A: Allocator>(alloc: A, node: &Node<A>) -> Result<Vec<u8, A>, Memory
     text_in(alloc, Format::One, node)
 }
 
-/// The text of a node in a format, as `text` is in format 1. In format 2 it begins with the version
-/// 2, and the SHA-256 of each value stands in place of the value and its length.
+/// The text of a node in a format, as `text` is in format 1. In format 2 it begins with the byte 2,
+/// and the SHA-256 of each value stands in place of the value and its length.
 ///
 /// The node is one of a tree of at most 65,535 pairs. Returns `Memory` only if a growth was
 /// refused. The work is linear in the pairs below the node.

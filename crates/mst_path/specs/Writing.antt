@@ -4,7 +4,7 @@ use Rattle.std.specs.Prelude.{◌≡◌, ◌≤◌, ◌<◌, ◌+◌, ℕ, Bool,
 use Rattle.std.specs.Int.{w16, to_be_bytes}
 use Rattle.std.specs.List.{AllByRecursion, flat_map}
 use Rattle.mst_prefix.specs.Kept.{HasTaken}
-use Rattle.mst_node.specs.Text.{FlatEntry, entry_text, child_digest, held_of, version, digest as digest_of}
+use Rattle.mst_node.specs.Text.{FlatEntry, entry_text, child_digest, held_of, format_byte, digest as digest_of}
 use Rattle.mst_arena.specs.Limits.{most_rows, most_entries}
 use Rattle.mst_arena.specs.Content.{Content}
 use Rattle.mst_arena.specs.declared.row.Root.{Root}
@@ -53,7 +53,7 @@ flat_of format e =
 
 abbrev pub text_up_to : (format : Format) → ℕ → ℕ → List PlacedEntry → List ℕ
 text_up_to format layer count es =
-    version format ∷ layer ∷ to_be_bytes w16 count
+    format_byte format ∷ layer ∷ to_be_bytes w16 count
     ++ flat_map (entry_text format) (map (flat_of format) es)
 
 -- link and digest are those of the placed tree

@@ -4,7 +4,7 @@ ghost use Rattle.mst_key.specs.declared.format.Format.{Format};
 ghost use Rattle.mst_arena.specs.Limits.{highest_link};
 ghost use Rattle.mst_arena.specs.Lives.{free_count};
 ghost use Rattle.mst_arena.specs.Content.{part_at};
-ghost use Rattle.mst_arena.specs.Row.{entry_links, entry_value};
+ghost use Rattle.mst_arena.specs.Row.{keyed_links, entry_value};
 ghost use Rattle.mst_arena.specs.Standing.{Placed, link_of, rows_of, used, HasRows};
 ghost use Rattle.mst_path.specs.Takes.{IsOut, KeepsBut, FewRows, IsWritable, StaysBeside};
 ghost use Rattle.mst_path.specs.Writing.{PlacedEntry, entries_used, IsRootOf, ahead, IsNextBlank, IsWriter, IsWritten};
@@ -12,7 +12,7 @@ ghost use Rattle.mst_path.specs.Moves.{IsOld, Moves};
 ghost use Rattle.mst_path.specs.Copying.{Copying, Copied};
 
 use crate::node_writer::NodeWriter;
-use mst_arena::{Desk, EntryLinks, Root, Rows};
+use mst_arena::{Desk, KeyedLinks, Root, Rows};
 use mst_node::empty_digest;
 use std::alloc::Allocator;
 
@@ -44,7 +44,7 @@ pub(crate) fn move_entry<R: Rows, A: Allocator>(
     desk: &mut Desk<A>,
     writer: &mut NodeWriter<A>,
     row: u32,
-    entry: &EntryLinks,
+    entry: &KeyedLinks,
     child: &Root,
 )
     requires writer { IsWriter writer.old }
@@ -53,7 +53,7 @@ pub(crate) fn move_entry<R: Rows, A: Allocator>(
     requires few { FewRows desk.old.lives }
     requires blank { IsNextBlank writer.old.next (R.blank rows.old) }
     requires child { child.now.link ≤ highest_link }
-    requires entry { part_at entry_links (R.content rows.old) row ≡ Some entry.now }
+    requires entry { part_at keyed_links (R.content rows.old) row ≡ Some entry.now }
     requires old { IsOld desk.old row }
     ensures writer { IsWriter writer.new }
     ensures written { (format : Format) (es : List PlacedEntry) (p : Placed) (r : ℕ) (v : List ℕ)

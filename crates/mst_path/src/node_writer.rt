@@ -6,12 +6,12 @@ ghost use Rattle.mst_prefix.specs.Kept.{HasTaken};
 ghost use Rattle.mst_arena.specs.Limits.{highest_link, most_entries};
 ghost use Rattle.mst_arena.specs.Lives.{free_count};
 ghost use Rattle.mst_arena.specs.Content.{Content, part_at};
-ghost use Rattle.mst_arena.specs.Row.{entry_links, entry_value};
+ghost use Rattle.mst_arena.specs.Row.{keyed_links, entry_value};
 ghost use Rattle.mst_arena.specs.Standing.{Placed, head, tree_of, rows_of, used, HasRows};
 ghost use Rattle.mst_path.specs.Takes.{Takes, IsOut, KeepsBut, FewRows, StaysBeside};
 ghost use Rattle.mst_path.specs.Writing.{PlacedEntry, chain_of, entries_used, IsRootOf, ahead, IsNextBlank, IsAhead, IsWriter, IsWritten};
 
-use mst_arena::{Desk, EntryLinks, Root, Row, Rows};
+use mst_arena::{Desk, KeyedLinks, Root, Row, Rows};
 use mst_key::{Format, Key, Value};
 use mst_node::TextSink;
 use mst_prefix::TextHasher;
@@ -189,7 +189,7 @@ impl<A: Allocator> NodeWriter<A> {
         desk: &mut Desk<A>,
         child: &Root,
         from: u32,
-        entry: &EntryLinks,
+        entry: &KeyedLinks,
     )
         requires writer { IsWriter self.old }
         requires some { 0 < self.old.left }
@@ -197,7 +197,7 @@ impl<A: Allocator> NodeWriter<A> {
         requires few { FewRows desk.old.lives }
         requires blank { IsNextBlank self.old.next (R.blank rows.old) }
         requires child { child.now.link ≤ highest_link }
-        requires entry { part_at entry_links (R.content rows.old) from ≡ Some entry.now }
+        requires entry { part_at keyed_links (R.content rows.old) from ≡ Some entry.now }
         ensures writer { IsWriter self.new }
         ensures written { (format : Format) (es : List PlacedEntry) (p : Placed) (r : ℕ)
             (v : List ℕ) → self.old.next ≡ Some r

@@ -7,13 +7,6 @@ use Rattle.mst_key.proofs.Alls.{alls-append}
 use Rattle.mst_prefix.specs.Places.{IsPutAt}
 
 module _ {X : Type 0} where
-  -- an element of the list has it
-  pub all-at : (P : X → Type 0) (xs : List X) (i : ℕ) (x : X) → AllByRecursion P xs
-      → slice_get xs i ≡ Some x → P x
-  all-at P [] i x all there = absurd (omega (arith, slice_get_within [] i x there))
-  all-at P (y ∷ ys) zero x all there = subst P (get_or_from_slice_get (y ∷ ys) 0 x y there) all.0
-  all-at P (y ∷ ys) (suc i) x all there = all-at P ys i x all.1 there
-
   pub all-set : (P : X → Type 0) (xs : List X) (i : ℕ) (x : X) → AllByRecursion P xs → P x
       → AllByRecursion P (slice_set xs i x)
   all-set P [] i x all has = tt

@@ -26,10 +26,6 @@ past_first n one other first second rest other_rest f r s o same = record {
       ∙ ap (λ (xs : List ℕ). first ++ xs) (sym o);
 }
 
--- nothing was passed yet
-pub past_nothing : (one other : List ℕ) → ArePast one other one other
-past_nothing one other = record { bytes = []; begins = refl; begins_too = refl }
-
 -- one passage after another
 pub past_both : (a b c d e f : List ℕ) → ArePast a b c d → ArePast c d e f → ArePast a b e f
 past_both a b c d e f p q = record {

@@ -5,12 +5,13 @@ ghost use Rattle.mst_prefix.specs.Kept.{HasTaken, AreSound};
 
 use crate::beginnings::Beginnings;
 use crate::hasher::TextHasher;
+use crate::places::MOST_ITEMS;
 use mst_key::Memory;
 use std::alloc::Allocator;
 use std::marker::Model;
 
-/// The most rows of an arena.
-const MOST_ROWS: u32 = 65_535;
+/// In how many parts the rows are dealt out to the layers.
+const PARTS: u32 = 32;
 
 /// Beginnings of the texts of nodes, in rows of an arena: those of one layer in a room of its own,
 /// so that the nodes of a path can be written one within another.
@@ -36,11 +37,11 @@ impl<A: Allocator> Model for LayerBeginnings<A> {
         × AreSound b.higher };
 }
 
-/// A number of 32nds of the rows.
+/// A number of 32nds of the rows, or of as many as items can be told apart.
 fn part_of(rows: u32, parts: u32) -> u16
     requires part { parts ≤ 32 }
 {
-    (rows.min(MOST_ROWS) * parts / 32) as u16
+    (rows.min(MOST_ITEMS as u32) * parts / PARTS) as u16
 }
 
 /// Room for a layer's beginnings and digests of values, each a number of 32nds of the rows.

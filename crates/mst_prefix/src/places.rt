@@ -6,7 +6,7 @@ use mst_key::Memory;
 use std::alloc::Allocator;
 
 /// The most items that can be told apart by a number of 16 bits, of which 0 stands for none.
-const MOST: usize = 65_535;
+pub(crate) const MOST_ITEMS: usize = 65_535;
 
 /// Items in a room of their own, at most one for each row. An item stays where it is until another
 /// takes its place; which row it is kept for changes at no cost.
@@ -106,7 +106,7 @@ impl<T: Drop, A: Allocator> Places<T, A> {
             return None;
         }
         let place = self.items.len();
-        if place < self.items.capacity() && place < MOST {
+        if place < self.items.capacity() && place < MOST_ITEMS {
             self.numbers[row] = place as u16 + 1;
             self.items.push_reserved(item);
             return Some(place);
@@ -126,7 +126,7 @@ impl<T: Drop, A: Allocator> Places<T, A> {
         } else {
             0
         };
-        if place >= self.items.len() || place >= MOST {
+        if place >= self.items.len() || place >= MOST_ITEMS {
             return None;
         }
         self.turn = place + 1;

@@ -7,7 +7,7 @@ use Rattle.std.specs.declared.result.Result.{Result}
 use Rattle.std.specs.declared.result.Result.TheVariants.{Ok}
 use Rattle.std.proofs.lemmas.Slice.Eq.{bytes_eq-Decides}
 use Rattle.mst_key.specs.Bytes.{IsBytes}
-use Rattle.mst_node.specs.Text.{FlatNode, spelling, digest_of, version}
+use Rattle.mst_node.specs.Text.{FlatNode, spelling, digest_of, format_byte}
 use Rattle.mst_node.specs.Grammar.{IsFlatNode}
 use Rattle.mst_node.specs.Trail.{framed, framing}
 use Rattle.mst_node.specs.KeyPlace.{place_of}
@@ -190,7 +190,7 @@ accepted format root k bytes a b e =
       flat = leads.flat;
       few = subst (λ (n : ℕ). n < 256) (ap length leads.texts ∙ count leads.nodes) frame.few;
       frames =
-          frame.whole ∙ ap (λ (xs : List ℕ). version format ∷ length r.0.0 ∷ framed r.0.0 ++ xs)
+          frame.whole ∙ ap (λ (xs : List ℕ). format_byte format ∷ length r.0.0 ∷ framed r.0.0 ++ xs)
           tail.0 ∙ ap (λ (ts : List (List ℕ)). framing format ts a) leads.texts;
       leads = subst (LeadsFrom root k leads.nodes) done.1 leads.leads;
       fit = tail.1;

@@ -5,8 +5,7 @@ use Rattle.std.specs.Prelude.{IfSome}
 use Rattle.std.specs.Bool.{Decides}
 use Rattle.std.specs.List.{list_all, AllByRecursion}
 use Rattle.std.specs.Ordering.{is_lt, is_gt}
-use Rattle.std.specs.declared.cmp.Ordering.{Ordering}
-use Rattle.std.specs.declared.cmp.Ordering.TheVariants.{Less, Equal, Greater}
+use Rattle.std.specs.declared.cmp.Ordering.TheVariants.{Less}
 use Rattle.std.proofs.lemmas.Bool.Decides.{Decides-and, Decides-eqb, Decides-ltb, same_from_decides}
 use Rattle.mst_key.specs.Bytes.{IsBytes}
 use Rattle.mst_key.specs.Layer.{layer_in}
@@ -19,6 +18,7 @@ use Rattle.mst_node.specs.Reading.{◌>>=◌, node_at}
 use Rattle.mst_node.specs.KeyPlace.{LiesWithin}
 use Rattle.mst_node.specs.declared.key_place.Span.{Span}
 use Rattle.mst_node.proofs.ReadIsSpelled.{bind_ok, some_same}
+use Rattle.mst_node.proofs.ScannedEntries.{lt-Decides}
 use Rattle.mst_node.proofs.GrammarIsRead.{read_in_grammar, grammar_read}
 use Rattle.mst_proof.specs.Verdict.{are_rising, do_fit, node_in, is_under, is_inside}
 
@@ -29,11 +29,6 @@ pub all-Decides : {X : Type 0} (test : X → Bool) (P : X → Type 0)
 all-Decides test P each [] = (λ e. tt, λ all. refl)
 all-Decides test P each (x ∷ xs) = Decides-and (test x) (list_all test xs) (each x)
     (all-Decides test P each xs)
-
-lt-Decides : (r : Ordering) → Decides (is_lt r) (r ≡ Less)
-lt-Decides Less = (λ e. refl, λ e. refl)
-lt-Decides Equal = (λ e. absurd (cc), λ e. ap is_lt e)
-lt-Decides Greater = (λ e. absurd (cc), λ e. ap is_lt e)
 
 rising-Decides : (es : List FlatEntry) → Decides (are_rising (map (λ e. e.key) es))
     (IsAscending (flat_pairs es))

@@ -14,14 +14,14 @@ use Rattle.std.proofs.lemmas.Bool.Decides.{nat_tests}
 use Rattle.std.proofs.lemmas.List.{append-nil}
 use Rattle.std.proofs.lemmas.Slice.Eq.{bytes_eq-Decides}
 use Rattle.mst_key.specs.Bytes.{IsBytes}
-use Rattle.mst_node.specs.Text.{FlatNode, FlatEntry, spelling, digest_of, version}
+use Rattle.mst_node.specs.Text.{FlatNode, FlatEntry, spelling, digest_of, format_byte}
 use Rattle.mst_node.specs.Grammar.{IsFlatNode}
 use Rattle.mst_node.specs.KeyPlace.{place_of}
 use Rattle.mst_node.specs.Trail.{answer_text}
 use Rattle.mst_node.specs.declared.key_place.KeyPlace.{KeyPlace}
 use Rattle.mst_node.specs.declared.key_place.KeyPlace.TheVariants.{Gap}
 use Rattle.mst_proof.specs.declared.fault.ProofFault.{ProofFault}
-use Rattle.mst_proof.specs.declared.fault.ProofFault.TheVariants.{Version, CutShort, LeftOver, NoNode, OtherDigest, LayerNotBelow, KeyOutside, Unfinished, TextBehind, OtherValue}
+use Rattle.mst_proof.specs.declared.fault.ProofFault.TheVariants.{FormatByte, CutShort, LeftOver, NoNode, OtherDigest, LayerNotBelow, KeyOutside, Unfinished, TextBehind, OtherValue}
 use Rattle.mst_proof.specs.declared.claim.Claim.{Claim}
 use Rattle.mst_proof.specs.declared.claim.Claim.TheVariants.{Nothing, Absence, Unfit}
 use Rattle.mst_proof.specs.declared.expected.Expected.{Expected}
@@ -72,21 +72,21 @@ pub framed_read : (format : Format) (bytes : List ℕ) (texts : List (List ℕ))
     → Frames format bytes texts tail rest → frame_at format bytes ≡ claimed_at format
     (Some (texts, tail ++ rest))
 framed_read format bytes texts tail rest frames =
-    let same : (version format == version format) ≡ true = grind (arith, nat_tests) in
+    let same : (format_byte format == format_byte format) ≡ true = grind (arith, nat_tests) in
     ap (frame_at format) frames.whole
     ∙ rw same (ap (claimed_at format) (texts_again texts (tail ++ rest) frames.short))
 
 pub frame_fails : (format : Format) (bytes : List ℕ) (fault : ProofFault) → IsBytes bytes
     → FrameFails format bytes fault → frame_at format bytes ≡ Err fault
-frame_fails format bytes Version b is =
-    let other : (is.0 == version format) ≡ false =
-    false_from_ne_true (is.0 == version format) (λ e. is.3 (grind (arith, nat_tests, e))) in
+frame_fails format bytes FormatByte b is =
+    let other : (is.0 == format_byte format) ≡ false =
+    false_from_ne_true (is.0 == format_byte format) (λ e. is.3 (grind (arith, nat_tests, e))) in
     ap (frame_at format) is.2 ∙ rw other
 frame_fails format bytes CutShort b is = go (frame_at format bytes) refl
   where
     faulty : (g : ProofFault) → FrameFails format bytes g → err {A = List (List ℕ) × Claim} g ≡ Err
         CutShort
-    faulty Version f = absurd (f.3 (is.0 f.0 f.1 f.2))
+    faulty FormatByte f = absurd (f.3 (is.0 f.0 f.1 f.2))
     faulty CutShort f = refl
     faulty LeftOver f = absurd (is.1 f.0 f.1 (f.2 ∷ f.3) f.4 f.5)
     faulty NoNode f = absurd f
@@ -138,7 +138,7 @@ fault_by format k x text b KeyOutside is =
     ((under-Decides x.upper is.0.layer).1 is.3)
     (false_from_ne_true (list_all (λ e. is_inside x.span e.key) is.0.entries)
     (λ e. is.4 ((within-Decides x.span is.0).0 e)))
-fault_by format k x text b Version is = absurd is
+fault_by format k x text b FormatByte is = absurd is
 fault_by format k x text b CutShort is = absurd is
 fault_by format k x text b LeftOver is = absurd is
 fault_by format k x text b Unfinished is = absurd is

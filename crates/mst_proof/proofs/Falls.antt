@@ -12,7 +12,7 @@ use Rattle.mst_key.proofs.KeyOrder.{same_from_equal, less_from_greater, other_fr
 use Rattle.mst_key.proofs.MapLaws.{AllBelow-less, AllAbove-less, map_get-here, map_get-past}
 use Rattle.mst_key.proofs.Splits.{map_get-left, map_get-right}
 use Rattle.mst_proof.specs.Beside.{gap_in, held_in}
-use Rattle.mst_node.specs.Tree.{Tree, empty, Entries, last, entry, pairs, entries_pairs, nodes, nodes_below, IsUnder, IsMst, IsMstEntries}
+use Rattle.mst_node.specs.Tree.{Tree, empty, Entries, last, entry, pairs, entries_pairs, subtrees, entries_subtrees, IsUnder, IsMst, IsMstEntries}
 use Rattle.mst_node.specs.Text.{child_digest, flat_entries, tail_digest, held_of}
 use Rattle.mst_node.specs.Gaps.{LiesBetween, EntriesLieBetween}
 use Rattle.mst_node.specs.Trail.{by_order, nodes_met, met_in_gap}
@@ -52,7 +52,7 @@ pub record Gapped (format : Format) (k : List ℕ) (low high : Option (List ℕ)
   pub map : IsMap (pairs child)
   pub few : length (pairs child) ≤ length (entries_pairs es)
   pub lies : EntriesLieBetween low high es → LiesBetween span.low span.high child
-  pub among : (u : Tree) → Contains (nodes child) u → Contains (nodes_below es) u
+  pub among : (u : Tree) → Contains (subtrees child) u → Contains (entries_subtrees es) u
 
 -- the pairs round a pair of a map
 record Round (xs : List Pair) (p : Pair) (ys : List Pair) : Type 0 where
@@ -100,7 +100,7 @@ falls_before format k low high l child key value rest mst r e =
       map = r.front;
       few = omega (arith, length-append (pairs child) ((key, value) ∷ entries_pairs rest));
       lies = λ lie. lie.1;
-      among = λ u has. Contains-append_left (nodes child) (nodes_below rest) u has;
+      among = λ u has. Contains-append_left (subtrees child) (entries_subtrees rest) u has;
     }
 
 falls_at : (format : Format) (k : List ℕ) (low high : Option (List ℕ)) (child : Tree)
@@ -159,7 +159,8 @@ falls_behind format k low high l child key value rest r e (inr g) =
       map = g.map;
       few = omega (arith, g.few, length-append (pairs child) ((key, value) ∷ entries_pairs rest));
       lies = λ lie. g.lies lie.2;
-      among = λ u has. Contains-append_right (nodes child) (nodes_below rest) u (g.among u has);
+      among = λ u has. Contains-append_right (subtrees child) (entries_subtrees rest) u
+          (g.among u has);
     })
 
 pub falls : (format : Format) (k : List ℕ) (low high : Option (List ℕ)) (l : ℕ) (es : Entries)

@@ -8,12 +8,12 @@ use Rattle.std.specs.declared.result.Result.TheVariants.{Ok, Err}
 use Rattle.std.proofs.lemmas.Bool.Decides.{nat_tests}
 use Rattle.std.proofs.lemmas.List.{append-nil, take-append-drop, length-take}
 use Rattle.mst_key.specs.Bytes.{IsBytes}
-use Rattle.mst_node.specs.Text.{version}
+use Rattle.mst_node.specs.Text.{format_byte}
 use Rattle.mst_node.specs.Trail.{framed}
 use Rattle.mst_node.proofs.EntryPlaces.{none-some}
 use Rattle.mst_node.proofs.ReadIsSpelled.{some_same}
 use Rattle.mst_proof.specs.declared.fault.ProofFault.{ProofFault}
-use Rattle.mst_proof.specs.declared.fault.ProofFault.TheVariants.{Version, CutShort, LeftOver}
+use Rattle.mst_proof.specs.declared.fault.ProofFault.TheVariants.{FormatByte, CutShort, LeftOver}
 use Rattle.mst_proof.specs.declared.claim.Claim.{Claim}
 use Rattle.mst_proof.specs.declared.claim.Claim.TheVariants.{Nothing, Absence, Unfit}
 use Rattle.mst_proof.specs.Frame.{◌>>◌, texts_at, alone, given, value_at, claim_at, claimed_at, count_at, frame_at}
@@ -27,7 +27,7 @@ pub err_same : {A : Type 0} (a b : ProofFault) → err {A = A} a ≡ err b → a
 err_same a b e = cc
 
 -- two lists with a first element
-same_head : {A : Type 0} (a b : A) (xs ys : List A) → a ∷ xs ≡ b ∷ ys → (a ≡ b) × (xs ≡ ys)
+pub same_head : {A : Type 0} (a b : A) (xs ys : List A) → a ∷ xs ≡ b ∷ ys → (a ≡ b) × (xs ≡ ys)
 same_head a b xs ys e = (cc, cc)
 
 -- ---- the claim
@@ -162,10 +162,12 @@ claim_fails Two (b ∷ bytes) fault e = go (b == 1) refl e
 
 -- ---- the frame
 
-version_cut : (format : Format) (v : ℕ) → v ≡ version format → FrameFails format (v ∷ []) CutShort
-version_cut format v one = (
+format_byte_cut : (format : Format) (v : ℕ) → v ≡ format_byte format → FrameFails format (v ∷ [])
+    CutShort
+format_byte_cut format v one = (
   λ w rest e. sym (same_head v w [] rest e).0 ∙ one,
-  λ texts tail rest is e. let f = (same_head v (version format) [] _ e.whole).1 in absurd (cc (f)),
+  λ texts tail rest is e. let f = (same_head v (format_byte format) [] _ e.whole).1 in
+      absurd (cc (f)),
 )
 
 -- of bytes that frame texts and a tail these texts are read, and the tail stands after them
@@ -173,11 +175,11 @@ read_again : (format : Format) (v n : ℕ) (xs : List ℕ) (texts : List (List �
     → Frames format (v ∷ n ∷ xs) texts tail rest → texts_at n xs ≡ Some (texts, tail ++ rest)
 read_again format v n xs texts tail rest e =
     let f = same_head n (length texts) xs (framed texts ++ (tail ++ rest))
-    (same_head v (version format) (n ∷ xs) _ e.whole).1 in
+    (same_head v (format_byte format) (n ∷ xs) _ e.whole).1 in
     ap (λ (m : ℕ). texts_at m xs) f.0 ∙ ap (texts_at (length texts)) f.1 ∙ texts_again texts
     (tail ++ rest) e.short
 
-cut_short : (format : Format) (v n : ℕ) (xs : List ℕ) → v ≡ version format
+cut_short : (format : Format) (v n : ℕ) (xs : List ℕ) → v ≡ format_byte format
     → ((texts : List (List ℕ)) (tail rest : List ℕ) → IsTail format tail → texts_at n xs ≡ Some
     (texts, tail ++ rest) → ⊥) → FrameFails format (v ∷ n ∷ xs) CutShort
 cut_short format v n xs one none = (
@@ -193,9 +195,9 @@ pub frame_fault : (format : Format) (proof : List ℕ) (fault : ProofFault) → 
 frame_fault format [] fault b e =
     subst (FrameFails format []) (err_same {A = List (List ℕ) × Claim} CutShort fault e)
     ((λ v rest f. absurd (cc (f))), λ texts tail rest is f. cc (f.whole))
-frame_fault format (v ∷ bytes) fault b e = go (v == version format) refl bytes b e
+frame_fault format (v ∷ bytes) fault b e = go (v == format_byte format) refl bytes b e
   where
-    claims : (n : ℕ) (xs : List ℕ) (us : List (List ℕ)) (rest : List ℕ) → v ≡ version format
+    claims : (n : ℕ) (xs : List ℕ) (us : List (List ℕ)) (rest : List ℕ) → v ≡ format_byte format
         → IsBytes xs → texts_at n xs ≡ Some (us, rest) → ClaimFails format rest fault
         → FrameFails format (v ∷ n ∷ xs) fault
     claims n xs us rest one b is (inl c) =
@@ -205,9 +207,9 @@ frame_fault format (v ∷ bytes) fault b e = go (v == version format) refl bytes
         c.1 tail more t (ap (λ (p : List (List ℕ) × List ℕ). p.1) same)))
     claims n xs us rest one b is (inr c) =
         let takes = texts_takes n xs (us, rest) is b in
-        let whole : v ∷ n ∷ xs ≡ version format ∷ length us ∷ framed us ++ rest =
-        ap (λ (w : ℕ). w ∷ n ∷ xs) one ∙ ap (λ (m : ℕ). version format ∷ m ∷ xs) (sym takes.1)
-        ∙ ap (λ (ys : List ℕ). version format ∷ length us ∷ ys) takes.0 in
+        let whole : v ∷ n ∷ xs ≡ format_byte format ∷ length us ∷ framed us ++ rest =
+        ap (λ (w : ℕ). w ∷ n ∷ xs) one ∙ ap (λ (m : ℕ). format_byte format ∷ m ∷ xs) (sym takes.1)
+        ∙ ap (λ (ys : List ℕ). format_byte format ∷ length us ∷ ys) takes.0 in
         subst (FrameFails format (v ∷ n ∷ xs)) (sym c.0) (
           us,
           c.1,
@@ -216,7 +218,8 @@ frame_fault format (v ∷ bytes) fault b e = go (v == version format) refl bytes
           c.4,
           record {
             short = takes.4;
-            whole = whole ∙ ap (λ (ys : List ℕ). version format ∷ length us ∷ framed us ++ ys) c.5;
+            whole = whole ∙ ap (λ (ys : List ℕ). format_byte format ∷ length us ∷ framed us ++ ys)
+                c.5;
           },
         )
 
@@ -225,7 +228,7 @@ frame_fault format (v ∷ bytes) fault b e = go (v == version format) refl bytes
     read us (Ok claim) e = absurd (cc (e))
     read us (Err g) e = ap Err (err_same {A = List (List ℕ) × Claim} g fault e)
 
-    left : (n : ℕ) (xs : List ℕ) → v ≡ version format → IsBytes xs
+    left : (n : ℕ) (xs : List ℕ) → v ≡ format_byte format → IsBytes xs
         → (r : Option (List (List ℕ) × List ℕ)) → texts_at n xs ≡ r → claimed_at format r
         ≡ Err fault → FrameFails format (v ∷ n ∷ xs) fault
     left n xs one b None is e =
@@ -237,17 +240,18 @@ frame_fault format (v ∷ bytes) fault b e = go (v == version format) refl bytes
         claims n xs t.0 t.1 one b is
         (claim_fails format t.1 fault (read t.0 (claim_at format t.1) e))
 
-    go : (t : Bool) → (v == version format) ≡ t → (xs : List ℕ) → IsBytes (v ∷ xs)
-        → (cond t (count_at xs) (Err Version) >> λ h. claimed_at format (texts_at h.0 h.1))
+    go : (t : Bool) → (v == format_byte format) ≡ t → (xs : List ℕ) → IsBytes (v ∷ xs)
+        → (cond t (count_at xs) (Err FormatByte) >> λ h. claimed_at format (texts_at h.0 h.1))
         ≡ Err fault → FrameFails format (v ∷ xs) fault
     go false is xs b e =
-        subst (FrameFails format (v ∷ xs)) (err_same {A = List (List ℕ) × Claim} Version fault e)
+        subst (FrameFails format (v ∷ xs)) (err_same {A = List (List ℕ) × Claim} FormatByte fault e)
         (v, xs, refl, λ one. let c : ⊥ = grind (arith, nat_tests) in c)
     go true is [] b e =
         subst (FrameFails format (v ∷ [])) (err_same {A = List (List ℕ) × Claim} CutShort fault e)
-        (version_cut format v (let one : v ≡ version format = grind (arith, nat_tests) in one))
+        (format_byte_cut format v (let one : v ≡ format_byte format = grind (arith, nat_tests) in
+        one))
     go true is (n ∷ xs) b e =
-        left n xs (let one : v ≡ version format = grind (arith, nat_tests) in one) b.1.1
+        left n xs (let one : v ≡ format_byte format = grind (arith, nat_tests) in one) b.1.1
         (texts_at n xs) refl e
 
 -- bytes that are read as texts and a claim frame the texts and a tail, and nothing after it
@@ -256,6 +260,6 @@ pub frame_whole : (format : Format) (bytes : List ℕ) (ts : List (List ℕ)) (c
 frame_whole format bytes ts claim frame =
     record {
       short = frame.short;
-      whole = frame.whole ∙ ap (λ (xs : List ℕ). version format ∷ length ts ∷ framed ts ++ xs)
+      whole = frame.whole ∙ ap (λ (xs : List ℕ). format_byte format ∷ length ts ∷ framed ts ++ xs)
           (sym (append-nil frame.rest));
     }

@@ -12,7 +12,7 @@ use Rattle.std.proofs.lemmas.Nat.{be_bytes_4, from_be_bytes-to_be_bytes_4}
 use Rattle.mst_key.specs.declared.format.Format.{Format}
 use Rattle.mst_key.specs.declared.format.Format.TheVariants.{One, Two}
 use Rattle.mst_key.specs.Bytes.{IsBytes}
-use Rattle.mst_node.specs.Text.{FlatEntry, FlatNode, child_text, counted, held_text, entry_text, spelling, version}
+use Rattle.mst_node.specs.Text.{FlatEntry, FlatNode, child_text, counted, held_text, entry_text, spelling, format_byte}
 use Rattle.mst_node.specs.Grammar.{IsDigest, IsHeld, IsFlatEntry, IsFlatNode}
 use Rattle.mst_node.specs.Trail.{framed, framing, answer_text}
 use Rattle.mst_node.proofs.ReadIsSpelled.{bind_ok, some_same, part_takes}
@@ -83,7 +83,7 @@ texts_takes (suc n) bytes p h b =
 pub record IsFrame (format : Format) (bytes : List ℕ) (ts : List (List ℕ)) (claim : Claim) : Type 0
   where
     pub rest : List ℕ
-    pub whole : bytes ≡ version format ∷ length ts ∷ framed ts ++ rest
+    pub whole : bytes ≡ format_byte format ∷ length ts ∷ framed ts ++ rest
     pub few : length ts < 256
     pub short : AllShort ts
     pub texts : AllBytes ts
@@ -115,19 +115,20 @@ claimed_done format (Some t) f e =
     )
 
 heading_takes : (format : Format) (bytes : List ℕ) (h : ℕ × List ℕ) → heading_at format bytes ≡ Ok h
-    → bytes ≡ version format ∷ h.0 ∷ h.1
+    → bytes ≡ format_byte format ∷ h.0 ∷ h.1
 heading_takes format [] h e = absurd (cc)
-heading_takes format (v ∷ bytes) h e = go (v == version format) refl bytes e
+heading_takes format (v ∷ bytes) h e = go (v == format_byte format) refl bytes e
   where
-    go : (t : Bool) → (v == version format) ≡ t → (xs : List ℕ) → cond t (count_at xs)
-        (Err Rattle.mst_proof.specs.declared.fault.ProofFault.TheVariants.Version) ≡ Ok h
-        → v ∷ xs ≡ version format ∷ h.0 ∷ h.1
+    go : (t : Bool) → (v == format_byte format) ≡ t → (xs : List ℕ) → cond t (count_at xs)
+        (Err Rattle.mst_proof.specs.declared.fault.ProofFault.TheVariants.FormatByte) ≡ Ok h
+        → v ∷ xs ≡ format_byte format ∷ h.0 ∷ h.1
     go false is xs e = absurd (cc)
     go true is [] e = absurd (cc)
     go true is (n ∷ xs) e =
-        let one : v ≡ version format = grind (arith, nat_tests) in
+        let one : v ≡ format_byte format = grind (arith, nat_tests) in
         let same = ok_same (n, xs) h e in
-        ap (λ (w : ℕ). w ∷ n ∷ xs) one ∙ ap (λ (q : ℕ × List ℕ). version format ∷ q.0 ∷ q.1) same
+        ap (λ (w : ℕ). w ∷ n ∷ xs) one ∙ ap (λ (q : ℕ × List ℕ). format_byte format ∷ q.0 ∷ q.1)
+        same
 
 pub frame_takes : (format : Format) (bytes : List ℕ) (f : List (List ℕ) × Claim)
     → frame_at format bytes ≡ Ok f → IsBytes bytes → IsFrame format bytes f.0 f.1
@@ -141,8 +142,8 @@ frame_takes format bytes f e b =
     let small : head.0.0 < 256 = fits.1.0 in
     record {
       rest = done.0;
-      whole = whole ∙ ap (λ (xs : List ℕ). version format ∷ head.0.0 ∷ xs) takes.0
-          ∙ ap (λ (n : ℕ). version format ∷ n ∷ framed f.0 ++ done.0) count;
+      whole = whole ∙ ap (λ (xs : List ℕ). format_byte format ∷ head.0.0 ∷ xs) takes.0
+          ∙ ap (λ (n : ℕ). format_byte format ∷ n ∷ framed f.0 ++ done.0) count;
       few = omega (arith, small, takes.1);
       short = takes.4;
       texts = takes.2;
@@ -246,7 +247,7 @@ claim_again Two (Some v) is =
 
 -- ---- what is framed is cut out
 
-text_again : (text rest : List ℕ) → IsShort text → text_at
+pub text_again : (text rest : List ℕ) → IsShort text → text_at
     (to_be_bytes w32 (length text) ++ text ++ rest) ≡ Some (text, rest)
 unfolding text_at
 text_again text rest small =
@@ -271,7 +272,7 @@ pub frame_again : (format : Format) (ts : List (List ℕ)) (a : Option (List ℕ
     → AllShort ts → frame_at format (framing format ts a) ≡ Ok (ts, claim_of format a)
 frame_again format ts a is small =
     let rest = answer_text format a in
-    let same : (version format == version format) ≡ true = grind (arith, nat_tests) in
+    let same : (format_byte format == format_byte format) ≡ true = grind (arith, nat_tests) in
     rw same (ap (claimed_at format) (texts_again ts rest small)
     ∙ ap (λ (r : Result Claim ProofFault). r >> λ c. Ok (ts, c)) (claim_again format a is))
 
@@ -309,8 +310,9 @@ entries_short format (e ∷ es) all =
           (entry_text format e) (flat_map (entry_text format) es),
     )
 
-spelling_short : (n : FlatNode) → IsFlatNode n → IsShort (spelling n)
-spelling_short n is =
+-- a text has at most some 8.6 million bytes
+pub spelling_length : (n : FlatNode) → IsFlatNode n → length (spelling n) ≤ 8585122
+spelling_length n is =
     omega (
       arith,
       is.few,
@@ -323,4 +325,5 @@ pub texts_short : (format : Format) (ns : List FlatNode)
     → AllByRecursion (λ n. (n.format ≡ format) × IsFlatNode n) ns
     → AllShort (map spelling ns)
 texts_short format [] all = tt
-texts_short format (n ∷ ns) all = (spelling_short n all.0.1, texts_short format ns all.1)
+texts_short format (n ∷ ns) all =
+    (omega (arith, spelling_length n all.0.1), texts_short format ns all.1)

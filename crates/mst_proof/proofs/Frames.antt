@@ -81,13 +81,6 @@ rest_more (suc n) k bytes t e h =
     ap (λ (j : ℕ). rest_at j t.1) same
     ∙ sym (ap (λ (r : Option (List ℕ × List ℕ)). r >>= λ x. rest_at n x.1) h)
 
-pub rest_short : (n : ℕ) (bytes : List ℕ) → (n ≡ 0 → ⊥) → text_at bytes ≡ None → rest_at n bytes
-    ≡ None
-unfolding rest_at
-rest_short zero bytes some none = absurd (some refl)
-rest_short (suc n) bytes some none = ap (λ (r : Option (List ℕ × List ℕ)). r >>= λ x. rest_at n x.1)
-    none
-
 pub rest-texts : (n : ℕ) (bytes : List ℕ) → rest_at n bytes ≡ option_map
     (λ (p : List (List ℕ) × List ℕ). p.1) (texts_at n bytes)
 unfolding rest_at texts_at

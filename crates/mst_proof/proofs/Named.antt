@@ -9,7 +9,7 @@ use Rattle.std.proofs.lemmas.List.Elements.{Contains-append_left, Contains-appen
 use Rattle.mst_key.specs.declared.format.Format.{Format}
 use Rattle.mst_key.specs.declared.format.Format.TheVariants.{One, Two}
 use Rattle.mst_key.specs.Map.{Pair, key_cmp, map_get}
-use Rattle.mst_node.specs.Tree.{Tree, empty, node, Entries, last, entry, tree, pairs, nodes, nodes_below}
+use Rattle.mst_node.specs.Tree.{Tree, empty, node, Entries, last, entry, tree, pairs, subtrees, entries_subtrees}
 use Rattle.mst_node.specs.Text.{text}
 use Rattle.mst_node.specs.Trail.{by_order, nodes_met, met_in_gap, trail}
 use Rattle.mst_node.proofs.ReadIsSpelled.{some_same}
@@ -49,61 +49,62 @@ empty_or (t ∷ ts) u has = inl has
 
 -- what the order of the key to an entry's key leads to is below
 by_way : (k w : List ℕ) (child : Tree) (rest : Entries) (o : Ordering)
-    → (Contains (map text (nodes_met k child)) w → Contains (map text (nodes child)) w)
-    → (Contains (map text (met_in_gap k rest)) w → Contains (map text (nodes_below rest)) w)
+    → (Contains (map text (nodes_met k child)) w → Contains (map text (subtrees child)) w)
+    → (Contains (map text (met_in_gap k rest)) w → Contains (map text (entries_subtrees rest)) w)
     → Contains (map text (by_order o (nodes_met k child) [] (met_in_gap k rest))) w
-    → Contains (map text (nodes child) ++ map text (nodes_below rest)) w
+    → Contains (map text (subtrees child) ++ map text (entries_subtrees rest)) w
 by_way k w child rest Less left right has =
-    Contains-append_left (map text (nodes child)) (map text (nodes_below rest)) w (left has)
+    Contains-append_left (map text (subtrees child)) (map text (entries_subtrees rest)) w (left has)
 by_way k w child rest Equal left right has = absurd (omega (arith, has.1))
 by_way k w child rest Greater left right has =
-    Contains-append_right (map text (nodes child)) (map text (nodes_below rest)) w (right has)
+    Contains-append_right (map text (subtrees child)) (map text (entries_subtrees rest)) w
+    (right has)
 
 mutual
   met_texts : (k w : List ℕ) (t : Tree) → Contains (map text (nodes_met k t)) w
-      → Contains (map text (nodes t)) w
+      → Contains (map text (subtrees t)) w
   met_texts k w empty has = has
   met_texts k w (node f l es) has =
       let top = text (node f l es) in
       elim (has_cases top w (map text (met_in_gap k es)) has) [
-        | inl same ↦ subst (Contains (top ∷ map text (nodes_below es))) same
-            (has_first top (map text (nodes_below es)))
-        | inr later ↦ has_later top (map text (nodes_below es)) w (gap_texts k w es later)
+        | inl same ↦ subst (Contains (top ∷ map text (entries_subtrees es))) same
+            (has_first top (map text (entries_subtrees es)))
+        | inr later ↦ has_later top (map text (entries_subtrees es)) w (gap_texts k w es later)
       ]
 
   gap_texts : (k w : List ℕ) (es : Entries) → Contains (map text (met_in_gap k es)) w
-      → Contains (map text (nodes_below es)) w
+      → Contains (map text (entries_subtrees es)) w
   gap_texts k w (last child) has = met_texts k w child has
   gap_texts k w (entry child key value rest) has =
       subst (λ (us : List (List ℕ)). Contains us w)
-      (sym (map-append text (nodes child) (nodes_below rest)))
+      (sym (map-append text (subtrees child) (entries_subtrees rest)))
       (by_way k w child rest (key_cmp k key) (met_texts k w child) (gap_texts k w rest) has)
 
 -- ---- what is named
 
 -- the texts that are named, of a proof of these texts, with these values
 abbrev named : List (List ℕ) → List (List ℕ) → Tree → List (List ℕ)
-named vs ts t = ts ++ (map text (nodes t) ++ [] ∷ vs)
+named vs ts t = ts ++ (map text (subtrees t) ++ [] ∷ vs)
 
 named_text : (vs ts : List (List ℕ)) (t : Tree) (u : List ℕ) → Contains ts u
     → Contains (named vs ts t) u
-named_text vs ts t u has = Contains-append_left ts (map text (nodes t) ++ [] ∷ vs) u has
+named_text vs ts t u has = Contains-append_left ts (map text (subtrees t) ++ [] ∷ vs) u has
 
-named_node : (vs ts : List (List ℕ)) (t : Tree) (w : List ℕ) → Contains (map text (nodes t)) w
+named_node : (vs ts : List (List ℕ)) (t : Tree) (w : List ℕ) → Contains (map text (subtrees t)) w
     → Contains (named vs ts t) w
-named_node vs ts t w has = Contains-append_right ts (map text (nodes t) ++ [] ∷ vs) w
-    (Contains-append_left (map text (nodes t)) ([] ∷ vs) w has)
+named_node vs ts t w has = Contains-append_right ts (map text (subtrees t) ++ [] ∷ vs) w
+    (Contains-append_left (map text (subtrees t)) ([] ∷ vs) w has)
 
 named_empty : (vs ts : List (List ℕ)) (t : Tree) (u : List ℕ) → u ≡ [] → Contains (named vs ts t) u
 named_empty vs ts t u is =
     subst (Contains (named vs ts t)) (sym is)
-    (Contains-append_right ts (map text (nodes t) ++ [] ∷ vs) []
-    (Contains-append_right (map text (nodes t)) ([] ∷ vs) [] (has_first [] vs)))
+    (Contains-append_right ts (map text (subtrees t) ++ [] ∷ vs) []
+    (Contains-append_right (map text (subtrees t)) ([] ∷ vs) [] (has_first [] vs)))
 
 named_value : (vs ts : List (List ℕ)) (t : Tree) (v : List ℕ) → Contains vs v
     → Contains (named vs ts t) v
-named_value vs ts t v has = Contains-append_right ts (map text (nodes t) ++ [] ∷ vs) v
-    (Contains-append_right (map text (nodes t)) ([] ∷ vs) v (has_later [] vs v has))
+named_value vs ts t v has = Contains-append_right ts (map text (subtrees t) ++ [] ∷ vs) v
+    (Contains-append_right (map text (subtrees t)) ([] ∷ vs) v (has_later [] vs v has))
 
 -- a value of the map
 value_in : (m : List Pair) (k v : List ℕ) → map_get m k ≡ Some v → Contains (map (λ p. p.1) m) v

@@ -53,11 +53,6 @@ settled_same Two claim held a b is e free =
 
 -- ---- the texts
 
--- no texts show nothing
-pub no_other_end : (format : Format) (claim : Claim) (k : List ℕ) (t : Tree) → NoOther format claim
-    t k []
-no_other_end format claim k t x a e h = absurd (cc)
-
 -- a text of another digest shows nothing
 pub no_other_digest : (format : Format) (claim : Claim) (k u : List ℕ) (ts : List (List ℕ))
     (t : Tree) → IsBytes u → digest_of u ≢ digest t → NoOther format claim t k (u ∷ ts)

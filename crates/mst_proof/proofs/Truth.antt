@@ -3,12 +3,12 @@
 use Rattle.mst_key.specs.declared.format.Format.{Format}
 use Rattle.mst_key.specs.declared.format.Format.TheVariants.{One, Two}
 use Rattle.mst_proof.specs.Accepted.{held_answer, IsAnswer}
-use Rattle.mst_node.proofs.ReadIsSpelled.{some_same}
+use Rattle.mst_node.proofs.ReadIsSpelled.{some_same, bytes-split}
 use Rattle.std.specs.Ordering.{is_eq}
 use Rattle.std.specs.Str.{bytes_eq}
 use Rattle.std.proofs.lemmas.Bool.Decides.{not_from_Decides}
 use Rattle.std.proofs.lemmas.Slice.Eq.{bytes_eq-Decides}
-use Rattle.std.proofs.Common.{◌≡◌, ◌≢◌, ℕ, suc, Bool, true, false, cond, ◌<◌, List, [], ◌∷◌, ◌++◌, length, map, Option, Some, None, ◌⊎◌, inl, inr, refl, sym, ◌∙◌, ap, subst, arith}
+use Rattle.std.proofs.Common.{◌≡◌, ◌≢◌, ℕ, suc, Bool, true, false, cond, ◌<◌, List, [], ◌∷◌, length, map, Option, Some, None, ◌⊎◌, inl, inr, refl, sym, ◌∙◌, ap, subst, arith}
 use Rattle.std.specs.List.{AllByRecursion}
 use Rattle.std.proofs.lemmas.List.{length-map}
 use Rattle.mst_key.specs.Bytes.{IsBytes, IsKey, IsValue}
@@ -43,10 +43,6 @@ small_tree format m d has =
     }
 
 -- ---- the map's proof
-
-bytes-split : (xs ys : List ℕ) → IsBytes (xs ++ ys) → IsBytes xs × IsBytes ys
-bytes-split [] ys b = (tt, b)
-bytes-split (x ∷ xs) ys b = let rest = bytes-split xs ys b.1 in ((b.0, rest.0), rest.1)
 
 -- the bytes of texts are those of what frames them
 texts_bytes : (ts : List (List ℕ)) → IsBytes (framed ts) → AllBytes ts

@@ -5,7 +5,7 @@ use Rattle.mst_key.specs.declared.format.Format.TheVariants.{One, Two}
 use Rattle.std.specs.declared.result.Result.TheVariants.{Ok}
 use Rattle.mst_key.specs.Map.{key_cmp, IsMap, map_get}
 use Rattle.mst_node.specs.declared.node.Node.{Node}
-use Rattle.mst_node.specs.Tree.{Tree, empty, node, Entries, last, entry, pairs, nodes, IsMst}
+use Rattle.mst_node.specs.Tree.{Tree, empty, node, Entries, last, entry, pairs, subtrees, IsMst}
 use Rattle.mst_node.specs.Shape.{tree_of}
 use Rattle.mst_node.specs.Text.{digest, text, highest_count}
 use Rattle.mst_node.specs.Trail.{by_order, nodes_met}
@@ -88,7 +88,7 @@ values_named Two proof t = claimed (claim_in Two proof) ++ map (λ p. p.1) (pair
 -- the texts of a proof, those of a tree's nodes, the empty text, and in format 2 the values
 abbrev pub texts_named : Format → List ℕ → Tree → List (List ℕ)
 texts_named format proof t =
-    texts_of format proof ++ (map text (nodes t) ++ [] ∷ values_named format proof t)
+    texts_of format proof ++ (map text (subtrees t) ++ [] ∷ values_named format proof t)
 
 -- two of the texts that are named are a collision
 pub record CollidesAmong (ts : List (List ℕ)) (one other : List ℕ) : Type 0 where

@@ -4,12 +4,12 @@ use Rattle.mst_key.specs.declared.format.Format.{Format}
 use Rattle.std.specs.Prelude.{◌≡◌, ◌≢◌, ◌⊎◌, ◌<◌, ◌^◌, ℕ, List, [], ◌∷◌, ◌++◌, Option, None, length, map, IfSome}
 use Rattle.std.specs.List.{AllByRecursion}
 use Rattle.mst_key.specs.declared.format.Format.TheVariants.{One, Two}
-use Rattle.mst_node.specs.Text.{FlatEntry, FlatNode, spelling, digest_of, version}
+use Rattle.mst_node.specs.Text.{FlatEntry, FlatNode, spelling, digest_of, format_byte}
 use Rattle.mst_node.specs.Gaps.{IsBetween}
 use Rattle.mst_node.specs.Grammar.{IsFlatNode, InGrammar}
 use Rattle.mst_node.specs.Trail.{framed, answer_text}
 use Rattle.mst_proof.specs.declared.fault.ProofFault.{ProofFault}
-use Rattle.mst_proof.specs.declared.fault.ProofFault.TheVariants.{Version, CutShort, LeftOver, NoNode, OtherDigest, LayerNotBelow, KeyOutside, Unfinished, TextBehind, OtherValue}
+use Rattle.mst_proof.specs.declared.fault.ProofFault.TheVariants.{FormatByte, CutShort, LeftOver, NoNode, OtherDigest, LayerNotBelow, KeyOutside, Unfinished, TextBehind, OtherValue}
 use Rattle.mst_proof.specs.Accepted.{IsExpected, Holds, IsInGap, gap_child, LeadsOn, LeadsFrom, held_answer, IsAnswer}
 
 -- ---- the frame
@@ -25,20 +25,20 @@ IsTail Two tail = ((b : ℕ) × (b ≢ 1) × (tail ≡ b ∷ []))
 abbrev pub IsShort : List ℕ → Type 0
 IsShort text = length text < 2 ^ 32
 
--- the bytes are the version, the number of these texts, the texts, each after its length in four
--- bytes, the tail, and the rest
+-- the bytes are the format's byte, the number of these texts, the texts, each after its length in
+-- four bytes, the tail, and the rest
 pub record Frames (format : Format) (bytes : List ℕ) (texts : List (List ℕ)) (tail rest : List ℕ)
     : Type 0 where
   pub short : AllByRecursion IsShort texts
-  pub whole : bytes ≡ version format ∷ length texts ∷ framed texts ++ (tail ++ rest)
+  pub whole : bytes ≡ format_byte format ∷ length texts ∷ framed texts ++ (tail ++ rest)
 
--- The first byte is not the version; or no front of the bytes frames texts and a tail; or bytes are
--- left over.
+-- The first byte is not the format's; or no front of the bytes frames texts and a tail; or bytes
+-- are left over.
 abbrev pub FrameFails : Format → List ℕ → ProofFault → Type 0
-FrameFails format bytes Version =
-    (v : ℕ) × (rest : List ℕ) × (bytes ≡ v ∷ rest) × (v ≢ version format)
+FrameFails format bytes FormatByte =
+    (v : ℕ) × (rest : List ℕ) × (bytes ≡ v ∷ rest) × (v ≢ format_byte format)
 FrameFails format bytes CutShort =
-    ((v : ℕ) (rest : List ℕ) → bytes ≡ v ∷ rest → v ≡ version format)
+    ((v : ℕ) (rest : List ℕ) → bytes ≡ v ∷ rest → v ≡ format_byte format)
     × ((texts : List (List ℕ)) (tail rest : List ℕ) → IsTail format tail
     → Frames format bytes texts tail rest → ⊥)
 FrameFails format bytes LeftOver =
@@ -69,7 +69,7 @@ FailsBy format d upper low high text LayerNotBelow =
 FailsBy format d upper low high text KeyOutside =
     (n : FlatNode) × Spells format text n × (digest_of text ≡ d) × IfSome upper (λ u. n.layer < u)
     × (AllByRecursion (λ e. IsBetween low high e.key) n.entries → ⊥)
-FailsBy format d upper low high text Version = ⊥
+FailsBy format d upper low high text FormatByte = ⊥
 FailsBy format d upper low high text CutShort = ⊥
 FailsBy format d upper low high text LeftOver = ⊥
 FailsBy format d upper low high text Unfinished = ⊥

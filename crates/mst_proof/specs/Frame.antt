@@ -2,7 +2,7 @@
 use Rattle.std.specs.Prelude.{ℕ, zero, suc, ◌==◌, nat_lt, nat_le, if◌then◌else◌, List, [], ◌∷◌, length, take, drop, Option, Some, None, unwrap_or}
 use Rattle.mst_key.specs.declared.format.Format.{Format}
 use Rattle.mst_key.specs.declared.format.Format.TheVariants.{One, Two}
-use Rattle.mst_node.specs.Text.{version as version_of}
+use Rattle.mst_node.specs.Text.{format_byte}
 use Rattle.mst_proof.specs.declared.claim.Claim.{Claim}
 use Rattle.mst_proof.specs.declared.claim.Claim.TheVariants.{Nothing, Absence, Given, Unfit}
 use Rattle.std.specs.Int.{w32, from_be_bytes}
@@ -10,7 +10,7 @@ use Rattle.std.specs.declared.result.Result.{Result}
 use Rattle.std.specs.declared.result.Result.TheVariants.{Ok, Err}
 use Rattle.mst_node.specs.Reading.{◌>>=◌, part_at}
 use Rattle.mst_proof.specs.declared.fault.ProofFault.{ProofFault}
-use Rattle.mst_proof.specs.declared.fault.ProofFault.TheVariants.{Version, CutShort, LeftOver}
+use Rattle.mst_proof.specs.declared.fault.ProofFault.TheVariants.{FormatByte, CutShort, LeftOver}
 
 -- the step after a result, if that is no fault
 infixl 10 ◌>>◌
@@ -46,10 +46,10 @@ abbrev pub count_at : List ℕ → Result (ℕ × List ℕ) ProofFault
 count_at [] = Err CutShort
 count_at (n ∷ bytes) = Ok (n, bytes)
 
--- after the version: the number of texts, and the bytes that frame them
+-- after the format's byte: the number of texts, and the bytes that frame them
 abbrev pub heading_at : Format → List ℕ → Result (ℕ × List ℕ) ProofFault
 heading_at format [] = Err CutShort
-heading_at format (v ∷ bytes) = if v == version_of format then count_at bytes else Err Version
+heading_at format (v ∷ bytes) = if v == format_byte format then count_at bytes else Err FormatByte
 
 -- ---- the tail, which claims an answer
 

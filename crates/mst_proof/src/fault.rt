@@ -1,14 +1,15 @@
 //! The refusals of a proof.
 use thiserror::Error;
 
-/// The first test that a proof fails. The tests of the frame come first, in the order of `Version`
-/// to `LeftOver`, and then those of each text in turn.
+/// The first test that a proof fails. The tests of the frame come first, in the order of
+/// `FormatByte` to `LeftOver`, and then those of each text in turn.
 #[derive(Clone, Copy, Debug, PartialEq, Eq, Error)]
 pub enum ProofFault {
     /// The first byte is not the number of the format, 01 or 02.
     #[error("P1")]
-    Version,
-    /// The version, the number of texts, a length, a text or, in format 2, the tail is cut short.
+    FormatByte,
+    /// The format's byte, the number of texts, a length, a text or, in format 2, the tail is cut
+    /// short.
     #[error("P2")]
     CutShort,
     /// Bytes are left over after the last text, in format 2 after the tail.

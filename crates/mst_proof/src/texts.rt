@@ -63,16 +63,16 @@ fn behind(bytes: &[u8], count: u8) -> Option<&[u8]>
     Some(rest)
 }
 
-/// After the version: the number of texts, and the bytes that frame them.
+/// After the format's byte: the number of texts, and the bytes that frame them.
 fn heading(format: Format, proof: &[u8]) -> Result<(u8, &[u8]), ProofFault>
     ensures ok { IfOk result (λ x. heading_at format proof.now ≡ Ok (x.0, x.1.now)) }
     ensures fault { IfErr result (λ fault. heading_at format proof.now ≡ Err fault) }
 {
     match proof {
         [] => Err(ProofFault::CutShort),
-        [version, rest @ ..] => {
-            if *version != format_byte(format) {
-                return Err(ProofFault::Version);
+        [first_byte, rest @ ..] => {
+            if *first_byte != format_byte(format) {
+                return Err(ProofFault::FormatByte);
             }
             match rest {
                 [] => Err(ProofFault::CutShort),

@@ -98,11 +98,11 @@ fn judge(
 /// What the proof shows of the key in the map with this root digest: its value, or `None` for its
 /// absence. If the proof fails a test, returns the first test that it fails.
 ///
-/// A proof is the version 01, the number of texts in one byte, and the texts, each after its length
-/// in four bytes, the high one first. The texts are those of the nodes that a search for the key
-/// meets, from the top down to the one that decides: the one that holds the key, or whose gap for
-/// the key has no child. The frame is tested before any text is hashed. Then each text is read in
-/// place, and hashed once, as is each of its keys; the call takes no memory.
+/// A proof is the format's byte 01, the number of texts in one byte, and the texts, each after its
+/// length in four bytes, the high one first. The texts are those of the nodes that a search for the
+/// key meets, from the top down to the one that decides: the one that holds the key, or whose gap
+/// for the key has no child. The frame is tested before any text is hashed. Then each text is read
+/// in place, and hashed once, as is each of its keys; the call takes no memory.
 pub fn verify(root: &[u8; 32], key: &Key, proof: &[u8]) -> Result<Option<Value>, ProofFault>
     ensures verdict { result ≡ verdict One root.now key.now proof.now }
     // An answer is returned exactly if the proof is accepted with it.
@@ -125,7 +125,7 @@ pub fn verify(root: &[u8; 32], key: &Key, proof: &[u8]) -> Result<Option<Value>,
 /// What the proof shows of the key in the map with this root digest in a format, as `verify` does
 /// in format 1.
 ///
-/// In format 2 a proof begins with the version 02, and a tail follows its texts: 00 for an absent
+/// In format 2 a proof begins with the byte 02, and a tail follows its texts: 00 for an absent
 /// key, or 01, the length of the value in one byte, and the value. The last text holds the SHA-256
 /// of the value, and the value is hashed once. So the pair behind a false answer may also be the
 /// value that the proof claims and the map's value of the key.

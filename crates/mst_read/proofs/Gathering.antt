@@ -5,8 +5,8 @@ use Rattle.mst_key.specs.Map.{Pair, IsAscending, below}
 use Rattle.mst_key.proofs.Splits.{IsAscending-front, IsAscending-back, IsAscending-above}
 use Rattle.mst_node.specs.Tree.{pairs, entries_pairs, IsMstEntries}
 use Rattle.mst_arena.specs.Content.{Content, part_at}
-use Rattle.mst_arena.specs.Row.{entry_links, entry_pair, entry_value}
-use Rattle.mst_arena.specs.declared.row.EntryLinks.{EntryLinks}
+use Rattle.mst_arena.specs.Row.{keyed_links, entry_pair, entry_value}
+use Rattle.mst_arena.specs.declared.row.KeyedLinks.{KeyedLinks}
 use Rattle.mst_arena.specs.declared.row.HeadLinks.{HeadLinks}
 use Rattle.mst_arena.specs.Standing.{Placed, none, head, Chain, end, cell, tree_of, entries_of, count_of}
 use Rattle.mst_read.specs.Search.{Lies, head_of}
@@ -24,12 +24,12 @@ module _ (to : Option (List ℕ)) (limit : ℕ) (format : Format) (layer : ℕ) 
     pub holds : filled None to limit found (entries_pairs (entries_of format rest)) ≡ whole
 
 -- the value of an entry that was read
-pub cell_value : {format : Format} {content : Content} {tail row done all : ℕ} {e : EntryLinks}
+pub cell_value : {format : Format} {content : Content} {tail row done all : ℕ} {e : KeyedLinks}
     {P : Chain → Type 0} (a : AtCell format content tail row done all e P)
     → part_at entry_value content row ≡ Some a.value
 cell_value a = ap (option_and_then entry_value) a.here
 
-pub cell_pair : {format : Format} {content : Content} {tail row done all : ℕ} {e : EntryLinks}
+pub cell_pair : {format : Format} {content : Content} {tail row done all : ℕ} {e : KeyedLinks}
     {P : Chain → Type 0} (a : AtCell format content tail row done all e P)
     → part_at entry_pair content row ≡ Some (e.key, a.value)
 cell_pair a = ap (option_and_then entry_pair) a.here
@@ -68,7 +68,7 @@ at_none from to limit found (head at l c) is s =
     let no : ◌≡◌ {A = Option HeadLinks} (head_of (head at l c)) None = s.head_is ∙ is in cc
 
 module _ {to : Option (List ℕ)} {limit : ℕ} {format : Format} {content : Content}
-    {layer tail row done all : ℕ} {e : EntryLinks} {found whole : List Pair}
+    {layer tail row done all : ℕ} {e : KeyedLinks} {found whole : List Pair}
     (a : AtCell format content tail row done all e (Rest to limit format layer found whole)) where
   abbrev pub front : List Pair
   front = pairs (tree_of format a.child)
@@ -175,13 +175,13 @@ module _ {format : Format} {content : Content} {part : HeadLinks} {c : Chain}
           record { mst = s.mst; rise = s.rise; same = refl };
     }
 
-    pub entry_there : IsSome (part_at entry_links content (part.first - 1))
+    pub entry_there : IsSome (part_at keyed_links content (part.first - 1))
     entry_there =
-        let Is : Option EntryLinks → Type 0 = IsSome in
+        let Is : Option KeyedLinks → Type 0 = IsSome in
         subst Is (sym (entry_left walk some).1) refl
 
     -- its first entry was read
-    module _ {e : EntryLinks} (read : part_at entry_links content (part.first - 1) ≡ Some e) where
+    module _ {e : KeyedLinks} (read : part_at keyed_links content (part.first - 1) ≡ Some e) where
       pub own : AtCell format content part.tail (part.first - 1) 0 part.count e Past
       own = at_cell walk some refl read
 

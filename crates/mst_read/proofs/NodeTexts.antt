@@ -8,7 +8,7 @@ use Rattle.std.specs.List.{flat_map}
 use Rattle.mst_node.specs.Tree.{node}
 use Rattle.mst_node.specs.Text.{text, heading, entry_text, child_text, counted, held_text, held_of, child_digest, flat_entries, tail_digest}
 use Rattle.mst_arena.specs.Content.{Content}
-use Rattle.mst_arena.specs.declared.row.EntryLinks.{EntryLinks}
+use Rattle.mst_arena.specs.declared.row.KeyedLinks.{KeyedLinks}
 use Rattle.mst_arena.specs.Standing.{Placed, Chain, end, cell, tree_of, entries_of, count_of}
 use Rattle.mst_read.proofs.Walk.{Onward, AtCell, AtEnd, further}
 
@@ -53,7 +53,7 @@ goes_on format at p key value rest out next whole before is =
     joined o a b v f t = simp append_assoc refl
 
 pub text_goes_on : (format : Format) (out : List ℕ) {content : Content} {tail row done all : ℕ}
-    {e : EntryLinks} {whole : List ℕ}
+    {e : KeyedLinks} {whole : List ℕ}
     (a : AtCell format content tail row done all e (Completes format out whole)) {next : List ℕ}
     → next ≡ ((out ++ child_text (child_digest (tree_of format a.child))) ++ counted e.key)
     ++ held_text format (held_of format a.value) → Onward format content tail e.next (done + 1) all

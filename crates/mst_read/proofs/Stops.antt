@@ -8,11 +8,11 @@ use Rattle.mst_key.specs.Map.{key_cmp, above}
 use Rattle.mst_key.proofs.KeyOrder.{same_from_equal, equal_from_same, less_from_greater, greater_from_less}
 use Rattle.mst_node.specs.Trail.{by_order}
 use Rattle.mst_arena.specs.Content.{Content, part_at}
-use Rattle.mst_arena.specs.Row.{entry_links}
+use Rattle.mst_arena.specs.Row.{keyed_links}
 use Rattle.mst_arena.specs.Ways.{entry_way, by_way, stop_from}
 use Rattle.mst_arena.specs.Standing.{Placed, none, Chain, end, cell, link_of, first_of, tail_of, count_of, rows_of, chain_rows, HasRows}
 use Rattle.mst_arena.specs.declared.row.HeadLinks.{HeadLinks}
-use Rattle.mst_arena.specs.declared.row.EntryLinks.{EntryLinks}
+use Rattle.mst_arena.specs.declared.row.KeyedLinks.{KeyedLinks}
 use Rattle.mst_arena.specs.declared.sought.Way.TheVariants as way
 use Rattle.mst_arena.specs.declared.sought.Stop.{Stop}
 use Rattle.mst_arena.specs.declared.sought.Stop.TheVariants.{Gap, Found, End}
@@ -135,9 +135,9 @@ cut_is k layer (cell at child key value rest) =
 pub record FoundAt (format : Format) (content : Content) (k : List ℕ) (c : Chain) (link left : ℕ)
     : Type 0 where
   pub some : 0 < link
-  pub entry : EntryLinks
+  pub entry : KeyedLinks
   pub rest : Chain
-  pub here : part_at entry_links content (link - 1) ≡ Some entry
+  pub here : part_at keyed_links content (link - 1) ≡ Some entry
   pub first : first_of rest ≡ entry.next
   pub tail : tail_of rest ≡ tail_of c
   pub fewer : left ≤ count_of c
@@ -170,7 +170,7 @@ found_at format content k (cell at child key value rest) link left rows is =
           some = omega (arith, both.0);
           entry = record { child = link_of child; next = first_of rest; key = key };
           rest = rest;
-          here = ap (part_at entry_links content) (sym row) ∙ ap (option_and_then entry_links)
+          here = ap (part_at keyed_links content) (sym row) ∙ ap (option_and_then keyed_links)
               rows.0;
           first = refl;
           tail = refl;
@@ -328,8 +328,8 @@ module _ {format : Format} {content : Content} {tail next all : ℕ} (k : List �
       pub found_link : 0 < link
       found_link = key_met.some
 
-      pub found_there : IsSome (part_at entry_links content (link - 1))
-      found_there = let Is : Option EntryLinks → Type 0 = IsSome in subst Is (sym key_met.here) refl
+      pub found_there : IsSome (part_at keyed_links content (link - 1))
+      found_there = let Is : Option KeyedLinks → Type 0 = IsSome in subst Is (sym key_met.here) refl
 
       pub found_left : (0 < left) × (left ≤ all)
       found_left =
@@ -337,14 +337,14 @@ module _ {format : Format} {content : Content} {tail next all : ℕ} (k : List �
           let fewer = key_met.fewer in
           (omega (arith, count), omega (arith, fewer, o.left))
 
-      pub behind_found : {e : EntryLinks} → part_at entry_links content (link - 1) ≡ Some e
+      pub behind_found : {e : KeyedLinks} → part_at keyed_links content (link - 1) ≡ Some e
           → Onward format content tail e.next 0 (left - 1) (BeginsAbove (Some k) whole)
       behind_found {e} read =
           let same : key_met.entry ≡ e = same_Some key_met.entry e (sym key_met.here ∙ read) in
           let count = key_met.count in
           record {
             rest = key_met.rest;
-            first_is = key_met.first ∙ ap (λ (x : EntryLinks). x.next) same;
+            first_is = key_met.first ∙ ap (λ (x : KeyedLinks). x.next) same;
             tail_is = key_met.tail ∙ o.tail_is;
             left = omega (arith, count);
             rows = key_met.rows;

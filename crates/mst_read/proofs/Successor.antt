@@ -10,7 +10,7 @@ use Rattle.mst_key.proofs.KeyOrder.{by_order, less_chain, greater_from_less}
 use Rattle.mst_key.proofs.Splits.{IsAscending-front, IsAscending-back, IsAscending-below}
 use Rattle.mst_node.specs.Tree.{pairs, entries_pairs, IsMstEntries}
 use Rattle.mst_arena.specs.Content.{Content, part_at}
-use Rattle.mst_arena.specs.Row.{entry_links, entry_pair}
+use Rattle.mst_arena.specs.Row.{keyed_links, entry_pair}
 use Rattle.mst_arena.specs.declared.row.HeadLinks.{HeadLinks}
 use Rattle.mst_arena.specs.declared.row.Row.{Row}
 use Rattle.mst_arena.specs.declared.row.Row.TheVariants.{Entry, Head}
@@ -65,7 +65,7 @@ HasPair content (Some row) = IsSome (part_at entry_pair content row)
 
 -- its links are there too
 pub pair_there : (o : Option Row) → IsSome (option_and_then entry_pair o)
-    → IsSome (option_and_then entry_links o)
+    → IsSome (option_and_then keyed_links o)
 pair_there None is = absurd (false≢true is)
 pair_there (Some (Head layer count first tail digest)) is = absurd (false≢true is)
 pair_there (Some (Entry child next key value)) is = refl

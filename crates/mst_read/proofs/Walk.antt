@@ -3,9 +3,9 @@ use Rattle.std.proofs.Common.{◌≡◌, ℕ, ◌+◌, ◌-◌, ◌<◌, List, S
 use Rattle.std.specs.Prelude.{option_and_then}
 use Rattle.mst_key.specs.declared.format.Format.{Format}
 use Rattle.mst_arena.specs.Content.{Content, part_at}
-use Rattle.mst_arena.specs.Row.{entry_links}
+use Rattle.mst_arena.specs.Row.{keyed_links}
 use Rattle.mst_arena.specs.declared.row.Row.TheVariants.{Entry}
-use Rattle.mst_arena.specs.declared.row.EntryLinks.{EntryLinks}
+use Rattle.mst_arena.specs.declared.row.KeyedLinks.{KeyedLinks}
 use Rattle.mst_arena.specs.Standing.{Placed, Chain, end, cell, link_of, first_of, tail_of, count_of, rows_of, chain_rows, HasRows}
 use Rattle.mst_arena.proofs.Stands.{all-front, all-back}
 use Rattle.mst_read.specs.Search.{Lies}
@@ -23,7 +23,7 @@ pub record Onward (format : Format) (content : Content) (tail next done all : �
   pub holds : P rest
 
 -- the rest of a chain begins with the entry that was read
-pub record AtCell (format : Format) (content : Content) (tail row done all : ℕ) (e : EntryLinks)
+pub record AtCell (format : Format) (content : Content) (tail row done all : ℕ) (e : KeyedLinks)
     (P : Chain → Type 0) : Type 0 where
   pub child : Placed
   pub value : List ℕ
@@ -47,7 +47,7 @@ pub record AtEnd (format : Format) (content : Content) (tail : ℕ) (P : Chain �
     pub holds : P (end child)
 
 -- the trees of the gap before the entry and of the last gap, while the rows are the same
-pub child_lies : {format : Format} {content : Content} {tail row done all : ℕ} {e : EntryLinks}
+pub child_lies : {format : Format} {content : Content} {tail row done all : ℕ} {e : KeyedLinks}
     {P : Chain → Type 0} (a : AtCell format content tail row done all e P) {after : Content}
     → after ≡ content → Lies format after e.child a.child
 child_lies a same = lies_still same (record { at = a.child_is; rows = a.child_rows })
@@ -59,7 +59,7 @@ tail_lies a same = lies_still same (record { at = a.child_is; rows = a.rows })
 
 module _ {format : Format} {content : Content} {tail next done all : ℕ} {P : Chain → Type 0}
     (o : Onward format content tail next done all P) where
-  cell_at : done < all → (e : EntryLinks) → part_at entry_links content (next - 1) ≡ Some e
+  cell_at : done < all → (e : KeyedLinks) → part_at keyed_links content (next - 1) ≡ Some e
       → AtCell format content tail (next - 1) done all e P
   cell_at lt e part = go o.rest o.first_is o.tail_is o.left o.rows o.holds
     where
@@ -74,9 +74,9 @@ module _ {format : Format} {content : Content} {tail next done all : ℕ} {P : C
           let parts : Some (record { child = link_of p; next = first_of c; key = key }) ≡ Some e =
           rw row at part in
           let fields : record { child = link_of p; next = first_of c; key = key } ≡ e = cc in
-          let child_is : link_of p ≡ e.child = ap (λ (x : EntryLinks). x.child) fields in
-          let next_is : first_of c ≡ e.next = ap (λ (x : EntryLinks). x.next) fields in
-          let key_is : key ≡ e.key = ap (λ (x : EntryLinks). x.key) fields in
+          let child_is : link_of p ≡ e.child = ap (λ (x : KeyedLinks). x.child) fields in
+          let next_is : first_of c ≡ e.next = ap (λ (x : KeyedLinks). x.next) fields in
+          let key_is : key ≡ e.key = ap (λ (x : KeyedLinks). x.key) fields in
           record {
             child = p;
             value = v;
@@ -94,10 +94,10 @@ module _ {format : Format} {content : Content} {tail next done all : ℕ} {P : C
           }
 
   -- the entry was read while the rows are the same
-  pub at_cell : done < all → {after : Content} {e : EntryLinks} → after ≡ content
-      → part_at entry_links after (next - 1) ≡ Some e → AtCell format content tail (next - 1) done
+  pub at_cell : done < all → {after : Content} {e : KeyedLinks} → after ≡ content
+      → part_at keyed_links after (next - 1) ≡ Some e → AtCell format content tail (next - 1) done
       all e P
-  at_cell lt {e = e} same read = cell_at lt e (read_before same entry_links (next - 1) read)
+  at_cell lt {e = e} same read = cell_at lt e (read_before same keyed_links (next - 1) read)
 
   pub at_end : all ≡ done → AtEnd format content tail P
   at_end is = go o.rest o.tail_is o.left o.rows o.holds
@@ -109,22 +109,22 @@ module _ {format : Format} {content : Content} {tail next done all : ℕ} {P : C
       go (cell at p key v c) tail_is left rows holds = absurd (omega arith)
 
   -- if entries are left, there is one at the link
-  pub entry_left : done < all → (e : EntryLinks) × (part_at entry_links content (next - 1) ≡ Some e)
+  pub entry_left : done < all → (e : KeyedLinks) × (part_at keyed_links content (next - 1) ≡ Some e)
   entry_left lt = go o.rest o.first_is o.left o.rows
     where
       go : (c : Chain) → first_of c ≡ next → count_of c + done ≡ all → HasRows content
-          (chain_rows format c) → (e : EntryLinks)
-          × (part_at entry_links content (next - 1) ≡ Some e)
+          (chain_rows format c) → (e : KeyedLinks)
+          × (part_at keyed_links content (next - 1) ≡ Some e)
       go (end p) first left rows = absurd (omega arith)
       go (cell at p key v c) first left rows =
           let is : at ≡ next - 1 = omega arith in
           let row : content (next - 1) ≡ Some (Entry (link_of p) (first_of c) key v) =
           ap content (sym is) ∙ rows.0 in (
             record { child = link_of p; next = first_of c; key = key },
-            ap (option_and_then entry_links) row,
+            ap (option_and_then keyed_links) row,
           )
 
-pub further : {format : Format} {content : Content} {tail row done all : ℕ} {e : EntryLinks}
+pub further : {format : Format} {content : Content} {tail row done all : ℕ} {e : KeyedLinks}
     {P : Chain → Type 0} (a : AtCell format content tail row done all e P) (Q : Chain → Type 0)
     → Q a.rest → Onward format content tail e.next (done + 1) all Q
 further a Q holds =

@@ -3,9 +3,9 @@ use Rattle.std.proofs.Common.{◌≡◌, ◌-◌, ◌<◌, ℕ, true, false, Lis
 use Rattle.mst_key.specs.declared.format.Format.{Format}
 use Rattle.mst_key.specs.Map.{below}
 use Rattle.mst_arena.specs.Content.{Content, part_at}
-use Rattle.mst_arena.specs.Row.{entry_links}
+use Rattle.mst_arena.specs.Row.{keyed_links}
 use Rattle.mst_arena.specs.Ways.{entry_way, way_at}
-use Rattle.mst_arena.specs.declared.row.EntryLinks.{EntryLinks}
+use Rattle.mst_arena.specs.declared.row.KeyedLinks.{KeyedLinks}
 use Rattle.mst_arena.specs.declared.sought.Way.{Way}
 use Rattle.mst_arena.specs.declared.sought.Way.TheVariants.{Child, Here, Next}
 use Rattle.mst_arena.specs.Standing.{Chain}
@@ -20,8 +20,8 @@ abbrev pub BeginsAbove : Option (List ℕ) → Chain → Chain → Type 0
 BeginsAbove bound whole rest = entry_above bound rest ≡ entry_above bound whole
 
 -- whether the key of an entry is below a bound, by the way to the bound from the entry
-module _ (content : Content) (row : ℕ) (k : List ℕ) {e : EntryLinks} {w : Way}
-    (read : part_at entry_links content row ≡ Some e)
+module _ (content : Content) (row : ℕ) (k : List ℕ) {e : KeyedLinks} {w : Way}
+    (read : part_at keyed_links content row ≡ Some e)
     (answer : part_at (entry_way k) content row ≡ Some w) where
   to_bound : way_at k e.child e.next e.key ≡ w
   to_bound = way_is content row k e w read answer
@@ -53,12 +53,12 @@ module _ {format : Format} {content : Content} {links : HeadLinks} {c : Chain}
     holds = refl;
   }
 
-  pub first_there : IsSome (part_at entry_links content (links.first - 1))
+  pub first_there : IsSome (part_at keyed_links content (links.first - 1))
   first_there =
-      let Is : Option EntryLinks → Type 0 = IsSome in
+      let Is : Option KeyedLinks → Type 0 = IsSome in
       subst Is (sym (entry_left all_left some).1) refl
 
-  pub first_of_all : {e : EntryLinks} → part_at entry_links content (links.first - 1) ≡ Some e
+  pub first_of_all : {e : KeyedLinks} → part_at keyed_links content (links.first - 1) ≡ Some e
       → Some (links.first - 1, e.child) ≡ entry_above None c
   first_of_all read =
       let a = at_cell all_left some refl read in

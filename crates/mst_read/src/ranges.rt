@@ -5,8 +5,8 @@ ghost use Rattle.mst_key.specs.declared.format.Format.{Format};
 ghost use Rattle.mst_key.specs.Map.{Pair, below, map_range};
 ghost use Rattle.mst_node.specs.Tree.{pairs, entries_pairs};
 ghost use Rattle.mst_arena.specs.Content.{part_at};
-ghost use Rattle.mst_arena.specs.Row.{entry_links};
-ghost use Rattle.mst_arena.specs.declared.row.EntryLinks.{EntryLinks};
+ghost use Rattle.mst_arena.specs.Row.{keyed_links};
+ghost use Rattle.mst_arena.specs.declared.row.KeyedLinks.{KeyedLinks};
 ghost use Rattle.mst_arena.specs.Standing.{Placed, Chain, Stands, tree_of, entries_of, link_of};
 ghost use Rattle.mst_read.specs.Search.{ChainLies, LiesBehind, LinkStands, MapStands, StandsBelow, chain_links, gap_placed};
 ghost use Rattle.mst_read.specs.Span.{HeadStands, PartStands, filled, past_gap, rest_from};
@@ -23,8 +23,8 @@ const MOST_AT_ONCE: usize = 128;
 /// Whether the key of the entry at a row is below the bound. `None` as a bound does not bind. The
 /// key is not made into bytes.
 fn is_below<R: Rows>(rows: &mut R, row: u32, bound: &Option<Sought>) -> bool
-    requires there { IsSome (part_at entry_links (R.content rows.old) row) }
-    ensures below { (e : EntryLinks) → part_at entry_links (R.content rows.old) row ≡ Some e
+    requires there { IsSome (part_at keyed_links (R.content rows.old) row) }
+    ensures below { (e : KeyedLinks) → part_at keyed_links (R.content rows.old) row ≡ Some e
         → result ≡ below bound.now e.key }
     ensures same { rows.new ≡ rows.old }
 {
@@ -78,11 +78,11 @@ fn is_wanted<R: Rows, A: Allocator>(
     limit: usize,
     found: &Vec<(Key, Value), A>,
 ) -> bool
-    requires there { IsSome (part_at entry_links (R.content rows.old) row) }
-    ensures wanted { (e : EntryLinks) → part_at entry_links (R.content rows.old) row ≡ Some e
+    requires there { IsSome (part_at keyed_links (R.content rows.old) row) }
+    ensures wanted { (e : KeyedLinks) → part_at keyed_links (R.content rows.old) row ≡ Some e
         → result ≡ true
         → (length found.now.items < limit) × (below to.now e.key ≡ true) }
-    ensures ends { (e : EntryLinks) → part_at entry_links (R.content rows.old) row ≡ Some e
+    ensures ends { (e : KeyedLinks) → part_at keyed_links (R.content rows.old) row ≡ Some e
         → result ≡ false
         → (limit ≤ length found.now.items) ⊎ (below to.now e.key ≡ false) }
     ensures same { rows.new ≡ rows.old }

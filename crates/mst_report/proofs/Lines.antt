@@ -5,21 +5,22 @@ use Rattle.std.specs.Str.{bytes_eq}
 use Rattle.std.proofs.lemmas.Bool.{false≢true}
 use Rattle.std.proofs.lemmas.Option.{same_Some}
 use Rattle.mst_proof.specs.declared.fault.ProofFault.{ProofFault}
-use Rattle.mst_proof.specs.declared.fault.ProofFault.TheVariants.{Version, CutShort, LeftOver, NoNode, OtherDigest, LayerNotBelow, KeyOutside, Unfinished, TextBehind, OtherValue}
+use Rattle.mst_proof.specs.declared.fault.ProofFault.TheVariants.{FormatByte, CutShort, LeftOver, NoNode, OtherDigest, LayerNotBelow, KeyOutside, Unfinished, TextBehind, OtherValue}
 use Rattle.mst_sharded_proof.specs.declared.fault.ShardedFault.{ShardedFault}
-use Rattle.mst_sharded_proof.specs.declared.fault.ShardedFault.TheVariants.{Version as OtherVersion, CutShort as Cut, NoKey, Directory, NotListed, NoListing, KeyBelow, KeyNotBelow, Shard}
+use Rattle.mst_sharded_proof.specs.declared.fault.ShardedFault.TheVariants.{FormatByte as OtherFormatByte, CutShort as Cut, NoKey, Directory, NotListed, NoListing, KeyBelow, KeyNotBelow, Shard}
 use Rattle.mst_report.specs.Report.{line_of, is_refusal}
 use Rattle.mst_report.specs.declared.report.Report.{Report}
 use Rattle.mst_report.specs.declared.report.Report.TheVariants.{Present, Absent, Refused, ShardedRefused, NotHex, Long}
 
 abbrev faults : List ProofFault
 faults =
-    Version ∷ CutShort ∷ LeftOver ∷ NoNode ∷ OtherDigest ∷ LayerNotBelow ∷ KeyOutside ∷ Unfinished
+    FormatByte ∷ CutShort ∷ LeftOver ∷ NoNode ∷ OtherDigest ∷ LayerNotBelow ∷ KeyOutside
+    ∷ Unfinished
     ∷ TextBehind ∷ OtherValue ∷ []
 
 abbrev tests : List ShardedFault
 tests =
-    OtherVersion ∷ Cut ∷ NoKey ∷ NotListed ∷ NoListing ∷ KeyBelow ∷ KeyNotBelow ∷ []
+    OtherFormatByte ∷ Cut ∷ NoKey ∷ NotListed ∷ NoListing ∷ KeyBelow ∷ KeyNotBelow ∷ []
 
 -- all refusals
 abbrev refusals : List Report
@@ -39,7 +40,7 @@ IsNamed r = with_line (line_of r) refusals ≡ Some r
 
 plain_named : (f : ProofFault) → IsNamed (Refused f)
 unfolding line_of
-plain_named Version = refl
+plain_named FormatByte = refl
 plain_named CutShort = refl
 plain_named LeftOver = refl
 plain_named NoNode = refl
@@ -52,7 +53,7 @@ plain_named OtherValue = refl
 
 directory_named : (f : ProofFault) → IsNamed (ShardedRefused (Directory f))
 unfolding line_of
-directory_named Version = refl
+directory_named FormatByte = refl
 directory_named CutShort = refl
 directory_named LeftOver = refl
 directory_named NoNode = refl
@@ -65,7 +66,7 @@ directory_named OtherValue = refl
 
 shard_named : (f : ProofFault) → IsNamed (ShardedRefused (Shard f))
 unfolding line_of
-shard_named Version = refl
+shard_named FormatByte = refl
 shard_named CutShort = refl
 shard_named LeftOver = refl
 shard_named NoNode = refl
@@ -78,7 +79,7 @@ shard_named OtherValue = refl
 
 sharded_named : (f : ShardedFault) → IsNamed (ShardedRefused f)
 unfolding line_of
-sharded_named OtherVersion = refl
+sharded_named OtherFormatByte = refl
 sharded_named Cut = refl
 sharded_named NoKey = refl
 sharded_named NotListed = refl
@@ -109,7 +110,7 @@ IsApart line = (begins_with 112 line ≡ false) × (begins_with 97 line ≡ fals
 
 plain_apart : (f : ProofFault) → IsApart (line_of (Refused f))
 unfolding line_of
-plain_apart Version = (refl, refl)
+plain_apart FormatByte = (refl, refl)
 plain_apart CutShort = (refl, refl)
 plain_apart LeftOver = (refl, refl)
 plain_apart NoNode = (refl, refl)
@@ -122,7 +123,7 @@ plain_apart OtherValue = (refl, refl)
 
 sharded_apart : (f : ShardedFault) → IsApart (line_of (ShardedRefused f))
 unfolding line_of
-sharded_apart OtherVersion = (refl, refl)
+sharded_apart OtherFormatByte = (refl, refl)
 sharded_apart Cut = (refl, refl)
 sharded_apart NoKey = (refl, refl)
 sharded_apart NotListed = (refl, refl)

@@ -5,10 +5,10 @@ use Rattle.hex.specs.declared.error.FromHexError.{FromHexError}
 use Rattle.mst_key.specs.Digits.{digits_of}
 use Rattle.mst_key.specs.declared.format.Format.{Format}
 use Rattle.mst_proof.specs.declared.fault.ProofFault.{ProofFault}
-use Rattle.mst_proof.specs.declared.fault.ProofFault.TheVariants.{Version, CutShort, LeftOver, NoNode, OtherDigest, LayerNotBelow, KeyOutside, Unfinished, TextBehind, OtherValue}
+use Rattle.mst_proof.specs.declared.fault.ProofFault.TheVariants.{FormatByte, CutShort, LeftOver, NoNode, OtherDigest, LayerNotBelow, KeyOutside, Unfinished, TextBehind, OtherValue}
 use Rattle.mst_proof.specs.Verdict.{verdict}
 use Rattle.mst_sharded_proof.specs.declared.fault.ShardedFault.{ShardedFault}
-use Rattle.mst_sharded_proof.specs.declared.fault.ShardedFault.TheVariants.{Version as OtherVersion, CutShort as Cut, NoKey, Directory, NotListed, NoListing, KeyBelow, KeyNotBelow, Shard}
+use Rattle.mst_sharded_proof.specs.declared.fault.ShardedFault.TheVariants.{FormatByte as OtherFormatByte, CutShort as Cut, NoKey, Directory, NotListed, NoListing, KeyBelow, KeyNotBelow, Shard}
 use Rattle.mst_sharded_proof.specs.Verdict.{sharded_verdict}
 use Rattle.mst_report.specs.declared.report.ProofKind.{ProofKind}
 use Rattle.mst_report.specs.declared.report.ProofKind.TheVariants.{Plain, Sharded}
@@ -53,7 +53,7 @@ report_of kind format root k text =
 -- ---- as it is written
 
 abbrev pub fault_words : ProofFault → List ℕ
-fault_words Version = codes "P1"
+fault_words FormatByte = codes "P1"
 fault_words CutShort = codes "P2"
 fault_words LeftOver = codes "P3"
 fault_words NoNode = codes "P4"
@@ -66,7 +66,7 @@ fault_words OtherValue = codes "P10"
 
 -- the test of a proof of a sharded map
 abbrev pub test_words : ShardedFault → List ℕ
-test_words OtherVersion = codes "S1"
+test_words OtherFormatByte = codes "S1"
 test_words Cut = codes "S2"
 test_words NoKey = codes "S3"
 test_words (Directory fault) = codes "S4"

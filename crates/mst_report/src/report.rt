@@ -161,7 +161,7 @@ fn fault_words(fault: ProofFault) -> &'static [u8]
     ensures size { length result.now ≤ 3 }
 {
     match fault {
-        ProofFault::Version => b"P1",
+        ProofFault::FormatByte => b"P1",
         ProofFault::CutShort => b"P2",
         ProofFault::LeftOver => b"P3",
         ProofFault::NoNode => b"P4",
@@ -180,7 +180,7 @@ fn test_words(fault: ShardedFault) -> &'static [u8]
     ensures size { length result.now ≤ 2 }
 {
     match fault {
-        ShardedFault::Version => b"S1",
+        ShardedFault::FormatByte => b"S1",
         ShardedFault::CutShort => b"S2",
         ShardedFault::NoKey => b"S3",
         ShardedFault::Directory(_) => b"S4",

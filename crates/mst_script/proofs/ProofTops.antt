@@ -5,7 +5,7 @@ use Rattle.std.specs.Int.{w32, to_be_bytes}
 use Rattle.hex.specs.Hex.{encode_lower}
 use Rattle.mst_key.specs.declared.format.Format.{Format}
 use Rattle.mst_node.specs.Frame.{FramesFirst}
-use Rattle.mst_node.specs.Text.{text, version}
+use Rattle.mst_node.specs.Text.{text, format_byte}
 use Rattle.mst_node.specs.Trail.{nodes_met, met_in_gap, framed}
 use Rattle.mst_node.specs.Tree.{Tree, Entries, empty, node}
 use Rattle.mst_node.proofs.ReadIsSpelled.{some_same}
@@ -15,7 +15,7 @@ use Rattle.mst_script.specs.Machine.{top_words}
 -- the texts of the nodes of a tree that a search for the key meets, as a proof of a format has them
 -- before its tail
 abbrev pub proves : Format → List ℕ → List ℕ → Tree → List ℕ
-proves f tail k t = version f ∷ length (map text (nodes_met k t)) ∷ framed
+proves f tail k t = format_byte f ∷ length (map text (nodes_met k t)) ∷ framed
     (map text (nodes_met k t)) ++ tail
 
 -- a proof frames the top node's text first
@@ -29,7 +29,7 @@ frames_top f tail k format l es proof is small =
     let whole : ((size ++ top) ++ rest) ++ tail ≡ (size ++ top) ++ (rest ++ tail) =
     append_assoc (size ++ top) rest tail in
     record {
-      version = version f;
+      format_byte = format_byte f;
       count = length (map text (nodes_met k (node format l es)));
       rest = rest ++ tail;
       some = omega arith;
@@ -44,7 +44,8 @@ frames_top f tail k format l es proof is small =
             length-append size top,
           );
       whole =
-          is ∙ ap (λ (xs : List ℕ). version f ∷ length (map text (nodes_met k (node format l es)))
+          is ∙ ap (λ (xs : List ℕ). format_byte f ∷ length
+          (map text (nodes_met k (node format l es)))
           ∷ xs) whole;
     }
 

@@ -87,15 +87,6 @@ none_of_both format k proof p over under map cut no_over no_under a e =
 abbrev fails : ShardedFault → Result (Option (List ℕ)) ShardedFault
 fails f = Err f
 
--- a proof whose frame is broken shows nothing
-pub none_of_frame : (format : Format) (k proof : List ℕ) (over under : Tree)
-    (fault : ShardedFault) → parts_at format proof ≡ Err fault
-    → ShowsNoOtherSharded format over under k proof
-none_of_frame format k proof over under fault cut a e =
-    let wrong : fails fault ≡ Ok a =
-    sym (ap (λ (r : Result Parts ShardedFault). r >> judgement format (digest over) k) cut) ∙ e in
-    absurd (cc (wrong))
-
 -- ---- a collision of one part is one of the whole
 
 pub some_over : (format : Format) (m : List Pair) (splits : List (List ℕ)) (proof : List ℕ)

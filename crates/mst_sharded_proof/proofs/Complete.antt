@@ -1,11 +1,10 @@
 -- The proof that a map gives is accepted, and shows the map's answer.
 use Rattle.std.proofs.Common.{◌≡◌, ℕ, zero, suc, Bool, true, false, cond, List, [], ◌∷◌, ◌++◌, length, take, drop, Option, Some, None, inl, inr, refl, sym, ◌∙◌, ap, subst, arith, is_lt, Less, length-append, append_assoc}
 use Rattle.std.specs.Prelude.{nat_lt, nat_le, ◌==◌, not}
-use Rattle.std.specs.Int.{w32, to_be_bytes, from_be_bytes}
+use Rattle.std.specs.Int.{w32, to_be_bytes}
 use Rattle.std.specs.declared.result.Result.{Result}
 use Rattle.std.specs.declared.result.Result.TheVariants.{Ok, Err}
 use Rattle.std.proofs.Math.Seq.{take-append_seam, drop-append_seam}
-use Rattle.std.proofs.lemmas.Nat.{from_be_bytes-to_be_bytes_4}
 use Rattle.std.proofs.lemmas.Bool.{cond-true, cond-false}
 use Rattle.std.proofs.lemmas.Bool.Decides.{nat_tests}
 use Rattle.mst_key.specs.declared.format.Format.{Format}
@@ -15,17 +14,17 @@ use Rattle.mst_key.proofs.KeyOrder.{key_cmp-itself, key_cmp-front, key_cmp-first
 use Rattle.mst_key.proofs.MapLaws.{map_get-here, map_get-past}
 use Rattle.mst_node.specs.Text.{root as root_of, counted}
 use Rattle.mst_node.proofs.ReadIsSpelled.{bytes-split}
-use Rattle.mst_node.proofs.SpelledIsRead.{part_again}
 use Rattle.mst_proof.specs.declared.fault.ProofFault.{ProofFault}
 use Rattle.mst_proof.specs.Frame.{text_at}
 use Rattle.mst_proof.specs.Verdict.{verdict}
 use Rattle.mst_proof.proofs.Agreed.{accepts}
 use Rattle.mst_proof.specs.Faults.{IsShort}
+use Rattle.mst_proof.proofs.Framed.{text_again}
 use Rattle.mst_proof.proofs.Truth.{proof_accepted}
 use Rattle.mst_sharded_proof.specs.declared.fault.ShardedFault.{ShardedFault}
-use Rattle.mst_sharded_proof.specs.declared.fault.ShardedFault.TheVariants.{Version}
+use Rattle.mst_sharded_proof.specs.declared.fault.ShardedFault.TheVariants.{FormatByte}
 use Rattle.mst_sharded_proof.specs.Shards.{Shard, least, AreSplits, shard_from, shard_of, is_in, part_of, bound_text, listing, directory_from, directory}
-use Rattle.mst_sharded_proof.specs.Frame.{◌>>◌, Parts, key_at, parts_with, parts_at, version, framing, parts_for, sharded_proof}
+use Rattle.mst_sharded_proof.specs.Frame.{◌>>◌, Parts, key_at, parts_with, parts_at, sharded_format_byte, framing, parts_for, sharded_proof}
 use Rattle.mst_sharded_proof.specs.Verdict.{listed, is_below, placed, answered, judgement, sharded_verdict}
 use Rattle.mst_sharded_proof.specs.Theorem.{HasShardedRoot}
 use Rattle.mst_sharded_proof.proofs.Shards.{length-root, listing-digest, listing-bound, listed_from, inside_last, inside_one, part_get}
@@ -114,19 +113,12 @@ key_again low rest is =
     let few : nat_le (length low) 32 ≡ true = grind (arith, nat_tests, is.1) in
     rw (whole, front, behind, some, few)
 
-text_again : (text rest : List ℕ) → IsShort text → text_at
-    (to_be_bytes w32 (length text) ++ text ++ rest) ≡ Some (text, rest)
-unfolding text_at
-text_again text rest small =
-    let size : from_be_bytes w32 (to_be_bytes w32 (length text)) ≡ length text =
-    from_be_bytes-to_be_bytes_4 (length text) small in
-    rw size (part_again (length text) text rest refl)
-
 pub parts_again : (format : Format) (p : Parts) → IsKey p.low → IsShort p.directory
     → parts_at format (framing format p) ≡ Ok p
 parts_again format p is short =
     let rest = to_be_bytes w32 (length p.directory) ++ (p.directory ++ p.shard) in
-    let same : (version format == version format) ≡ true = grind (arith, nat_tests) in
+    let same : (sharded_format_byte format == sharded_format_byte format) ≡ true =
+    grind (arith, nat_tests) in
     let joined : rest ≡ to_be_bytes w32 (length p.directory) ++ p.directory ++ p.shard =
     simp append_assoc in
     let cut : text_at rest ≡ Some (p.directory, p.shard) =
@@ -136,7 +128,7 @@ parts_again format p is short =
     ap (λ (r : Result (List ℕ × List ℕ) ShardedFault). r >> λ low.
     parts_with low.0 (text_at low.1)) key ∙ ap (parts_with p.low) cut in
     ap (λ (t : Bool). cond t (key_at (counted p.low ++ rest) >> λ low.
-    parts_with low.0 (text_at low.1)) (Err Version)) same ∙ all
+    parts_with low.0 (text_at low.1)) (Err FormatByte)) same ∙ all
 
 -- ---- the theorem
 

@@ -18,7 +18,7 @@ use Rattle.mst_proof.proofs.Nodewise.{accepted_nodewise, accepted_stepwise}
 use Rattle.mst_proof.proofs.Faults.{proof_fails}
 use Rattle.mst_proof.proofs.Failing.{proof_faulty}
 use Rattle.mst_sharded_proof.specs.declared.fault.ShardedFault.{ShardedFault}
-use Rattle.mst_sharded_proof.specs.declared.fault.ShardedFault.TheVariants.{Version, CutShort, NoKey, Directory, NotListed, NoListing, KeyBelow, KeyNotBelow, Shard}
+use Rattle.mst_sharded_proof.specs.declared.fault.ShardedFault.TheVariants.{FormatByte, CutShort, NoKey, Directory, NotListed, NoListing, KeyBelow, KeyNotBelow, Shard}
 use Rattle.mst_sharded_proof.specs.Shards.{bound_text}
 use Rattle.mst_sharded_proof.specs.Frame.{◌>>◌, Parts, parts_at}
 use Rattle.mst_sharded_proof.specs.Verdict.{listed, is_below, placed, answered, judgement, sharded_verdict}
@@ -183,7 +183,7 @@ rest_of digest high size =
 parts_faulty : (format : Format) (root k : List ℕ) (p : Parts) (fault : ShardedFault)
     → IsBytes p.directory → IsBytes p.shard → PartsFail format root k p fault
     → judgement format root k p ≡ Err fault
-parts_faulty format root k p Version bd bs is = absurd is
+parts_faulty format root k p FormatByte bd bs is = absurd is
 parts_faulty format root k p CutShort bd bs is = absurd is
 parts_faulty format root k p NoKey bd bs is = absurd is
 parts_faulty format root k p (Directory f) bd bs is =

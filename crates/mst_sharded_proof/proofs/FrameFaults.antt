@@ -1,6 +1,6 @@
 -- If no parts are read from a proof, its frame fails the test whose fault is returned.
 use Rattle.std.proofs.Common.{◌≡◌, ℕ, Bool, true, false, cond, List, [], ◌∷◌, ◌++◌, length, take, drop, Option, Some, None, ◌⊎◌, inl, inr, refl, sym, ◌∙◌, ap, subst, arith, true≢false, length-append}
-use Rattle.std.specs.Prelude.{nat_lt, nat_le, ◌==◌, ◌<◌, ◌≤◌, ◌&&◌}
+use Rattle.std.specs.Prelude.{nat_lt, nat_le, ◌==◌, ◌<◌, ◌≤◌}
 use Rattle.std.specs.declared.result.Result.{Result}
 use Rattle.std.specs.declared.result.Result.TheVariants.{Ok, Err}
 use Rattle.std.proofs.Math.Seq.{take-append_seam}
@@ -9,10 +9,12 @@ use Rattle.mst_key.specs.declared.format.Format.{Format}
 use Rattle.mst_key.specs.Bytes.{IsBytes, IsKey}
 use Rattle.mst_node.specs.Text.{counted}
 use Rattle.mst_node.proofs.ReadIsSpelled.{part_takes}
+use Rattle.std.proofs.lemmas.Bool.{and_parts}
+use Rattle.mst_proof.proofs.FrameFaults.{same_head}
 use Rattle.mst_proof.specs.Frame.{text_at}
 use Rattle.mst_sharded_proof.specs.declared.fault.ShardedFault.{ShardedFault}
-use Rattle.mst_sharded_proof.specs.declared.fault.ShardedFault.TheVariants.{Version, CutShort, NoKey, Directory, NotListed, NoListing, KeyBelow, KeyNotBelow, Shard}
-use Rattle.mst_sharded_proof.specs.Frame.{◌>>◌, Parts, is_key, key_at, parts_with, parts_at, version}
+use Rattle.mst_sharded_proof.specs.declared.fault.ShardedFault.TheVariants.{FormatByte, CutShort, NoKey, Directory, NotListed, NoListing, KeyBelow, KeyNotBelow, Shard}
+use Rattle.mst_sharded_proof.specs.Frame.{◌>>◌, Parts, is_key, key_at, parts_with, parts_at, sharded_format_byte}
 use Rattle.mst_sharded_proof.specs.Accepted.{Frames}
 use Rattle.mst_sharded_proof.specs.Faults.{FrameFails}
 use Rattle.mst_sharded_proof.proofs.Parts.{cut_part, key_takes, parts_takes}
@@ -34,9 +36,6 @@ pub bind_fault : {A B : Type 0} (r : Result A ShardedFault) (g : A → Result B 
     → (r ≡ Err f) ⊎ ((x : A) × (r ≡ Ok x) × (g x ≡ Err f))
 bind_fault {A} {B} (Err h) g f e = inl (ap (λ z. err {A = A} z) (err_same {A = B} h f e))
 bind_fault (Ok x) g f e = inr (x, refl, e)
-
-same_head : {A : Type 0} (a b : A) (xs ys : List A) → a ∷ xs ≡ b ∷ ys → (a ≡ b) × (xs ≡ ys)
-same_head a b xs ys e = (cc, cc)
 
 -- ---- the key
 
@@ -103,12 +102,12 @@ no_parts format bytes fault e p is =
     err-ok fault p (parts_at format bytes) e
     (ap (parts_at format) is.whole ∙ parts_again format p is.key is.short)
 
-cut_short : (format : Format) (v : ℕ) (bytes : List ℕ) → v ≡ version format
+cut_short : (format : Format) (v : ℕ) (bytes : List ℕ) → v ≡ sharded_format_byte format
     → ((low rest : List ℕ) → bytes ≡ counted low ++ rest → IsKey low)
     → ((p : Parts) → Frames format (v ∷ bytes) p → ⊥) → FrameFails format (v ∷ bytes) CutShort
 cut_short format v bytes first key none = (
   λ w rest e. sym (same_head v w bytes rest e).0 ∙ first,
-  λ low begins. key low begins.0 (same_head v (version format) bytes _ begins.1).1,
+  λ low begins. key low begins.0 (same_head v (sharded_format_byte format) bytes _ begins.1).1,
   none,
 )
 
@@ -125,9 +124,10 @@ frame_fault format [] fault b e =
       λ low begins. absurd (cc (begins.1)),
       no_parts format [] fault e,
     )
-frame_fault format (v ∷ bytes) fault b e = go (v == version format) refl e
+frame_fault format (v ∷ bytes) fault b e = go (v == sharded_format_byte format) refl e
   where
-    key : v ≡ version format → KeyFails bytes fault → FrameFails format (v ∷ bytes) fault
+    key : v ≡ sharded_format_byte format → KeyFails bytes fault → FrameFails format (v ∷ bytes)
+        fault
     key first (inl c) =
         subst (FrameFails format (v ∷ bytes)) (sym c.0)
         (cut_short format v bytes first (λ low rest f. absurd (c.1 low rest f))
@@ -137,19 +137,21 @@ frame_fault format (v ∷ bytes) fault b e = go (v == version format) refl e
           n.1,
           (
             n.2,
-            ap (λ (x : ℕ). x ∷ bytes) first ∙ ap (λ (xs : List ℕ). version format ∷ xs) n.3,
+            ap (λ (x : ℕ). x ∷ bytes) first ∙ ap (λ (xs : List ℕ). sharded_format_byte format ∷ xs)
+                n.3,
           ),
           n.4,
         )
 
-    go : (t : Bool) → (v == version format) ≡ t
-        → cond t (key_at bytes >> λ low. parts_with low.0 (text_at low.1)) (Err Version) ≡ Err fault
+    go : (t : Bool) → (v == sharded_format_byte format) ≡ t
+        → cond t (key_at bytes >> λ low. parts_with low.0 (text_at low.1)) (Err FormatByte)
+        ≡ Err fault
         → FrameFails format (v ∷ bytes) fault
     go false is e =
-        subst (FrameFails format (v ∷ bytes)) (err_same {A = Parts} Version fault e)
+        subst (FrameFails format (v ∷ bytes)) (err_same {A = Parts} FormatByte fault e)
         (v, bytes, refl, λ one. let c : ⊥ = grind (arith, nat_tests, is, one) in c)
     go true is f =
-        let first : v ≡ version format = grind (arith, nat_tests, is) in
+        let first : v ≡ sharded_format_byte format = grind (arith, nat_tests, is) in
         elim (bind_fault (key_at bytes) (λ low. parts_with low.0 (text_at low.1)) fault f) [
           | inl none ↦ key first (key_fault bytes fault b.1 none)
           | inr (x, read, cut) ↦
@@ -171,10 +173,6 @@ no_key_at low rest none = go (is_key low) refl
     front : take (length low) (low ++ rest) ≡ low
     front = take-append_seam low rest
 
-    both : (a b : Bool) → (a && b) ≡ true → (a ≡ true) × (b ≡ true)
-    both true b e = (refl, e)
-    both false b e = absurd (cc (e))
-
     go : (t : Bool) → is_key low ≡ t → key_at (counted low ++ rest) ≡ Err NoKey
     go false is =
         ap (λ (s : Bool). cond s (err CutShort) (cond (is_key (take (length low) (low ++ rest)))
@@ -184,24 +182,25 @@ no_key_at low rest none = go (is_key low) refl
         (cut (take (length low) (low ++ rest)) (drop (length low) (low ++ rest))) (err NoKey))
         (ap is_key front ∙ is)
     go true is =
-        let tests = both (nat_lt 0 (length low)) (nat_le (length low) 32) is in
+        let tests = and_parts (nat_lt 0 (length low)) (nat_le (length low) 32) is in
         let some : 0 < length low = grind (arith, nat_tests, tests.0) in
         let few : length low ≤ 32 = grind (arith, nat_tests, tests.1) in
         absurd (none (some, few))
 
 pub frame_fails : (format : Format) (bytes : List ℕ) (fault : ShardedFault) → IsBytes bytes
     → FrameFails format bytes fault → parts_at format bytes ≡ Err fault
-frame_fails format bytes Version b (v, rest, is, other) =
-    let test : (v == version format) ≡ false = grind (arith, nat_tests, other) in
+frame_fails format bytes FormatByte b (v, rest, is, other) =
+    let test : (v == sharded_format_byte format) ≡ false = grind (arith, nat_tests, other) in
     ap (parts_at format) is
     ∙ ap (λ (t : Bool). cond t (key_at rest >> λ low. parts_with low.0 (text_at low.1))
-    (err Version)) test
+    (err FormatByte)) test
 frame_fails format bytes NoKey b (low, (rest, is), none) =
-    let same : (version format == version format) ≡ true = grind (arith, nat_tests) in
+    let same : (sharded_format_byte format == sharded_format_byte format) ≡ true =
+    grind (arith, nat_tests) in
     let behind = counted low ++ rest in
     ap (parts_at format) is
     ∙ ap (λ (t : Bool). cond t (key_at behind >> λ low. parts_with low.0 (text_at low.1))
-    (err Version)) same
+    (err FormatByte)) same
     ∙ ap (λ (r : Result (List ℕ × List ℕ) ShardedFault). r >> λ low.
     parts_with low.0 (text_at low.1)) (no_key_at low rest none)
 frame_fails format bytes CutShort b (first, key, none) = go (parts_at format bytes) refl
@@ -209,7 +208,7 @@ frame_fails format bytes CutShort b (first, key, none) = go (parts_at format byt
     other : (fault : ShardedFault) → FrameFails format bytes fault → err {A = Parts} fault
         ≡ Err CutShort
     other CutShort f = refl
-    other Version (v, rest, is, differs) = absurd (differs (first v rest is))
+    other FormatByte (v, rest, is, differs) = absurd (differs (first v rest is))
     other NoKey (low, begins, is_no) = absurd (is_no (key low begins))
     other (Directory f) is = absurd is
     other NotListed is = absurd is

@@ -1,6 +1,6 @@
 -- The parts of a proof are those that its bytes frame.
 use Rattle.std.proofs.Common.{◌≡◌, ℕ, Bool, true, false, cond, List, [], ◌∷◌, ◌++◌, length, take, drop, Option, Some, None, refl, sym, ◌∙◌, ap, subst, arith, append_assoc}
-use Rattle.std.specs.Prelude.{nat_lt, nat_le, ◌==◌, ◌<◌, ◌≤◌, ◌&&◌}
+use Rattle.std.specs.Prelude.{nat_lt, nat_le, ◌==◌, ◌<◌, ◌≤◌}
 use Rattle.std.specs.Int.{w32, to_be_bytes}
 use Rattle.std.specs.declared.result.Result.{Result}
 use Rattle.std.specs.declared.result.Result.TheVariants.{Ok, Err}
@@ -12,10 +12,11 @@ use Rattle.mst_node.specs.Reading.{part_at}
 use Rattle.mst_node.specs.Text.{counted}
 use Rattle.mst_node.proofs.ReadIsSpelled.{part_takes}
 use Rattle.mst_proof.specs.Frame.{text_at}
+use Rattle.std.proofs.lemmas.Bool.{and_parts}
 use Rattle.mst_proof.proofs.Framed.{text_takes}
 use Rattle.mst_sharded_proof.specs.declared.fault.ShardedFault.{ShardedFault}
-use Rattle.mst_sharded_proof.specs.declared.fault.ShardedFault.TheVariants.{Version, CutShort, NoKey}
-use Rattle.mst_sharded_proof.specs.Frame.{◌>>◌, Parts, is_key, key_at, parts_with, parts_at, version}
+use Rattle.mst_sharded_proof.specs.declared.fault.ShardedFault.TheVariants.{FormatByte, CutShort, NoKey}
+use Rattle.mst_sharded_proof.specs.Frame.{◌>>◌, Parts, is_key, key_at, parts_with, parts_at, sharded_format_byte}
 use Rattle.mst_sharded_proof.specs.Accepted.{Frames}
 
 abbrev ok : {A : Type 0} → A → Result A ShardedFault
@@ -29,12 +30,8 @@ pub bind_done : {A B : Type 0} (r : Result A ShardedFault) (g : A → Result B S
 bind_done (Err f) g y e = absurd (cc)
 bind_done (Ok x) g y e = (x, refl, e)
 
-both : (a b : Bool) → (a && b) ≡ true → (a ≡ true) × (b ≡ true)
-both true b e = (refl, e)
-both false b e = absurd (cc)
-
 key_from_test : (k : List ℕ) → is_key k ≡ true → IsKey k
-key_from_test k e = let is = both (nat_lt 0 (length k)) (nat_le (length k) 32) e in
+key_from_test k e = let is = and_parts (nat_lt 0 (length k)) (nat_le (length k) 32) e in
     (above is.0, within is.1)
   where
     above : nat_lt 0 (length k) ≡ true → 0 < length k
@@ -87,14 +84,14 @@ pub record Takes (format : Format) (bytes : List ℕ) (p : Parts) : Type 0 where
 pub parts_takes : (format : Format) (proof : List ℕ) (p : Parts) → IsBytes proof
     → parts_at format proof ≡ Ok p → Takes format proof p
 parts_takes format [] p b e = absurd (cc)
-parts_takes format (v ∷ bytes) p b e = go (v == version format) refl e
+parts_takes format (v ∷ bytes) p b e = go (v == sharded_format_byte format) refl e
   where
-    go : (t : Bool) → (v == version format) ≡ t
-        → cond t (key_at bytes >> λ low. parts_with low.0 (text_at low.1)) (Err Version) ≡ Ok p
+    go : (t : Bool) → (v == sharded_format_byte format) ≡ t
+        → cond t (key_at bytes >> λ low. parts_with low.0 (text_at low.1)) (Err FormatByte) ≡ Ok p
         → Takes format (v ∷ bytes) p
     go false is e = absurd (cc)
     go true is e =
-        let first : v ≡ version format = grind (arith, nat_tests, is) in
+        let first : v ≡ sharded_format_byte format = grind (arith, nat_tests, is) in
         let r = bind_done (key_at bytes) (λ low. parts_with low.0 (text_at low.1)) p e in
         let key = key_takes bytes r.0 b.1 r.1 in
         let done = with_done r.0.0 (text_at r.0.1) p r.2 in
@@ -107,7 +104,7 @@ parts_takes format (v ∷ bytes) p b e = go (v == version format) refl e
             key = subst IsKey done.1 key.1;
             short = text.3;
             whole = ap (λ (x : ℕ). x ∷ bytes) first
-                ∙ ap (λ (xs : List ℕ). version format ∷ xs) (key.0
+                ∙ ap (λ (xs : List ℕ). sharded_format_byte format ∷ xs) (key.0
                 ∙ ap (λ (xs : List ℕ). counted r.0.0 ++ xs) (text.0 ∙ joined)
                 ∙ ap (λ (low : List ℕ). counted low ++ (size ++ (p.directory ++ p.shard))) done.1);
           };

@@ -9,24 +9,25 @@ use Rattle.mst_node.specs.Text.{counted}
 use Rattle.mst_proof.specs.Accepted.{Accepted}
 use Rattle.mst_proof.specs.Faults.{ProofFails}
 use Rattle.mst_sharded_proof.specs.Shards.{bound_text}
-use Rattle.mst_sharded_proof.specs.Frame.{Parts, version}
+use Rattle.mst_sharded_proof.specs.Frame.{Parts, sharded_format_byte}
 use Rattle.mst_sharded_proof.specs.Accepted.{Frames}
 use Rattle.mst_sharded_proof.specs.declared.fault.ShardedFault.{ShardedFault}
-use Rattle.mst_sharded_proof.specs.declared.fault.ShardedFault.TheVariants.{Version, CutShort, NoKey, Directory, NotListed, NoListing, KeyBelow, KeyNotBelow, Shard}
+use Rattle.mst_sharded_proof.specs.declared.fault.ShardedFault.TheVariants.{FormatByte, CutShort, NoKey, Directory, NotListed, NoListing, KeyBelow, KeyNotBelow, Shard}
 
 -- ---- the frame
 
--- the bytes begin with the version and with these bytes after their length, in a key's place
+-- the bytes begin with the format's byte and with these bytes after their length, in a key's place
 abbrev pub Begins : Format → List ℕ → List ℕ → Type 0
-Begins format bytes low = (rest : List ℕ) × (bytes ≡ version format ∷ counted low ++ rest)
+Begins format bytes low =
+    (rest : List ℕ) × (bytes ≡ sharded_format_byte format ∷ counted low ++ rest)
 
--- The first byte is not the version; or it is, no bytes that are no key stand in the key's place,
+-- The first byte is not the format's; or it is, no bytes that are no key stand in the key's place,
 -- and the bytes frame no parts; or bytes that are no key stand there.
 abbrev pub FrameFails : Format → List ℕ → ShardedFault → Type 0
-FrameFails format bytes Version =
-    (v : ℕ) × (rest : List ℕ) × (bytes ≡ v ∷ rest) × (v ≢ version format)
+FrameFails format bytes FormatByte =
+    (v : ℕ) × (rest : List ℕ) × (bytes ≡ v ∷ rest) × (v ≢ sharded_format_byte format)
 FrameFails format bytes CutShort =
-    ((v : ℕ) (rest : List ℕ) → bytes ≡ v ∷ rest → v ≡ version format)
+    ((v : ℕ) (rest : List ℕ) → bytes ≡ v ∷ rest → v ≡ sharded_format_byte format)
     × ((low : List ℕ) → Begins format bytes low → IsKey low)
     × ((p : Parts) → Frames format bytes p → ⊥)
 FrameFails format bytes NoKey = (low : List ℕ) × Begins format bytes low × (IsKey low → ⊥)
@@ -50,7 +51,7 @@ pub record Lists (format : Format) (root : List ℕ) (p : Parts) (digest : List 
 -- less than the lower bound; or it is not, and not less than the upper bound either; or the key
 -- keeps the bounds, and the shard's proof fails for the digest.
 abbrev pub PartsFail : Format → List ℕ → List ℕ → Parts → ShardedFault → Type 0
-PartsFail format root k p Version = ⊥
+PartsFail format root k p FormatByte = ⊥
 PartsFail format root k p CutShort = ⊥
 PartsFail format root k p NoKey = ⊥
 PartsFail format root k p (Directory fault) = ProofFails format root p.low p.directory fault

@@ -11,7 +11,7 @@ use Rattle.mst_node.specs.Trail.{proof_text}
 use Rattle.mst_proof.specs.Frame.{text_at}
 use Rattle.mst_sharded_proof.specs.Shards.{shard_of, part_of, directory}
 use Rattle.mst_sharded_proof.specs.declared.fault.ShardedFault.{ShardedFault}
-use Rattle.mst_sharded_proof.specs.declared.fault.ShardedFault.TheVariants.{Version, CutShort, NoKey}
+use Rattle.mst_sharded_proof.specs.declared.fault.ShardedFault.TheVariants.{FormatByte, CutShort, NoKey}
 
 -- the step after a result, if that is no fault
 infixl 10 ◌>>◌
@@ -21,9 +21,9 @@ abbrev pub ◌>>◌ : {A B : Type 0} → Result A ShardedFault → (A → Result
 (Ok x) >> g = g x
 
 -- the first byte: another than that of a text or a proof of one map
-abbrev pub version : Format → ℕ
-version One = 3
-version Two = 4
+abbrev pub sharded_format_byte : Format → ℕ
+sharded_format_byte One = 3
+sharded_format_byte Two = 4
 
 -- the lower bound of the key's shard, the directory's proof for it, and the shard's for the key
 pub record Parts : Type 0 where
@@ -36,7 +36,7 @@ pub record Parts : Type 0 where
 -- the bytes of a proof of these parts
 abbrev pub framing : Format → Parts → List ℕ
 framing format p =
-    version format ∷ counted p.low ++ (to_be_bytes w32 (length p.directory)
+    sharded_format_byte format ∷ counted p.low ++ (to_be_bytes w32 (length p.directory)
     ++ (p.directory ++ p.shard))
 
 -- the parts of a map's proof for a key
@@ -78,5 +78,6 @@ parts_with low (Some t) = Ok (record { low = low; directory = t.0; shard = t.1 }
 abbrev pub parts_at : Format → List ℕ → Result Parts ShardedFault
 parts_at format [] = Err CutShort
 parts_at format (v ∷ bytes) =
-    if v == version format then (key_at bytes >> λ low. parts_with low.0 (text_at low.1))
-    else Err Version
+    if v == sharded_format_byte format then
+    (key_at bytes >> λ low. parts_with low.0 (text_at low.1))
+    else Err FormatByte

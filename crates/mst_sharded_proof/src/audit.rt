@@ -8,7 +8,6 @@ ghost use Rattle.mst_sharded_proof.specs.declared.audit.AuditFault.{AuditFault};
 ghost use Rattle.mst_sharded_proof.specs.Audit.{IsDirectory, AuditFails};
 ghost use Rattle.mst_sharded_proof.specs.Auditing.{unmet as unmet_by, rises as rises_by, listing_fault as fault_by, opening as opening_by, listings_from, audit_verdict};
 
-use crate::verifier::within_limits;
 use mst_key::{Format, Key, Value};
 use mst_node::root_of_in;
 use std::cmp::Ordering;
@@ -151,7 +150,7 @@ fn keys_within_limits(pairs: &[(Key, Value)])
     ensures keys { AllByRecursion (λ p. IsKey p.0) pairs.now }
 {
     for pair in pairs {
-        within_limits(&pair.0);
+        pair.0.key_limits();
     }
 }
 

@@ -7,8 +7,8 @@ use thiserror::Error;
 pub enum ShardedFault {
     /// The first byte is not the number of the format, 03 or 04.
     #[error("S1")]
-    Version,
-    /// The version, the lower bound, a length or the directory's proof is cut short.
+    FormatByte,
+    /// The format's byte, the lower bound, a length or the directory's proof is cut short.
     #[error("S2")]
     CutShort,
     /// The lower bound has no bytes, or more than 32.

@@ -3,7 +3,7 @@ ghost use Rattle.std.specs.Prelude.{◌≡◌, IfOk, IfErr};
 ghost use Rattle.std.specs.declared.result.Result.TheVariants.{Ok, Err};
 ghost use Rattle.mst_node.specs.Reading.{Gives};
 ghost use Rattle.mst_proof.specs.Frame.{text_at};
-ghost use Rattle.mst_sharded_proof.specs.Frame.{version as version_of, key_at, parts_at};
+ghost use Rattle.mst_sharded_proof.specs.Frame.{sharded_format_byte as byte_of, key_at, parts_at};
 
 use crate::fault::ShardedFault;
 use mst_key::{Format, Key};
@@ -20,8 +20,8 @@ pub(crate) struct Parts<'a> {
 }
 
 /// The first byte of a proof in a format. Texts and proofs of one map begin with 01 or 02.
-pub(crate) fn version(format: Format) -> u8
-    ensures version { result ≡ version_of format }
+pub(crate) fn sharded_format_byte(format: Format) -> u8
+    ensures byte { result ≡ byte_of format }
 {
     match format {
         Format::One => 3,
@@ -78,8 +78,8 @@ impl<'a> Parts<'a> {
         match proof {
             [] => Err(ShardedFault::CutShort),
             [first, bytes @ ..] => {
-                if *first != version(format) {
-                    return Err(ShardedFault::Version);
+                if *first != sharded_format_byte(format) {
+                    return Err(ShardedFault::FormatByte);
                 }
                 let (low, rest) = key_of(bytes)?;
                 match text_of(rest) {

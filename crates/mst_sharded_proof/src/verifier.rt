@@ -1,7 +1,6 @@
 //! The verifier.
 ghost use Rattle.std.specs.Prelude.{◌≡◌, ◌≢◌, ◌↔◌, List, ℕ, Option, IfOk, IfErr};
 ghost use Rattle.std.specs.declared.result.Result.TheVariants.{Ok, Err};
-ghost use Rattle.mst_key.specs.Bytes.{IsKey};
 ghost use Rattle.mst_key.specs.Map.{Pair, map_get};
 ghost use Rattle.mst_node.specs.Collision.{HasCollision};
 ghost use Rattle.mst_sharded_proof.specs.Accepted.{ShardedAccepted};
@@ -63,13 +62,6 @@ fn answered(verdict: Result<Option<Value>, ProofFault>) -> Result<Option<Value>,
     }
 }
 
-/// Says that the key is within its limits, as it is by its type.
-pub(crate) fn within_limits(key: &Key)
-    ensures key { IsKey key.now }
-{
-    let _key = key.bytes();
-}
-
 /// The verdict on a proof.
 fn judge(
     format: Format,
@@ -88,9 +80,9 @@ fn judge(
 /// What the proof shows of the key in the sharded map with this root digest: its value, or `None`
 /// for its absence. If the proof fails a test, returns the first test that it fails.
 ///
-/// A proof is the version, 03 in format 1 and 04 in format 2; the length of a shard's lower bound
-/// in one byte, and the bound; the length of the directory's proof in four bytes, the high one
-/// first, and that proof; and the shard's proof to the end. The call takes no memory.
+/// A proof is the format's byte, 03 in format 1 and 04 in format 2; the length of a shard's lower
+/// bound in one byte, and the bound; the length of the directory's proof in four bytes, the high
+/// one first, and that proof; and the shard's proof to the end. The call takes no memory.
 pub fn verify_sharded(
     format: Format,
     root: &[u8; 32],
@@ -113,6 +105,6 @@ pub fn verify_sharded(
         → HasCollision (sharded_texts format proof.now (directory_tree format m splits)
         (shard_tree format m splits key.now)) }
 {
-    within_limits(key);
+    key.key_limits();
     judge(format, root, key, proof)
 }

@@ -3,7 +3,7 @@ ghost use Rattle.std.specs.Prelude.{◌≡◌, IfOk};
 ghost use Rattle.mst_proof.specs.Faults.{IsShort};
 ghost use Rattle.mst_sharded_proof.specs.Frame.{framing};
 
-use crate::frame::version;
+use crate::frame::sharded_format_byte;
 use mst_key::{Format, Key, Memory};
 use std::alloc::Allocator;
 
@@ -22,7 +22,7 @@ pub fn join<A: Allocator>(
 {
     let bound = low.bytes();
     let mut bytes = Vec::new(alloc);
-    bytes.push(version(format))?;
+    bytes.push(sharded_format_byte(format))?;
     bytes.push(bound.len() as u8)?;
     bytes.extend_from_slice(bound)?;
     bytes.extend_from_slice((directory.len() as u32).to_be_bytes().as_slice())?;

@@ -4,7 +4,7 @@
 ghost use Rattle.std.specs.Prelude.{◌≡◌, ◌≤◌, IsSome, map};
 ghost use Rattle.mst_arena.specs.Content.{part_at};
 ghost use Rattle.mst_arena.specs.Lives.{swept_life};
-ghost use Rattle.mst_arena.specs.Row.{IsRow, entry_links, entry_value, head_digest, head_links};
+ghost use Rattle.mst_arena.specs.Row.{IsRow, keyed_links, entry_value, head_digest, head_links};
 
 mod counted;
 mod counts;
@@ -24,7 +24,7 @@ fn entry_of(rt: &impl Abort, child: u32, next: u32, key: &[u8], value: &[u8]) ->
     requires child { child ≤ 65535 }
     requires next { next ≤ 65535 }
     ensures limits { IsRow result }
-    ensures links { IsSome (entry_links result) }
+    ensures links { IsSome (keyed_links result) }
     ensures value { IsSome (entry_value result) }
 {
     let (key, value) = pair(rt, key, value);
@@ -38,7 +38,7 @@ fn entry_of(rt: &impl Abort, child: u32, next: u32, key: &[u8], value: &[u8]) ->
 
 /// Whether the entry at this number has these links, this key and this value.
 fn entry_is<R: Rows>(rows: &mut R, row: u32, links: (u32, u32), key: &[u8], value: &[u8]) -> bool
-    requires links { IsSome (part_at entry_links (R.content rows.old) row) }
+    requires links { IsSome (part_at keyed_links (R.content rows.old) row) }
     requires value { IsSome (part_at entry_value (R.content rows.old) row) }
     ensures same { rows.new ≡ rows.old }
 {

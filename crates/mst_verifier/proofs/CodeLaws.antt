@@ -9,9 +9,9 @@ use Rattle.mst_node.specs.Grammar.{InGrammar}
 use Rattle.mst_node.specs.Text.{FlatNode, digest_of}
 use Rattle.mst_proof.specs.Faults.{FailsBy, Spells}
 use Rattle.mst_proof.specs.declared.fault.ProofFault.{ProofFault}
-use Rattle.mst_proof.specs.declared.fault.ProofFault.TheVariants.{Version, CutShort, LeftOver, NoNode, OtherDigest, LayerNotBelow, KeyOutside, Unfinished, TextBehind, OtherValue}
+use Rattle.mst_proof.specs.declared.fault.ProofFault.TheVariants.{FormatByte, CutShort, LeftOver, NoNode, OtherDigest, LayerNotBelow, KeyOutside, Unfinished, TextBehind, OtherValue}
 use Rattle.mst_sharded_proof.specs.declared.fault.ShardedFault.{ShardedFault}
-use Rattle.mst_sharded_proof.specs.declared.fault.ShardedFault.TheVariants.{Version as OtherVersion, CutShort as Cut, NoKey, Directory, NotListed, NoListing, KeyBelow, KeyNotBelow, Shard}
+use Rattle.mst_sharded_proof.specs.declared.fault.ShardedFault.TheVariants.{FormatByte as OtherFormatByte, CutShort as Cut, NoKey, Directory, NotListed, NoListing, KeyBelow, KeyNotBelow, Shard}
 use Rattle.mst_verifier.specs.declared.question.Refusal.{Refusal}
 use Rattle.mst_verifier.specs.declared.question.Refusal.TheVariants.{Format, Root, Key, Proof, ShardedProof}
 use Rattle.mst_verifier.specs.Codes.{fault_code, refusal_code}
@@ -24,14 +24,14 @@ place (negsuc n) = n
 
 abbrev sharded_at : ℕ → Option ShardedFault
 sharded_at n =
-    if n == 99 then Some OtherVersion
+    if n == 99 then Some OtherFormatByte
     else if n == 199 then Some Cut
     else if n == 299 then Some NoKey
     else if n == 499 then Some NotListed
     else if n == 599 then Some NoListing
     else if n == 699 then Some KeyBelow
     else if n == 799 then Some KeyNotBelow
-    else if n == 400 then Some (Directory Version)
+    else if n == 400 then Some (Directory FormatByte)
     else if n == 401 then Some (Directory CutShort)
     else if n == 402 then Some (Directory LeftOver)
     else if n == 403 then Some (Directory NoNode)
@@ -41,7 +41,7 @@ sharded_at n =
     else if n == 407 then Some (Directory Unfinished)
     else if n == 408 then Some (Directory TextBehind)
     else if n == 409 then Some (Directory OtherValue)
-    else if n == 900 then Some (Shard Version)
+    else if n == 900 then Some (Shard FormatByte)
     else if n == 901 then Some (Shard CutShort)
     else if n == 902 then Some (Shard LeftOver)
     else if n == 903 then Some (Shard NoNode)
@@ -62,7 +62,7 @@ refusal_at n =
     if n == 2 then Some Format
     else if n == 3 then Some Root
     else if n == 4 then Some Key
-    else if n == 10 then Some (Proof Version)
+    else if n == 10 then Some (Proof FormatByte)
     else if n == 11 then Some (Proof CutShort)
     else if n == 12 then Some (Proof LeftOver)
     else if n == 13 then Some (Proof NoNode)
@@ -78,7 +78,7 @@ named : (r : Refusal) → refusal_at (place (refusal_code r)) ≡ Some r
 named Format = refl
 named Root = refl
 named Key = refl
-named (Proof Version) = refl
+named (Proof FormatByte) = refl
 named (Proof CutShort) = refl
 named (Proof LeftOver) = refl
 named (Proof NoNode) = refl
@@ -88,14 +88,14 @@ named (Proof KeyOutside) = refl
 named (Proof Unfinished) = refl
 named (Proof TextBehind) = refl
 named (Proof OtherValue) = refl
-named (ShardedProof OtherVersion) = refl
+named (ShardedProof OtherFormatByte) = refl
 named (ShardedProof Cut) = refl
 named (ShardedProof NoKey) = refl
 named (ShardedProof NotListed) = refl
 named (ShardedProof NoListing) = refl
 named (ShardedProof KeyBelow) = refl
 named (ShardedProof KeyNotBelow) = refl
-named (ShardedProof (Directory Version)) = refl
+named (ShardedProof (Directory FormatByte)) = refl
 named (ShardedProof (Directory CutShort)) = refl
 named (ShardedProof (Directory LeftOver)) = refl
 named (ShardedProof (Directory NoNode)) = refl
@@ -105,7 +105,7 @@ named (ShardedProof (Directory KeyOutside)) = refl
 named (ShardedProof (Directory Unfinished)) = refl
 named (ShardedProof (Directory TextBehind)) = refl
 named (ShardedProof (Directory OtherValue)) = refl
-named (ShardedProof (Shard Version)) = refl
+named (ShardedProof (Shard FormatByte)) = refl
 named (ShardedProof (Shard CutShort)) = refl
 named (ShardedProof (Shard LeftOver)) = refl
 named (ShardedProof (Shard NoNode)) = refl
@@ -125,7 +125,7 @@ pub apart : (r : Refusal) → (n : ℕ) × (refusal_code r ≡ negsuc (2 + n))
 apart Format = (0, refl)
 apart Root = (1, refl)
 apart Key = (2, refl)
-apart (Proof Version) = (8, refl)
+apart (Proof FormatByte) = (8, refl)
 apart (Proof CutShort) = (9, refl)
 apart (Proof LeftOver) = (10, refl)
 apart (Proof NoNode) = (11, refl)
@@ -135,14 +135,14 @@ apart (Proof KeyOutside) = (14, refl)
 apart (Proof Unfinished) = (15, refl)
 apart (Proof TextBehind) = (16, refl)
 apart (Proof OtherValue) = (17, refl)
-apart (ShardedProof OtherVersion) = (97, refl)
+apart (ShardedProof OtherFormatByte) = (97, refl)
 apart (ShardedProof Cut) = (197, refl)
 apart (ShardedProof NoKey) = (297, refl)
 apart (ShardedProof NotListed) = (497, refl)
 apart (ShardedProof NoListing) = (597, refl)
 apart (ShardedProof KeyBelow) = (697, refl)
 apart (ShardedProof KeyNotBelow) = (797, refl)
-apart (ShardedProof (Directory Version)) = (398, refl)
+apart (ShardedProof (Directory FormatByte)) = (398, refl)
 apart (ShardedProof (Directory CutShort)) = (399, refl)
 apart (ShardedProof (Directory LeftOver)) = (400, refl)
 apart (ShardedProof (Directory NoNode)) = (401, refl)
@@ -152,7 +152,7 @@ apart (ShardedProof (Directory KeyOutside)) = (404, refl)
 apart (ShardedProof (Directory Unfinished)) = (405, refl)
 apart (ShardedProof (Directory TextBehind)) = (406, refl)
 apart (ShardedProof (Directory OtherValue)) = (407, refl)
-apart (ShardedProof (Shard Version)) = (898, refl)
+apart (ShardedProof (Shard FormatByte)) = (898, refl)
 apart (ShardedProof (Shard CutShort)) = (899, refl)
 apart (ShardedProof (Shard LeftOver)) = (900, refl)
 apart (ShardedProof (Shard NoNode)) = (901, refl)

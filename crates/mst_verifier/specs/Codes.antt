@@ -1,15 +1,15 @@
 -- The numbers that the library returns, and what it leaves in the caller's room.
 use Rattle.std.specs.Prelude.{ℕ, ◌+◌, ℤ, pos, negsuc, nat_lt, if◌then◌else◌, List, ◌++◌, length, drop, Option, Some, None, Result, Ok, Err}
 use Rattle.mst_proof.specs.declared.fault.ProofFault.{ProofFault}
-use Rattle.mst_proof.specs.declared.fault.ProofFault.TheVariants.{Version, CutShort, LeftOver, NoNode, OtherDigest, LayerNotBelow, KeyOutside, Unfinished, TextBehind, OtherValue}
+use Rattle.mst_proof.specs.declared.fault.ProofFault.TheVariants.{FormatByte, CutShort, LeftOver, NoNode, OtherDigest, LayerNotBelow, KeyOutside, Unfinished, TextBehind, OtherValue}
 use Rattle.mst_sharded_proof.specs.declared.fault.ShardedFault.{ShardedFault}
-use Rattle.mst_sharded_proof.specs.declared.fault.ShardedFault.TheVariants.{Version as OtherVersion, CutShort as Cut, NoKey, Directory, NotListed, NoListing, KeyBelow, KeyNotBelow, Shard}
+use Rattle.mst_sharded_proof.specs.declared.fault.ShardedFault.TheVariants.{FormatByte as OtherFormatByte, CutShort as Cut, NoKey, Directory, NotListed, NoListing, KeyBelow, KeyNotBelow, Shard}
 use Rattle.mst_verifier.specs.declared.question.Refusal.{Refusal}
 use Rattle.mst_verifier.specs.declared.question.Refusal.TheVariants.{Format, Root, Key, Proof, ShardedProof}
 
 -- -11 to -20, for the tests P1 to P10 of a proof
 abbrev pub fault_code : ProofFault → ℤ
-fault_code Version = negsuc 10
+fault_code FormatByte = negsuc 10
 fault_code CutShort = negsuc 11
 fault_code LeftOver = negsuc 12
 fault_code NoNode = negsuc 13
@@ -22,7 +22,7 @@ fault_code OtherValue = negsuc 19
 
 -- 1 to 10, for the tests P1 to P10
 abbrev pub test_number : ProofFault → ℕ
-test_number Version = 1
+test_number FormatByte = 1
 test_number CutShort = 2
 test_number LeftOver = 3
 test_number NoNode = 4
@@ -36,7 +36,7 @@ test_number OtherValue = 10
 -- -100 to -900, for the tests S1 to S9 of a proof of a sharded map; S4 and S9 test a part of it,
 -- and the number of the part's test is taken off too: S4 P5 is -405
 abbrev pub sharded_code : ShardedFault → ℤ
-sharded_code OtherVersion = negsuc 99
+sharded_code OtherFormatByte = negsuc 99
 sharded_code Cut = negsuc 199
 sharded_code NoKey = negsuc 299
 sharded_code (Directory fault) = negsuc (399 + test_number fault)

@@ -21,7 +21,7 @@ fn test_number(fault: ProofFault) -> i32
     ensures bound { number_of_test fault ≤ 10 }
 {
     match fault {
-        ProofFault::Version => 1,
+        ProofFault::FormatByte => 1,
         ProofFault::CutShort => 2,
         ProofFault::LeftOver => 3,
         ProofFault::NoNode => 4,
@@ -39,7 +39,7 @@ fn sharded_code(fault: ShardedFault) -> i32
     ensures code { result ≡ code_of_sharded fault }
 {
     match fault {
-        ShardedFault::Version => -100,
+        ShardedFault::FormatByte => -100,
         ShardedFault::CutShort => -200,
         ShardedFault::NoKey => -300,
         ShardedFault::Directory(fault) => -400 - test_number(fault),
@@ -59,7 +59,7 @@ pub(crate) fn refusal_code(refusal: Refusal) -> i32
         Refusal::Format => -3,
         Refusal::Root => -4,
         Refusal::Key => -5,
-        Refusal::Proof(ProofFault::Version) => -11,
+        Refusal::Proof(ProofFault::FormatByte) => -11,
         Refusal::Proof(ProofFault::CutShort) => -12,
         Refusal::Proof(ProofFault::LeftOver) => -13,
         Refusal::Proof(ProofFault::NoNode) => -14,

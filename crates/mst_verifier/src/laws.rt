@@ -8,8 +8,8 @@ ghost use Rattle.mst_node.specs.Grammar.{InGrammar};
 ghost use Rattle.mst_node.specs.Text.{FlatNode, digest_of};
 ghost use Rattle.mst_proof.specs.Faults.{FailsBy, Spells};
 ghost use Rattle.mst_proof.specs.declared.fault.ProofFault.{ProofFault};
-ghost use Rattle.mst_proof.specs.declared.fault.ProofFault.TheVariants.{Version, CutShort, LeftOver, NoNode, OtherDigest, LayerNotBelow, KeyOutside, Unfinished, TextBehind, OtherValue};
-ghost use Rattle.mst_sharded_proof.specs.declared.fault.ShardedFault.TheVariants.{Version as OtherVersion, CutShort as Cut, NoKey, Directory, NotListed, NoListing, KeyBelow, KeyNotBelow, Shard};
+ghost use Rattle.mst_proof.specs.declared.fault.ProofFault.TheVariants.{FormatByte, CutShort, LeftOver, NoNode, OtherDigest, LayerNotBelow, KeyOutside, Unfinished, TextBehind, OtherValue};
+ghost use Rattle.mst_sharded_proof.specs.declared.fault.ShardedFault.TheVariants.{FormatByte as OtherFormatByte, CutShort as Cut, NoKey, Directory, NotListed, NoListing, KeyBelow, KeyNotBelow, Shard};
 ghost use Rattle.mst_verifier.specs.Codes.{code_of, fault_code, refusal_code, sharded_code, test_number};
 ghost use Rattle.mst_verifier.specs.Question.{answer_of};
 ghost use Rattle.mst_verifier.specs.Top.{TellsTop};
@@ -20,11 +20,11 @@ ghost use Rattle.mst_verifier.specs.declared.question.Refusal.{Refusal};
 /// No two are the same, and none is that of an answer. Of the tests of a text each is named by what
 /// the text then fails.
 pub fn code_laws()
-    ensures tests { map fault_code (Version ∷ CutShort ∷ LeftOver ∷ NoNode ∷ OtherDigest
+    ensures tests { map fault_code (FormatByte ∷ CutShort ∷ LeftOver ∷ NoNode ∷ OtherDigest
         ∷ LayerNotBelow ∷ KeyOutside ∷ Unfinished ∷ TextBehind ∷ OtherValue ∷ [])
         ≡ negsuc 10 ∷ negsuc 11 ∷ negsuc 12 ∷ negsuc 13 ∷ negsuc 14 ∷ negsuc 15 ∷ negsuc 16
         ∷ negsuc 17 ∷ negsuc 18 ∷ negsuc 19 ∷ [] }
-    ensures sharded_tests { map sharded_code (OtherVersion ∷ Cut ∷ NoKey ∷ NotListed ∷ NoListing
+    ensures sharded_tests { map sharded_code (OtherFormatByte ∷ Cut ∷ NoKey ∷ NotListed ∷ NoListing
         ∷ KeyBelow ∷ KeyNotBelow ∷ [])
         ≡ negsuc 99 ∷ negsuc 199 ∷ negsuc 299 ∷ negsuc 499 ∷ negsuc 599 ∷ negsuc 699
         ∷ negsuc 799 ∷ [] }
@@ -33,7 +33,7 @@ pub fn code_laws()
         → sharded_code (Directory fault) ≡ negsuc (399 + test_number fault) }
     ensures shard_tests { (fault : ProofFault)
         → sharded_code (Shard fault) ≡ negsuc (899 + test_number fault) }
-    ensures part_tests { map test_number (Version ∷ CutShort ∷ LeftOver ∷ NoNode ∷ OtherDigest
+    ensures part_tests { map test_number (FormatByte ∷ CutShort ∷ LeftOver ∷ NoNode ∷ OtherDigest
         ∷ LayerNotBelow ∷ KeyOutside ∷ Unfinished ∷ TextBehind ∷ OtherValue ∷ [])
         ≡ 1 ∷ 2 ∷ 3 ∷ 4 ∷ 5 ∷ 6 ∷ 7 ∷ 8 ∷ 9 ∷ 10 ∷ [] }
     ensures differ { (a b : Refusal) → refusal_code a ≡ refusal_code b → a ≡ b }
@@ -66,7 +66,7 @@ pub fn worked_codes()
     ensures root { told 1 [] (1 ∷ 0 ∷ []) ≡ negsuc 3 }
     ensures key { code_of 0 (answer_of 1 zeros [] (1 ∷ 0 ∷ [])) ≡ negsuc 4 }
     // a proof of the other format, of one byte, and with a byte left over
-    ensures version { told 1 zeros (2 ∷ 0 ∷ []) ≡ negsuc 10 }
+    ensures format_byte { told 1 zeros (2 ∷ 0 ∷ []) ≡ negsuc 10 }
     ensures cut_short { told 1 zeros (1 ∷ []) ≡ negsuc 11 }
     ensures left_over { told 1 zeros (1 ∷ 0 ∷ 0 ∷ []) ≡ negsuc 12 }
     // one text, of no bytes

@@ -24,7 +24,7 @@ use Rattle.mst_words.specs.Layout.{row_word}
 use Rattle.mst_words.specs.Records.{IsBlank, row, field}
 use Rattle.mst_words.specs.Steps.{Takes}
 use Rattle.mst_words.specs.Stored.{contents_after, format_number, rows_in, root_in, stored, state_of}
-use Rattle.mst_words.specs.Access.{content_of, is_unreached, is_blank}
+use Rattle.mst_words.specs.Access.{content_of, is_unreached, may_write}
 use Rattle.mst_words.proofs.Accesses.{blank_row}
 use Rattle.mst_words.proofs.Framed.{aged_frame}
 use Rattle.mst_words.proofs.AgeFrames.{SameAges}
@@ -100,7 +100,7 @@ module _ (before taken : Seat) (p : Takes (stored before.0.format) before taken)
       → HasAsked (before.0.passes + 2) (state_of p.desk) a (asked_seat drained blocked found asked)
       → (x : ℕ)
       → slice_get (map (swept_life a.live.items) p.desk.lives) x ≡ Some Free
-      → IsTrue (is_blank (asked_view drained blocked found asked) x)
+      → IsTrue (may_write (asked_view drained blocked found asked) x)
   blank_free drained blocked found asked a h x free =
       let inside : x < length p.desk.lives = free_inside a.live.items p.desk.lives x free in
       let lt : x < before.0.rows = (let r = p.is_desk.rows_is in omega (arith, inside, r)) in
@@ -142,7 +142,7 @@ module _ (before taken : Seat) (p : Takes (stored before.0.format) before taken)
   free_blank : (drained blocked found : List ℕ) (asked : ℕ) (a : Asked)
       → HasAsked (before.0.passes + 2) (state_of p.desk) a (asked_seat drained blocked found asked)
       → (x : ℕ)
-      → is_blank (asked_view drained blocked found asked) x ≡ true
+      → may_write (asked_view drained blocked found asked) x ≡ true
       → slice_get (map (swept_life a.live.items) p.desk.lives) x ≡ Some Free
   free_blank drained blocked found asked a h x blank =
       let b : IsBlank (stored before.0.format) (asked_view drained blocked found asked) x =

@@ -16,7 +16,7 @@ use Rattle.mst_arena.specs.Ages.{HasAges}
 use Rattle.mst_path.specs.Takes.{FreeIsBlank}
 use Rattle.mst_path.specs.Reached.{ReachesExactly, TogetherReach, advanced}
 use Rattle.mst_words.specs.declared.view.View.{View}
-use Rattle.mst_words.specs.Access.{content_of, is_blank}
+use Rattle.mst_words.specs.Access.{content_of, may_write}
 use Rattle.mst_words.specs.Layout.{most_passes, table_words}
 use Rattle.mst_words.specs.Notes.{IsOfPasses}
 use Rattle.mst_words.specs.Records.{Standing, Agrees}
@@ -85,8 +85,8 @@ pub record HasTurn {A : Type 0} (t : Turn A) (m : Seat) : Type 0 where
   pub stands : Stands t.format (content_of m.0) t.root (after m.0.seen)
   pub reached : ReachesExactly t.desk.lives (version t.desk) (numbers stands)
   pub aged : HasAges m.0.format t.desk.lives m.0.seen stands.tree.placed
-  pub blank : FreeIsBlank t.desk.lives (is_blank m.0)
-  pub free : (x : ℕ) → IsTrue (is_blank m.0 x) → slice_get t.desk.lives x ≡ Some Free
+  pub blank : FreeIsBlank t.desk.lives (may_write m.0)
+  pub free : (x : ℕ) → IsTrue (may_write m.0 x) → slice_get t.desk.lives x ≡ Some Free
   pub kept : (r : ℕ) → r < m.0.passes + 2 → (In r m.0.drained → ⊥) → r ≢ t.desk.current
       → In r m.0.blocked
   pub stood : (r : ℕ) → In r m.0.blocked → StoodAtAsk r m.0

@@ -11,7 +11,7 @@ use Rattle.atomic_table.specs.Seated.{TableId}
 use Rattle.atomic_table.specs.Table.{Me}
 use Rattle.mst_arena.specs.Lives as lives
 use Rattle.mst_arena.specs.Content.{Writes, part_at, relinked}
-use Rattle.mst_arena.specs.Row.{entry_links}
+use Rattle.mst_arena.specs.Row.{keyed_links}
 use Rattle.mst_arena.specs.Words.{row_in}
 use Rattle.mst_arena.specs.declared.row.Row.{Row}
 use Rattle.mst_arena.proofs.ListLemmas.{any_times}
@@ -22,7 +22,7 @@ use Rattle.mst_words.specs.Records as records
 use Rattle.mst_words.specs.Records.{IsBlank}
 use Rattle.mst_words.specs.Steps.{IsReadable, IsWritable}
 use Rattle.mst_words.specs.Stored.{stored, rows_in, version_of}
-use Rattle.mst_words.specs.Access.{Seated, with_words, beside, may_read, content_of, all_below, is_unreached, is_blank, RowStored}
+use Rattle.mst_words.specs.Access.{Seated, with_words, beside, may_read, content_of, all_below, is_unreached, may_write, RowStored}
 use Rattle.mst_words.proofs.Framed.{same_row}
 
 both : (a b : Bool) → (a && b) ≡ true → (a ≡ true) × (b ≡ true)
@@ -71,7 +71,7 @@ pub record Blank (v : View) (x : ℕ) : Type 0 where
   pub settled : v.due ≡ None
   pub unreached : is_unreached v x ≡ true
 
-pub blank_parts : (v : View) (x : ℕ) → is_blank v x ≡ true → Blank v x
+pub blank_parts : (v : View) (x : ℕ) → may_write v x ≡ true → Blank v x
 blank_parts v x h = let a =
     both (nat_lt (row_word x 15) (length v.known_words) && nat_lt x v.rows && v.turn && is_none
     v.pin && is_none v.due) (is_unreached v x) h in
@@ -92,13 +92,13 @@ blank_parts v x h = let a =
     }
 
 -- the holder of the turn may read a blank row
-pub blank_may : (v : View) (x : ℕ) → is_blank v x ≡ true → may_read v x ≡ true
+pub blank_may : (v : View) (x : ℕ) → may_write v x ≡ true → may_read v x ≡ true
 blank_may v x h = let b = blank_parts v x h in
     ap (λ (t : Bool). t && (v.turn || (is_some v.pin && list_any (eqb x) v.pinned_rows)))
     (lt-ltb x v.rows b.inside)
     ∙ ap (λ (t : Bool). t || (is_some v.pin && list_any (eqb x) v.pinned_rows)) b.on
 
-pub blank_row : (v : View) (x : ℕ) → is_blank v x ≡ true → IsBlank (stored v.format) v x
+pub blank_row : (v : View) (x : ℕ) → may_write v x ≡ true → IsBlank (stored v.format) v x
 blank_row v x h = let b = blank_parts v x h in (
   b.inside,
   (λ r small kept reached. ⊎_elim
@@ -113,7 +113,7 @@ blank_row v x h = let b = blank_parts v x h in (
       (lives.reaches v.desk.lives (version_of v.desk r) x)) r b.unreached small))),
 )
 
-pub writable : (v : View) (x k : ℕ) → is_blank v x ≡ true → k < row_words
+pub writable : (v : View) (x k : ℕ) → may_write v x ≡ true → k < row_words
     → IsWritable (stored v.format) v (row_word x k)
 writable v x k h lt = inl (x, k, blank_row v x h, lt, refl)
 
@@ -165,7 +165,7 @@ stored_next old now new x n value words s so_far lt room is =
     (omega (arith, room, so_far.long)) value is)
 
 -- the rows are as before but for the one that was written
-pub written : (v : View) (x : ℕ) (value : Row) (words held : List ℕ) → is_blank v x ≡ true
+pub written : (v : View) (x : ℕ) (value : Row) (words held : List ℕ) → may_write v x ≡ true
     → length words ≡ 16 → row_in words ≡ Some value → RowStored x 16 words v.known_words held
     → Writes (content_of v) (content_of (record v { known_words = held })) x value
 written v x value words held blank long spelt s = let b = blank_parts v x blank in record {
@@ -194,7 +194,7 @@ written v x value words held blank long spelt s = let b = blank_parts v x blank 
         (λ j lt. same_word k j other lt)
 
 pub row_written : (old new : Me (Option lives.State) View) (x : ℕ) (value : Row) (words : List ℕ)
-    → new ≡ (record old.0 { known_words = new.0.known_words }, old.1) → is_blank old.0 x ≡ true
+    → new ≡ (record old.0 { known_words = new.0.known_words }, old.1) → may_write old.0 x ≡ true
     → length words ≡ 16 → row_in words ≡ Some value
     → RowStored x 16 words old.0.known_words new.0.known_words
     → Writes (content_of old.0) (content_of new.0) x value
@@ -212,9 +212,9 @@ fill_from f xs a n long h = ext_get_or 0 xs (map f (range_with_len a n))
 
 -- what is blank depends on no word, but on how many are known
 pub blank_stays : (v w : View) → w ≡ record v { known_words = w.known_words } → length w.known_words
-    ≡ length v.known_words → is_blank w ≡ is_blank v
+    ≡ length v.known_words → may_write w ≡ may_write v
 blank_stays v w same long =
-    ap is_blank same ∙ ap {B = ℕ → Bool}
+    ap may_write same ∙ ap {B = ℕ → Bool}
     (λ (n : ℕ) (x : ℕ). nat_lt (row_word x 15) n && nat_lt x v.rows && v.turn && is_none v.pin
     && is_none v.due && is_unreached v x) long
 
@@ -261,14 +261,14 @@ its_row true o row is = is
 its_row false o row is = cc
 
 pub entry_copied : (v : View) (from child next : ℕ) (words : List ℕ) (P : Row → Type 0)
-    → IsSome (part_at entry_links (content_of v) from)
+    → IsSome (part_at keyed_links (content_of v) from)
     → words ≡ map (records.row v.known_words from) (range_with_len 0 16) → child ≤ 65535
     → next ≤ 65535
     → ((value : Row) → row_in (set (set words 1 child) 2 next) ≡ Some value → P value)
     → IfSome (content_of v from) (λ entry. P (relinked child next entry))
 entry_copied v from child next words P some loaded low small each = go (content_of v from) refl some
   where
-    go : (o : Option Row) → content_of v from ≡ o → IsSome (option_and_then entry_links o)
+    go : (o : Option Row) → content_of v from ≡ o → IsSome (option_and_then keyed_links o)
         → IfSome o (λ entry. P (relinked child next entry))
     go None is some = tt
     go (Some row) is some =

@@ -11,15 +11,15 @@ use Rattle.mst_arena.specs.Lives as lives
 use Rattle.mst_words.specs.declared.view.View.{View}
 use Rattle.mst_words.specs.Layout.{row_word, row_words}
 use Rattle.mst_words.specs.Records as records
-use Rattle.mst_words.specs.Access.{is_blank, RowStored, PartStored, HasEnds, relinked_list}
+use Rattle.mst_words.specs.Access.{may_write, RowStored, PartStored, IsPadded, relinked_list}
 use Rattle.mst_words.proofs.Accesses.{blank_stays, fill_from}
 
 -- ---- the seat between two steps
 
 pub still_blank : (old now : Me (Option lives.State) View) (x : ℕ)
     → now ≡ (record old.0 { known_words = now.0.known_words }, old.1)
-    → length now.0.known_words ≡ length old.0.known_words → IsTrue (is_blank old.0 x)
-    → IsTrue (is_blank now.0 x)
+    → length now.0.known_words ≡ length old.0.known_words → IsTrue (may_write old.0 x)
+    → IsTrue (may_write now.0 x)
 still_blank old now x kept long blank = subst (λ (f : ℕ → Bool). IsTrue (f x))
     (sym (blank_stays old.0 now.0 (ap (λ (z : Me (Option lives.State) View). z.0) kept) long)) blank
 
@@ -169,7 +169,7 @@ entry_stored x from child next lengths old mid new kind size a b = record {
 
 -- the words behind the front end as before
 pub still_ends : (lengths size : ℕ) (f h : ℕ → ℕ) → lengths ≡ size
-    → ((k : ℕ) → 4 ≤ k → k < 16 → h k ≡ f k) → HasEnds size f → HasEnds lengths h
+    → ((k : ℕ) → 4 ≤ k → k < 16 → h k ≡ f k) → IsPadded size f → IsPadded lengths h
 still_ends lengths size f h is same e = record {
   key = λ common k lt. same (6 + k) (omega arith) (omega (arith, lt))
       ∙ e.key (sym is ∙ common) k lt;

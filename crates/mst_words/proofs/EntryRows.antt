@@ -5,7 +5,7 @@ use Rattle.std.specs.List.{range_with_len}
 use Rattle.mst_key.specs.Bytes.{IsKey, IsValue}
 use Rattle.mst_key.specs.Map.{Pair}
 use Rattle.mst_arena.specs.Content.{part_at}
-use Rattle.mst_arena.specs.Row.{HasBytes, entry_links, entry_pair}
+use Rattle.mst_arena.specs.Row.{HasBytes, keyed_links, entry_pair}
 use Rattle.mst_arena.specs.Words.{bytes_in, lengths_word, first_key_word, first_value_word}
 use Rattle.mst_arena.specs.declared.row.Row.TheVariants.{Entry}
 use Rattle.mst_arena.proofs.Readers.{EntryIn, entry_with}
@@ -20,14 +20,14 @@ pub record LengthsAt (v : View) (x : ℕ) : Type 0 where
   pub key : row v.known_words x lengths_word % 256 ≤ 32
   pub value : row v.known_words x lengths_word / 256 ≤ 64
 
-pub lengths_at : (v : View) (x : ℕ) → IsSome (part_at entry_links (content_of v) x) → LengthsAt v x
+pub lengths_at : (v : View) (x : ℕ) → IsSome (part_at keyed_links (content_of v) x) → LengthsAt v x
 lengths_at v x some = go (may_read v x) some
   where
     go : (b : Bool)
-        → IsSome (option_and_then entry_links (if b then rows_in (row v.known_words) x else None))
+        → IsSome (option_and_then keyed_links (if b then rows_in (row v.known_words) x else None))
         → LengthsAt v x
     go true some =
-        let i : EntryIn _ = entry_with entry_links _ (λ layer count first tail digest. refl) some in
+        let i : EntryIn _ = entry_with keyed_links _ (λ layer count first tail digest. refl) some in
         let bytes : HasBytes (Entry i.child i.next i.key i.value) = i.bytes in
         let three : row v.known_words x 3 ≡ length i.key + 256 * length i.value =
         sym (ap (λ (l : List ℕ). slice_index l 3) i.same) in

@@ -3,7 +3,7 @@ use Rattle.std.proofs.Common.{◌≡◌, ℕ, zero, suc, ◌+◌, ◌*◌, ◌<�
 use Rattle.std.specs.Prelude.{slice_index, slice_index_or, slice_range, option_and_then, IsSome}
 use Rattle.std.specs.List.{range_with_len}
 use Rattle.mst_arena.specs.Content.{part_at}
-use Rattle.mst_arena.specs.Row.{HasBytes, entry_links, entry_ends, entry_value}
+use Rattle.mst_arena.specs.Row.{HasBytes, keyed_links, bare_links, entry_value}
 use Rattle.mst_arena.specs.Words.{words_of, word_from, part_in}
 use Rattle.mst_arena.specs.declared.row.Row.{Row}
 use Rattle.mst_arena.specs.declared.row.Row.TheVariants.{Entry}
@@ -13,7 +13,7 @@ use Rattle.mst_arena.proofs.EntryParts.{links_in_words}
 use Rattle.mst_words.specs.declared.view.View.{View}
 use Rattle.mst_words.specs.Records.{row}
 use Rattle.mst_words.specs.Stored.{rows_in}
-use Rattle.mst_words.specs.Access.{may_read, content_of, HasEnds}
+use Rattle.mst_words.specs.Access.{may_read, content_of, IsPadded}
 
 key_ends : (words : List ℕ) → EntryIn words → slice_index words 3 % 256 ≡ 16
     → (0 ≡ slice_index words 6) × (0 ≡ slice_index words 7)
@@ -90,16 +90,16 @@ pub record ValueOf (v : View) (x : ℕ) : Type 0 where
       → (0 ≡ row v.known_words x 12) × (0 ≡ row v.known_words x 13)
       × (0 ≡ row v.known_words x 14) × (0 ≡ row v.known_words x 15)
 
-pub key_of : (v : View) (x : ℕ) → IsSome (part_at entry_links (content_of v) x) → KeyOf v x
+pub key_of : (v : View) (x : ℕ) → IsSome (part_at keyed_links (content_of v) x) → KeyOf v x
 key_of v x some = go (may_read v x) refl some
   where
     go : (b : Bool) → may_read v x ≡ b
-        → IsSome (option_and_then entry_links (if b then rows_in (row v.known_words) x else None))
+        → IsSome (option_and_then keyed_links (if b then rows_in (row v.known_words) x else None))
         → KeyOf v x
     go true e some = record {
       readable = e;
       ends = key_ends _
-          (entry_with entry_links _ (λ layer count first tail digest. refl) some);
+          (entry_with keyed_links _ (λ layer count first tail digest. refl) some);
     }
     go false e some = cc
 
@@ -120,7 +120,7 @@ value_of v x some = go (may_read v x) refl some
 pub record Source (v : View) (x : ℕ) : Type 0 where
   pub readable : may_read v x ≡ true
   pub kind : row v.known_words x 0 ≡ 1
-  pub ends : HasEnds (row v.known_words x 3) (row v.known_words x)
+  pub ends : IsPadded (row v.known_words x 3) (row v.known_words x)
 
 by_two : (f : ℕ → ℕ) → (0 ≡ f 6) × (0 ≡ f 7) → (k : ℕ) → k < 2 → f (6 + k) ≡ 0
 by_two f ends zero lt = sym ends.0
@@ -135,14 +135,14 @@ by_four f ends (suc (suc zero)) lt = sym ends.2
 by_four f ends (suc (suc (suc zero))) lt = sym ends.3
 by_four f ends (suc (suc (suc (suc k)))) lt = absurd (omega arith)
 
-pub source_of : (v : View) (x : ℕ) → IsSome (part_at entry_links (content_of v) x) → Source v x
+pub source_of : (v : View) (x : ℕ) → IsSome (part_at keyed_links (content_of v) x) → Source v x
 source_of v x some = go (may_read v x) refl some
   where
     go : (b : Bool) → may_read v x ≡ b
-        → IsSome (option_and_then entry_links (if b then rows_in (row v.known_words) x else None))
+        → IsSome (option_and_then keyed_links (if b then rows_in (row v.known_words) x else None))
         → Source v x
     go true e some =
-        let i = entry_with entry_links _ (λ layer count first tail digest. refl) some in
+        let i = entry_with keyed_links _ (λ layer count first tail digest. refl) some in
         record {
           readable = e;
           kind = sym (ap (λ (l : List ℕ). slice_index l 0) i.same);
@@ -157,7 +157,7 @@ source_of v x some = go (may_read v x) refl some
 
 -- the value that was read of the words of an entry
 pub value_read : (v : View) (x lengths : ℕ) (words : List ℕ) (value : Option (List ℕ))
-    → IsSome (part_at entry_links (content_of v) x) → lengths ≡ row v.known_words x 3
+    → IsSome (part_at keyed_links (content_of v) x) → lengths ≡ row v.known_words x 3
     → words ≡ map (row v.known_words x) (range_with_len 8 8)
     → ((all : List ℕ) → lengths ≡ slice_index all 3 → words ≡ slice_range all 8 16
     → IsSome (part_in entry_value all) → part_in entry_value all ≡ value)
@@ -165,10 +165,10 @@ pub value_read : (v : View) (x lengths : ℕ) (words : List ℕ) (value : Option
 value_read v x lengths words value some size is reads = go (may_read v x) some
   where
     go : (b : Bool)
-        → IsSome (option_and_then entry_links (if b then rows_in (row v.known_words) x else None))
+        → IsSome (option_and_then keyed_links (if b then rows_in (row v.known_words) x else None))
         → option_and_then entry_value (if b then rows_in (row v.known_words) x else None) ≡ value
     go true some =
-        let i = entry_with entry_links _ (λ layer count first tail digest. refl) some in
+        let i = entry_with keyed_links _ (λ layer count first tail digest. refl) some in
         reads _ size is (subst (λ (o : Option Row). IsSome (option_and_then entry_value o))
         (sym i.row) refl)
     go false some = cc
@@ -177,14 +177,14 @@ value_read v x lengths words value some size is reads = go (may_read v x) some
 pub record LinksAt (v : View) (x : ℕ) : Type 0 where
   pub child : row v.known_words x 1 ≤ 65535
   pub next : row v.known_words x 2 ≤ 65535
-  pub ends : part_at entry_ends (content_of v) x ≡ Some
+  pub ends : part_at bare_links (content_of v) x ≡ Some
       (record { child = row v.known_words x 1; next = row v.known_words x 2 })
 
-pub links_of : (v : View) (x : ℕ) → IsSome (part_at entry_links (content_of v) x) → LinksAt v x
+pub links_of : (v : View) (x : ℕ) → IsSome (part_at keyed_links (content_of v) x) → LinksAt v x
 links_of v x some = go (may_read v x) refl some
   where
     go : (b : Bool) → may_read v x ≡ b
-        → IsSome (option_and_then entry_links (if b then rows_in (row v.known_words) x else None))
+        → IsSome (option_and_then keyed_links (if b then rows_in (row v.known_words) x else None))
         → LinksAt v x
     go true e some = let w = links_in_words _ some in
         record { child = w.child; next = w.next; ends = rw e w.ends }

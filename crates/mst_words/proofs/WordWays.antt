@@ -4,7 +4,7 @@ use Rattle.std.specs.Prelude.{option_and_then, IsSome}
 use Rattle.mst_key.specs.Bytes.{IsKey, IsBytes}
 use Rattle.mst_node.specs.Trail.{by_order}
 use Rattle.mst_arena.specs.Content.{part_at}
-use Rattle.mst_arena.specs.Row.{entry_links}
+use Rattle.mst_arena.specs.Row.{keyed_links}
 use Rattle.mst_arena.specs.Lives as lives
 use Rattle.mst_arena.specs.Ways.{entry_way, stop_from, words_order}
 use Rattle.mst_arena.specs.declared.sought.Way.TheVariants.{Child, Here, Next}
@@ -28,11 +28,11 @@ pub record WayAt (k : List ℕ) (v : View) (x : ℕ) : Type 0 where
       (Next (row v.known_words x 2)))
 
 pub way_of_row : (k : List ℕ) (v : View) (x : ℕ) → IsKey k → IsBytes k
-    → IsSome (part_at entry_links (content_of v) x) → WayAt k v x
+    → IsSome (part_at keyed_links (content_of v) x) → WayAt k v x
 way_of_row k v x size all some = go (may_read v x) refl some
   where
     go : (b : Bool) → may_read v x ≡ b
-        → IsSome (option_and_then entry_links (if b then rows_in (row v.known_words) x else None))
+        → IsSome (option_and_then keyed_links (if b then rows_in (row v.known_words) x else None))
         → WayAt k v x
     go true e some = let w = way_in_words k _ size all some in
         record { readable = e; child = w.child; next = w.next; way = rw e w.way }

@@ -63,8 +63,8 @@ is_unreached v x = all_below (v.passes + 2) (λ r. list_any (eqb r) v.drained
     || not (lives.reaches v.desk.lives (version_of v.desk r) x))
 
 -- the holder of the turn, which knows the words, may write such rows, before it publishes
-abbrev pub is_blank : View → ℕ → Bool
-is_blank v x = nat_lt (row_word x 15) (length v.known_words) && nat_lt x v.rows && v.turn
+abbrev pub may_write : View → ℕ → Bool
+may_write v x = nat_lt (row_word x 15) (length v.known_words) && nat_lt x v.rows && v.turn
     && is_none v.pin && is_none v.due && is_unreached v x
 
 -- the first n words of a row are those of a list, and no other word has changed
@@ -82,7 +82,7 @@ pub record PartStored (x at n : ℕ) (word : ℕ → ℕ) (old new : List ℕ) :
       → slice_index new i ≡ slice_index old i
 
 -- if these are the lengths of a key of 16 bytes and a value of 32, the words behind both are 0
-pub record HasEnds (lengths : ℕ) (word : ℕ → ℕ) : Type 0 where
+pub record IsPadded (lengths : ℕ) (word : ℕ → ℕ) : Type 0 where
   pub key : lengths ≡ 16 + 256 * 32 → (k : ℕ) → k < 2 → word (6 + k) ≡ 0
   pub value : lengths ≡ 16 + 256 * 32 → (k : ℕ) → k < 4 → word (12 + k) ≡ 0
 

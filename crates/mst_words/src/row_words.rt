@@ -7,9 +7,9 @@ ghost use Rattle.mst_key.specs.Map.{Pair};
 ghost use Rattle.std.specs.List.{range_with_len};
 ghost use Rattle.mst_words.specs.Layout.{row_words, row_word};
 ghost use Rattle.mst_words.specs.Records as records;
-ghost use Rattle.mst_words.specs.Access.{IsAt, may_read, content_of, is_blank, RowStored, PartStored, HasEnds, relinked_list};
+ghost use Rattle.mst_words.specs.Access.{IsAt, may_read, content_of, may_write, RowStored, PartStored, IsPadded, relinked_list};
 ghost use Rattle.mst_arena.specs.Content.{part_at};
-ghost use Rattle.mst_arena.specs.Row.{entry_links, entry_ends, entry_pair, entry_value};
+ghost use Rattle.mst_arena.specs.Row.{keyed_links, bare_links, entry_pair, entry_value};
 ghost use Rattle.mst_arena.specs.Words.{lengths_word, first_key_word, first_value_word};
 
 use crate::board::{Board, Token};
@@ -17,7 +17,7 @@ use crate::layout::{
     CHILD_WORD, FIRST_KEY_WORD, FIRST_ROW, FIRST_VALUE_WORD, LENGTHS_WORD, NEXT_WORD, ROW_WORDS,
     row_word,
 };
-use mst_arena::{Links, Row};
+use mst_arena::{BareLinks, Row};
 use mst_key::{Key, Value};
 use std::alloc::Allocator;
 
@@ -77,16 +77,16 @@ impl<A: Allocator + Copy> Board<A> {
 
     /// The links of an entry: two loads.
     #[inline(always)]
-    pub(crate) fn links(&self, seat: &mut Token<A>, row: u32) -> Links
+    pub(crate) fn links(&self, seat: &mut Token<A>, row: u32) -> BareLinks
         requires own { IsAt self.now seat.old.table_id seat.old.me.0.rows }
-        requires there { IsSome (part_at entry_links (content_of seat.old.me.0) row) }
-        ensures value { part_at entry_ends (content_of seat.old.me.0) row ≡ Some result }
+        requires there { IsSome (part_at keyed_links (content_of seat.old.me.0) row) }
+        ensures value { part_at bare_links (content_of seat.old.me.0) row ≡ Some result }
         ensures same { (seat.new.table_id ≡ seat.old.table_id) × (seat.new.id ≡ seat.old.id)
             × (seat.new.me ≡ seat.old.me) }
     {
         let child = self.word(seat, row, CHILD_WORD);
         let next = self.word(seat, row, NEXT_WORD);
-        Links {
+        BareLinks {
             child: child as u32,
             next: next as u32,
         }
@@ -96,7 +96,7 @@ impl<A: Allocator + Copy> Board<A> {
     #[inline(always)]
     fn key_words(&self, seat: &mut Token<A>, row: u32, lengths: u64) -> [u64; 4]
         requires own { IsAt self.now seat.old.table_id seat.old.me.0.rows }
-        requires there { IsSome (part_at entry_links (content_of seat.old.me.0) row) }
+        requires there { IsSome (part_at keyed_links (content_of seat.old.me.0) row) }
         requires lengths { lengths ≡ records.row seat.old.me.0.known_words row lengths_word }
         ensures words { result
             ≡ map (records.row seat.old.me.0.known_words row) (range_with_len first_key_word 4) }
@@ -134,7 +134,7 @@ impl<A: Allocator + Copy> Board<A> {
     #[inline(always)]
     pub(crate) fn pair_by(&self, seat: &mut Token<A>, row: u32, lengths: u64) -> (Key, Value)
         requires own { IsAt self.now seat.old.table_id seat.old.me.0.rows }
-        requires there { IsSome (part_at entry_links (content_of seat.old.me.0) row) }
+        requires there { IsSome (part_at keyed_links (content_of seat.old.me.0) row) }
         requires lengths { lengths ≡ records.row seat.old.me.0.known_words row lengths_word }
         ensures pair { part_at entry_pair (content_of seat.old.me.0) row ≡ Some result }
         ensures same { (seat.new.table_id ≡ seat.old.table_id) × (seat.new.id ≡ seat.old.id)
@@ -153,7 +153,7 @@ impl<A: Allocator + Copy> Board<A> {
     #[inline(always)]
     pub(crate) fn pair(&self, seat: &mut Token<A>, row: u32) -> (Key, Value)
         requires own { IsAt self.now seat.old.table_id seat.old.me.0.rows }
-        requires there { IsSome (part_at entry_links (content_of seat.old.me.0) row) }
+        requires there { IsSome (part_at keyed_links (content_of seat.old.me.0) row) }
         ensures pair { part_at entry_pair (content_of seat.old.me.0) row ≡ Some result }
         ensures same { (seat.new.table_id ≡ seat.old.table_id) × (seat.new.id ≡ seat.old.id)
             × (seat.new.me ≡ seat.old.me) }
@@ -176,7 +176,7 @@ impl<A: Allocator + Copy> Board<A> {
         list: &mut Vec<(Key, Value), B>,
     )
         requires own { IsAt self.now seat.old.table_id seat.old.me.0.rows }
-        requires there { IsSome (part_at entry_links (content_of seat.old.me.0) row) }
+        requires there { IsSome (part_at keyed_links (content_of seat.old.me.0) row) }
         requires room { length list.old.items < vec_capacity list.old }
         ensures pushed { (pair : Pair)
             → part_at entry_pair (content_of seat.old.me.0) row ≡ Some pair
@@ -198,7 +198,7 @@ impl<A: Allocator + Copy> Board<A> {
     #[inline(always)]
     fn store_word(&self, seat: &mut Token<A>, row: u32, k: usize, value: u64, looks: bool)
         requires own { IsAt self.now seat.old.table_id seat.old.me.0.rows }
-        requires blank { IsTrue (is_blank seat.old.me.0 row) }
+        requires blank { IsTrue (may_write seat.old.me.0 row) }
         requires there { k < row_words }
         ensures same { (seat.new.table_id ≡ seat.old.table_id) × (seat.new.id ≡ seat.old.id) }
         ensures stored { seat.new.me ≡ (
@@ -224,7 +224,7 @@ impl<A: Allocator + Copy> Board<A> {
         words: &[u64; N],
     )
         requires own { IsAt self.now seat.old.table_id seat.old.me.0.rows }
-        requires blank { IsTrue (is_blank seat.old.me.0 row) }
+        requires blank { IsTrue (may_write seat.old.me.0 row) }
         requires there { N ≤ row_words }
         ensures same { (seat.new.table_id ≡ seat.old.table_id) × (seat.new.id ≡ seat.old.id)
             × (seat.new.me ≡ (
@@ -255,7 +255,7 @@ impl<A: Allocator + Copy> Board<A> {
     ) -> [u64; N]
         requires own { IsAt self.now seat.old.table_id seat.old.me.0.rows }
         requires readable { may_read seat.old.me.0 from ≡ true }
-        requires blank { IsTrue (is_blank seat.old.me.0 to) }
+        requires blank { IsTrue (may_write seat.old.me.0 to) }
         requires there { at + (N + M) ≤ row_words }
         requires zeros { (k : ℕ) → k < M
             → records.row seat.old.me.0.known_words from (at + (N + k)) ≡ 0 }
@@ -287,8 +287,8 @@ impl<A: Allocator + Copy> Board<A> {
     fn copy_bytes(&self, seat: &mut Token<A>, from: u32, to: u32, lengths: u64) -> [u64; 8]
         requires own { IsAt self.now seat.old.table_id seat.old.me.0.rows }
         requires readable { may_read seat.old.me.0 from ≡ true }
-        requires blank { IsTrue (is_blank seat.old.me.0 to) }
-        requires ends { HasEnds lengths (records.row seat.old.me.0.known_words from) }
+        requires blank { IsTrue (may_write seat.old.me.0 to) }
+        requires ends { IsPadded lengths (records.row seat.old.me.0.known_words from) }
         ensures value { result
             ≡ map (records.row seat.old.me.0.known_words from) (range_with_len first_value_word 8) }
         ensures same { (seat.new.table_id ≡ seat.old.table_id) × (seat.new.id ≡ seat.old.id)
@@ -328,9 +328,9 @@ impl<A: Allocator + Copy> Board<A> {
     ) -> (u64, [u64; 8])
         requires own { IsAt self.now seat.old.table_id seat.old.me.0.rows }
         requires readable { may_read seat.old.me.0 from ≡ true }
-        requires blank { IsTrue (is_blank seat.old.me.0 to) }
+        requires blank { IsTrue (may_write seat.old.me.0 to) }
         requires kind { records.row seat.old.me.0.known_words from 0 ≡ 1 }
-        requires ends { HasEnds (records.row seat.old.me.0.known_words from lengths_word)
+        requires ends { IsPadded (records.row seat.old.me.0.known_words from lengths_word)
             (records.row seat.old.me.0.known_words from) }
         ensures lengths { result.0 ≡ records.row seat.old.me.0.known_words from lengths_word }
         ensures value { result.1

@@ -2,18 +2,18 @@
 ghost use Rattle.std.specs.Prelude.{◌≡◌, ◌+◌, ◌<◌, ◌≤◌, map, true, IsTrue, IsSome, Some};
 ghost use Rattle.std.specs.List.{range_with_len};
 ghost use Rattle.mst_arena.specs.Content.{Writes, part_at};
-ghost use Rattle.mst_arena.specs.Row.{entry_links, entry_value};
+ghost use Rattle.mst_arena.specs.Row.{keyed_links, entry_value};
 ghost use Rattle.mst_arena.specs.Words.{row_in, lengths_word, first_value_word};
 ghost use Rattle.mst_arena.specs.declared.row.Row.{Row};
 ghost use Rattle.mst_words.specs.Layout.{row_words};
 ghost use Rattle.mst_words.specs.Records as records;
-ghost use Rattle.mst_words.specs.Access.{may_read, is_blank, content_of, beside, relinked_list};
+ghost use Rattle.mst_words.specs.Access.{may_read, may_write, content_of, beside, relinked_list};
 
 use crate::layout::{
     CHILD_WORD, FIRST_DIGEST_WORD, FIRST_KEY_WORD, LAYER_WORD, LENGTHS_WORD, ROW_WORDS,
 };
 use crate::seat::PassSeat;
-use mst_arena::{EntryLinks, HeadLinks, Links, Row, Rows, Sought, Stop, Way};
+use mst_arena::{BareLinks, HeadLinks, KeyedLinks, Row, Rows, Sought, Stop, Way};
 use mst_key::{Format, Key, Value};
 use mst_node::TextSink;
 use std::alloc::Allocator;
@@ -43,7 +43,7 @@ impl<'a, A: Allocator + Copy> PassSeat<'a, A> {
     // Words 1 to 7 of an entry's row. Behind a key of 16 bytes they are 0, and not loaded.
     #[inline(always)]
     fn entry_words(&mut self, row: u32) -> [u64; 7]
-        requires there { IsSome (part_at entry_links (content_of self.old.me.0) row) }
+        requires there { IsSome (part_at keyed_links (content_of self.old.me.0) row) }
         ensures words { result
             ≡ map (records.row self.old.me.0.known_words row) (range_with_len 1 7) }
         ensures same { self.new ≡ self.old }
@@ -60,10 +60,10 @@ impl<'a, A: Allocator + Copy> PassSeat<'a, A> {
 
     // Makes the words of a blank row these.
     fn store_words(&mut self, row: u32, words: &[u64; ROW_WORDS])
-        requires blank { IsTrue (is_blank self.old.me.0 row) }
+        requires blank { IsTrue (may_write self.old.me.0 row) }
         ensures writes { (value : Row) → row_in words.now ≡ Some value
             → Writes (content_of self.old.me.0) (content_of self.new.me.0) row value }
-        ensures blank { is_blank self.new.me.0 ≡ is_blank self.old.me.0 }
+        ensures blank { may_write self.new.me.0 ≡ may_write self.old.me.0 }
         ensures kept { beside self.new ≡ beside self.old }
     {
         self.board.store_words(&mut self.token, row, words);
@@ -72,8 +72,8 @@ impl<'a, A: Allocator + Copy> PassSeat<'a, A> {
     // Copies an entry's words into a blank row, with another child and another next. It returns
     // the word of its lengths, and those of its value.
     fn copy_words(&mut self, from: u32, to: u32, child: u32, next: u32) -> (u64, [u64; 8])
-        requires there { IsSome (part_at entry_links (content_of self.old.me.0) from) }
-        requires blank { IsTrue (is_blank self.old.me.0 to) }
+        requires there { IsSome (part_at keyed_links (content_of self.old.me.0) from) }
+        requires blank { IsTrue (may_write self.old.me.0 to) }
         ensures lengths { result.0 ≡ records.row self.old.me.0.known_words from lengths_word }
         ensures value { result.1
             ≡ map (records.row self.old.me.0.known_words from) (range_with_len first_value_word 8) }
@@ -81,7 +81,7 @@ impl<'a, A: Allocator + Copy> PassSeat<'a, A> {
             → row_in (relinked_list (records.row self.old.me.0.known_words from) child next)
             ≡ Some value
             → Writes (content_of self.old.me.0) (content_of self.new.me.0) to value }
-        ensures blank { is_blank self.new.me.0 ≡ is_blank self.old.me.0 }
+        ensures blank { may_write self.new.me.0 ≡ may_write self.old.me.0 }
         ensures kept { beside self.new ≡ beside self.old }
     {
         self.board
@@ -90,11 +90,11 @@ impl<'a, A: Allocator + Copy> PassSeat<'a, A> {
 }
 
 impl<'a, A: Allocator + Copy> Rows for PassSeat<'a, A> {
-    ghost use Rattle.mst_words.specs.Access.{content_of, is_blank, Beside, beside};
+    ghost use Rattle.mst_words.specs.Access.{content_of, may_write, Beside, beside};
 
     ghost content = { λ c. content_of c.me.0 };
 
-    ghost blank = { λ c. is_blank c.me.0 };
+    ghost blank = { λ c. may_write c.me.0 };
 
     ghost Kept = { Beside };
 
@@ -133,15 +133,15 @@ impl<'a, A: Allocator + Copy> Rows for PassSeat<'a, A> {
     }
 
     #[inline(always)]
-    fn entry(&mut self, row: u32) -> EntryLinks {
-        match EntryLinks::read(&self.entry_words(row)) {
+    fn entry(&mut self, row: u32) -> KeyedLinks {
+        match KeyedLinks::read(&self.entry_words(row)) {
             Some(links) => links,
             None => unreachable!(),
         }
     }
 
     #[inline(always)]
-    fn links(&mut self, row: u32) -> Links {
+    fn links(&mut self, row: u32) -> BareLinks {
         self.board.links(&mut self.token, row)
     }
 

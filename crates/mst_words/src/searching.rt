@@ -8,7 +8,7 @@ ghost use Rattle.std.specs.Ordering.{nat_cmp, ordering_then};
 ghost use Rattle.std.specs.declared.cmp.Ordering.TheVariants.{Equal};
 ghost use Rattle.mst_key.specs.Bytes.{IsKey, IsBytes};
 ghost use Rattle.mst_arena.specs.Content.{part_at};
-ghost use Rattle.mst_arena.specs.Row.{entry_links};
+ghost use Rattle.mst_arena.specs.Row.{keyed_links};
 ghost use Rattle.mst_arena.specs.Ways.{entry_way, stop_from, words_order};
 ghost use Rattle.mst_arena.specs.Words.{word_from};
 ghost use Rattle.mst_words.specs.Layout.{row_words};
@@ -116,7 +116,7 @@ impl<A: Allocator + Copy> Board<A> {
     /// Where a search for the key goes on from the entry at this number.
     pub(crate) fn way(&self, seat: &mut Token<A>, row: u32, key: &Sought) -> Way
         requires own { IsAt self.now seat.old.table_id seat.old.me.0.rows }
-        requires there { IsSome (part_at entry_links (content_of seat.old.me.0) row) }
+        requires there { IsSome (part_at keyed_links (content_of seat.old.me.0) row) }
         ensures way { part_at (entry_way key.now) (content_of seat.old.me.0) row ≡ Some result }
         ensures same { (seat.new.table_id ≡ seat.old.table_id) × (seat.new.id ≡ seat.old.id)
             × (seat.new.me ≡ seat.old.me) }

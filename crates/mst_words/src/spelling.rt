@@ -4,7 +4,7 @@ ghost use Rattle.mst_key.specs.Bytes.{IsKey, IsValue};
 ghost use Rattle.mst_key.specs.Map.{Pair};
 ghost use Rattle.mst_node.specs.Text.{child_text, counted, held_of, held_text};
 ghost use Rattle.mst_arena.specs.Content.{part_at};
-ghost use Rattle.mst_arena.specs.Row.{entry_links, entry_pair};
+ghost use Rattle.mst_arena.specs.Row.{keyed_links, entry_pair};
 ghost use Rattle.mst_words.specs.Access.{IsAt, content_of};
 
 use crate::board::{Board, Token};
@@ -26,7 +26,7 @@ impl<A: Allocator + Copy> Board<A> {
         sink: &mut S,
     )
         requires own { IsAt self.now seat.old.table_id seat.old.me.0.rows }
-        requires there { IsSome (part_at entry_links (content_of seat.old.me.0) row) }
+        requires there { IsSome (part_at keyed_links (content_of seat.old.me.0) row) }
         ensures entry { (pair : Pair)
             → part_at entry_pair (content_of seat.old.me.0) row ≡ Some pair
             → (m : List ℕ) → S.took sink.old m
@@ -54,7 +54,7 @@ impl<A: Allocator + Copy> Board<A> {
         sink: &mut S,
     )
         requires own { IsAt self.now seat.old.table_id seat.old.me.0.rows }
-        requires there { IsSome (part_at entry_links (content_of seat.old.me.0) row) }
+        requires there { IsSome (part_at keyed_links (content_of seat.old.me.0) row) }
         ensures entry { (pair : Pair)
             → part_at entry_pair (content_of seat.old.me.0) row ≡ Some pair
             → (m : List ℕ) → S.took sink.old m
@@ -82,7 +82,7 @@ impl<A: Allocator + Copy> Board<A> {
         sink: &mut S,
     )
         requires own { IsAt self.now seat.old.table_id seat.old.me.0.rows }
-        requires there { IsSome (part_at entry_links (content_of seat.old.me.0) row) }
+        requires there { IsSome (part_at keyed_links (content_of seat.old.me.0) row) }
         ensures entry { (pair : Pair)
             → part_at entry_pair (content_of seat.old.me.0) row ≡ Some pair
             → (m : List ℕ) → S.took sink.old m
@@ -113,7 +113,7 @@ impl<A: Allocator + Copy> Board<A> {
         sink: &mut S,
     )
         requires own { IsAt self.now seat.old.table_id seat.old.me.0.rows }
-        requires there { IsSome (part_at entry_links (content_of seat.old.me.0) row) }
+        requires there { IsSome (part_at keyed_links (content_of seat.old.me.0) row) }
         ensures entry { (pair : Pair)
             → part_at entry_pair (content_of seat.old.me.0) row ≡ Some pair
             → (m : List ℕ) → S.took sink.old m

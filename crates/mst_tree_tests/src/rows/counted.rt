@@ -1,7 +1,7 @@
 //! Plain rows that count what is read of them.
 ghost use Rattle.std.specs.Prelude.{◌≡◌, ◌≤◌, ◌<◌, None, IfOk, replicate};
 
-use mst_arena::{EntryLinks, HeadLinks, Links, PlainRows, Row, Rows};
+use mst_arena::{BareLinks, HeadLinks, KeyedLinks, PlainRows, Row, Rows};
 use mst_key::{Key, Memory, Value};
 use std::alloc::{Allocator, Global};
 use std::marker::Model;
@@ -98,12 +98,12 @@ impl<A: Allocator> Rows for CountedRows<A> {
         self.rows.digest(row)
     }
 
-    fn entry(&mut self, row: u32) -> EntryLinks {
+    fn entry(&mut self, row: u32) -> KeyedLinks {
         self.reads.entries = self.reads.entries.saturating_add(1);
         self.rows.entry(row)
     }
 
-    fn links(&mut self, row: u32) -> Links {
+    fn links(&mut self, row: u32) -> BareLinks {
         self.reads.entries = self.reads.entries.saturating_add(1);
         self.rows.links(row)
     }

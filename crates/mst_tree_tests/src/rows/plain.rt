@@ -1,7 +1,7 @@
 //! What no clause says: worked examples, printed text, and each growth refused in turn.
 ghost use Rattle.std.specs.Prelude.{◌≡◌, IsSome, replicate};
 ghost use Rattle.mst_arena.specs.Content.{part_at};
-ghost use Rattle.mst_arena.specs.Row.{IsRow, entry_links};
+ghost use Rattle.mst_arena.specs.Row.{IsRow, keyed_links};
 ghost use Rattle.mst_arena.specs.declared.life.Life.TheVariants.{Free};
 
 use super::{entry_is, entry_of, free_after, head_is, row_is};
@@ -109,7 +109,7 @@ fn parts_by_default_are_those_of_the_row(rt: HostRuntime) {
 
 /// Whether this is the way from the entry at number 0 to a key.
 fn way_is<R: Rows>(rt: &impl Abort, rows: &mut R, key: &[u8], wanted: Way) -> bool
-    requires links { IsSome (part_at entry_links (R.content rows.old) 0) }
+    requires links { IsSome (part_at keyed_links (R.content rows.old) 0) }
     ensures same { rows.new ≡ rows.old }
 {
     rows.way(0, &Sought::new(&key_of(rt, key))) == wanted

@@ -3,7 +3,7 @@ ghost use Rattle.std.specs.Prelude.{◌≡◌, IfOk, length};
 
 use crate::confirming::{confirm, confirm_at, few};
 use crate::pairs::{THREE_PAIRS, numbered, prints, spelt};
-use mst_arena::{Desk, EntryLinks, HeadLinks, Root, Row, Rows};
+use mst_arena::{Desk, HeadLinks, KeyedLinks, Root, Row, Rows};
 use mst_key::{Format, Key, Memory, Value};
 use mst_node::{build, root_of};
 use mst_path::{NoRoom, plant};
@@ -94,7 +94,7 @@ fn head_at(rt: &impl Abort, places: &[Option<Row>], link: u32) -> HeadLinks {
 }
 
 /// Links, key and value of the entry at a link.
-fn entry_at(rt: &impl Abort, places: &[Option<Row>], link: u32) -> (EntryLinks, Value) {
+fn entry_at(rt: &impl Abort, places: &[Option<Row>], link: u32) -> (KeyedLinks, Value) {
     match row_at(places, link) {
         Some(
             Row::Entry {
@@ -104,7 +104,7 @@ fn entry_at(rt: &impl Abort, places: &[Option<Row>], link: u32) -> (EntryLinks, 
                 value,
             },
         ) => {
-            let links = EntryLinks {
+            let links = KeyedLinks {
                 child: *child,
                 next: *next,
                 key: key.copy(),

@@ -2,7 +2,7 @@
 use super::entry_of;
 use crate::confirming::{confirm, confirm_at};
 use crate::pairs::pair;
-use mst_arena::{EntryLinks, HeadLinks, Row};
+use mst_arena::{HeadLinks, KeyedLinks, Row};
 use std::process::Abort;
 
 // The words of the key `ab` with the value `xyz`, and of a head, by hand.
@@ -111,13 +111,13 @@ fn words_with_a_fault_are_no_row(rt: HostRuntime) {
 /// Whether the parts of an entry, the links with the key and the value, are read from their words.
 fn entry_is_read(rt: &impl Abort) -> bool {
     let (key, value) = pair(rt, b"ab", b"xyz");
-    let links = EntryLinks {
+    let links = KeyedLinks {
         child: 7,
         next: 9,
         key,
     };
     let lengths = 2 + 256 * 3;
-    EntryLinks::read(&[7, 9, lengths, 0x6162_0000_0000_0000, 0, 0, 0]) == Some(links)
+    KeyedLinks::read(&[7, 9, lengths, 0x6162_0000_0000_0000, 0, 0, 0]) == Some(links)
         && Row::read_value(lengths, &[0x7879_7a00_0000_0000, 0, 0, 0, 0, 0, 0, 0]) == Some(value)
 }
 
@@ -157,7 +157,7 @@ const NO_ENTRIES: &[([u64; 7], &str)] = &[
 
 /// Whether these words are of no entry.
 fn is_no_entry(words: &[u64; 7]) -> bool {
-    EntryLinks::read(words).is_none()
+    KeyedLinks::read(words).is_none()
 }
 
 /// Whether these lengths and words are of no value.

@@ -1,7 +1,7 @@
 use Rattle.std.proofs.Common.{◌≡◌, ℕ, zero, suc, ◌+◌, ◌-◌, ◌<◌, Bool, false, true≢false, List, [], Some, IsSome, sym, ◌∙◌, ap, subst, arith, rules}
 use Rattle.mst_arena.specs.Content.{Content, part_at}
 use Rattle.mst_arena.specs.Lives.{State}
-use Rattle.mst_arena.specs.Row.{entry_links}
+use Rattle.mst_arena.specs.Row.{keyed_links}
 use Rattle.mst_path.specs.Felling.{ToFell}
 use Rattle.mst_path.specs.Joining.{height_at}
 use Rattle.mst_path.specs.Moves.{Moves}
@@ -52,7 +52,7 @@ module _ (g : Over) (t : ℕ) (c : After-kill-in-loop g t)
       at_entry _ _ _ _ _ _ _ _ _ _ _ (c.loop.invariant.felling z) (fallen_in c.args.kept.now)
       c.loop-test.true
       c.entry-entry.result
-      (subst (λ (x : Content). part_at entry_links x (c.loop.next - 1) ≡ Some c.entry-entry.result)
+      (subst (λ (x : Content). part_at keyed_links x (c.loop.next - 1) ≡ Some c.entry-entry.result)
       (ap g.R.Rows.content c.loop.invariant.same) c.entry-entry.ensures.value)
 
   same_rows : g.R.Rows.content c.entry-entry.new.self ≡ g.R.Rows.content c.args.rows.now
@@ -163,7 +163,7 @@ pub entry-entry-requires : goal.entry-entry-requires
 entry-entry-requires g t c =
     record {
       there =
-          subst (λ (x : Content). IsSome (part_at entry_links x (c.loop.next - 1)))
+          subst (λ (x : Content). IsSome (part_at keyed_links x (c.loop.next - 1)))
           (sym (ap g.R.Rows.content c.loop.invariant.same))
           (entry_there _ _ _ _ _ _ _ _ _ _ _ (c.loop.invariant.felling c.requires.tree)
           c.loop-test.true).0;

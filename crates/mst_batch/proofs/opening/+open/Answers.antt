@@ -6,7 +6,7 @@ use Rattle.mst_key.specs.declared.history.Edit.{Edit}
 use Rattle.mst_key.specs.History.{batched}
 use Rattle.mst_node.specs.Tree.{pairs}
 use Rattle.mst_arena.specs.Content.{Content, part_at}
-use Rattle.mst_arena.specs.Row.{entry_links, entry_value}
+use Rattle.mst_arena.specs.Row.{keyed_links, entry_value}
 use Rattle.mst_arena.specs.Standing.{Placed, tree_of}
 use Rattle.mst_path.specs.Joining.{height_at}
 use Rattle.mst_path.proofs.lemmas.steps.Felling.{height_read}
@@ -86,7 +86,7 @@ module _ (g : Over) (t : ℕ) (c : After-entry-entry g t) (whole : Placed)
   entry =
       at_entry _ _ _ _ _ _ _ _ _ _ _ _ (c.loop.invariant.opening whole part) c.args.link part
       c.loop-test.true c.entry-entry.result
-      (subst (λ (x : Content). part_at entry_links x (c.loop.next - 1) ≡ Some c.entry-entry.result)
+      (subst (λ (x : Content). part_at keyed_links x (c.loop.next - 1) ≡ Some c.entry-entry.result)
       (ap g.R.Rows.content c.loop.invariant.same) c.entry-entry.ensures.value)
 
   same_rows : g.R.Rows.content c.entry-entry.new.self ≡ g.R.Rows.content c.args.rows.now
@@ -255,7 +255,7 @@ entry-entry-requires g t c =
     let part = c.requires.part in
     record {
       there =
-          subst (λ (x : Content). IsSome (part_at entry_links x (c.loop.next - 1)))
+          subst (λ (x : Content). IsSome (part_at keyed_links x (c.loop.next - 1)))
           (sym (ap g.R.Rows.content c.loop.invariant.same))
           (entry_there _ _ _ _ _ _ _ _ _ _ _ _ (c.loop.invariant.opening part.0 part.1)
           c.loop-test.true).0;

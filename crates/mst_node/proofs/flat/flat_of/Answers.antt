@@ -34,9 +34,9 @@ pub returns-then-has_body : goal.returns-then-has_body
 unfolding node_at
 returns-then-has_body c = grind (arith, common_steps)
 
-pub returns-else-version-format_byte : goal.returns-else-version-format_byte
+pub returns-else-first_byte-format_byte : goal.returns-else-first_byte-format_byte
 unfolding node_at
-returns-else-version-format_byte c = grind (arith, common_steps)
+returns-else-first_byte-format_byte c = grind (arith, common_steps)
 
 pub returns-in_default : goal.returns-in_default
 unfolding node_at

@@ -4,7 +4,7 @@ use Rattle.std.proofs.lemmas.List.{take_more}
 use Rattle.std.specs.List.{AllByRecursion}
 use Rattle.mst_key.specs.Bytes.{IsKey, IsValue}
 use Rattle.mst_key.specs.Map.{Pair}
-use Rattle.mst_node.proofs.RisingKeys.{all-push}
+use Rattle.mst_key.proofs.Alls.{alls-append}
 use Rattle.mst_node.proofs.order.is_map.Goals as goal
 
 abbrev Fits : Pair → Type 0
@@ -18,7 +18,8 @@ loop-pair-preserved c =
     let more : take (i + 1) m ≡ take i m ++ x ∷ [] = take_more m i x c.loop-pair-test.true
     ∙ ap (λ (y : Pair). take i m ++ y ∷ []) (sym c.pair-item.is) in
     subst (AllByRecursion Fits) (sym more)
-    (all-push Fits (take i m) x c.loop-pair.invariant c.within_limits.ensures.limits)
+    (alls-append Fits (take i m) (x ∷ []) c.loop-pair.invariant
+    ((c.key_limits.ensures.limits, c.value_limits.ensures.limits), tt))
 
 pub returns : goal.returns
 returns c =

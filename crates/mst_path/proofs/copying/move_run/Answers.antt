@@ -1,7 +1,7 @@
 use Rattle.std.proofs.Common.{◌≡◌, ◌+◌, ◌-◌, ℕ, Bool, List, [], ◌∷◌, ◌++◌, Some, IfSome, IsTrue, refl, sym, ◌∙◌, ap, subst, arith}
 use Rattle.mst_key.specs.declared.format.Format.{Format}
 use Rattle.mst_arena.specs.Content.{Content, part_at}
-use Rattle.mst_arena.specs.Row.{entry_links}
+use Rattle.mst_arena.specs.Row.{keyed_links}
 use Rattle.mst_arena.specs.Standing.{link_of, rows_of, HasRows}
 use Rattle.mst_path.specs.Takes.{KeepsBut}
 use Rattle.mst_path.specs.Moves.{Moves}
@@ -234,6 +234,6 @@ returns-clause-next g c = c.loop.invariant.next
 
 pub move_entry-requires-clause-entry : goal.move_entry-requires-clause-entry
 move_entry-requires-clause-entry g c =
-    subst (λ (x : Content). part_at entry_links x (c.loop.link - 1) ≡ Some c.entry-entry.result)
+    subst (λ (x : Content). part_at keyed_links x (c.loop.link - 1) ≡ Some c.entry-entry.result)
     (sym (ap g.R.Rows.content (c.root_at-child.ensures.same ∙ c.entry-entry.ensures.same)))
     c.entry-entry.ensures.value

@@ -1,9 +1,9 @@
 use Rattle.mst_key.specs.declared.format.Format.TheVariants.{One}
 use Rattle.std.proofs.Common.{◌≡◌, ◌-◌, ◌+◌, ℕ, List, Some, IsSome, refl, ◌∙◌, sym, ap, subst, arith}
 use Rattle.mst_arena.specs.Content.{Content, part_at}
-use Rattle.mst_arena.specs.Row.{entry_links}
+use Rattle.mst_arena.specs.Row.{keyed_links}
 use Rattle.mst_arena.specs.Ways.{entry_way, way_at}
-use Rattle.mst_arena.specs.declared.row.EntryLinks.{EntryLinks}
+use Rattle.mst_arena.specs.declared.row.KeyedLinks.{KeyedLinks}
 use Rattle.mst_arena.specs.declared.sought.Way.TheVariants.{Here}
 use Rattle.mst_arena.proofs.WayLemmas.{way_is, to_child, is_here, to_next}
 use Rattle.mst_path.specs.declared.making.Run.{Run}
@@ -29,8 +29,8 @@ module _ (g : Over) (c : goal.In-loop-count g) where
       at_entry One _ _ _ _ _ _
       (c.loop-count.invariant.onward One c.requires.lies.0 c.requires.lies.1) c.loop-count-test.true
 
-  there : IsSome (part_at entry_links (g.R.Rows.content c.loop-count.rows) (c.loop-count.link - 1))
-  there = subst (λ (x : Content). IsSome (part_at entry_links x (c.loop-count.link - 1)))
+  there : IsSome (part_at keyed_links (g.R.Rows.content c.loop-count.rows) (c.loop-count.link - 1))
+  there = subst (λ (x : Content). IsSome (part_at keyed_links x (c.loop-count.link - 1)))
       (sym (ap g.R.Rows.content c.loop-count.invariant.same)) (links_there _ _ _ _ _ next.row)
 
 pub overflow_sub-row : goal.overflow_sub-row
@@ -42,7 +42,7 @@ way-requires g c = record { there = there g (goal.at.way-requires g c).In-loop-c
 pub entry-entry-requires : goal.entry-entry-requires
 entry-entry-requires g c =
     record {
-      there = subst (λ (x : Content). IsSome (part_at entry_links x (c.loop-count.link - 1)))
+      there = subst (λ (x : Content). IsSome (part_at keyed_links x (c.loop-count.link - 1)))
           (sym (ap g.R.Rows.content c.way.ensures.same))
           (there g (goal.at.entry-entry-requires g c).In-loop-count);
     }
@@ -56,8 +56,8 @@ module _ (g : Over) (c : goal.After-way g) where
 
   -- its links, and the way by them
   way_on : (es : List PlacedEntry) → EntriesLie (g.R.Rows.content c.args.rows.now) c.args.head.now
-      es → (e : EntryLinks)
-      × (part_at entry_links (g.R.Rows.content c.args.rows.now) (c.loop-count.link - 1) ≡ Some e)
+      es → (e : KeyedLinks)
+      × (part_at keyed_links (g.R.Rows.content c.args.rows.now) (c.loop-count.link - 1) ≡ Some e)
       × (way_at c.args.key.now e.child e.next e.key ≡ c.way.result)
   way_on es lie =
       let links = next_links One _ _ _ _ _ _ (c.loop-count.invariant.onward One es lie)
@@ -82,7 +82,7 @@ returns-in-Child-clause-cut g c format es tail lie tail_is =
 pub returns-in-Here-clause-cut : goal.returns-in-Here-clause-cut
 returns-in-Here-clause-cut g c format es tail lie tail_is =
     let e = c.entry-entry.result in
-    let part : part_at entry_links (g.R.Rows.content c.args.rows.now) (c.loop-count.link - 1) ≡ Some
+    let part : part_at keyed_links (g.R.Rows.content c.args.rows.now) (c.loop-count.link - 1) ≡ Some
     e = cc (c.entry-entry.ensures.value, c.way.ensures.same, c.loop-count.invariant.same) in
     let way : way_at c.args.key.now e.child e.next e.key ≡ Here =
     way_is (g.R.Rows.content c.args.rows.now) _ c.args.key.now e _ part

@@ -1,7 +1,7 @@
 use Rattle.std.proofs.Common.{◌≡◌, ℕ, ◌+◌, ◌-◌, ◌<◌, [], Some, sym, ◌∙◌, ap, subst, arith, rules}
 use Rattle.mst_arena.specs.Content.{Content, part_at}
 use Rattle.mst_arena.specs.Lives.{State}
-use Rattle.mst_arena.specs.Row.{entry_links}
+use Rattle.mst_arena.specs.Row.{keyed_links}
 use Rattle.mst_arena.specs.Standing.{used}
 use Rattle.mst_path.specs.Felling.{ToFell}
 use Rattle.mst_path.specs.Joining.{height_at}
@@ -37,7 +37,7 @@ module _ (g : Over) (t : ℕ) (c : After-kill-in-loop g t)
       at_entry _ _ _ _ _ _ _ _ _ _ _ (c.loop.invariant.felling z) (λ p r. omega arith)
       c.loop-test.true
       c.entry-entry.result
-      (subst (λ (x : Content). part_at entry_links x (c.loop.next - 1) ≡ Some c.entry-entry.result)
+      (subst (λ (x : Content). part_at keyed_links x (c.loop.next - 1) ≡ Some c.entry-entry.result)
       (ap g.R.Rows.content c.loop.invariant.same) c.entry-entry.ensures.value)
 
   same_rows : g.R.Rows.content c.entry-entry.new.self ≡ g.R.Rows.content c.args.rows.now

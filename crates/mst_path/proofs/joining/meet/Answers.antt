@@ -2,7 +2,7 @@ use Rattle.mst_key.specs.declared.format.Format.{Format}
 use Rattle.std.proofs.Common.{◌≡◌, ◌∙◌, ◌-◌, Some, IsSome, sym, ap, subst, arith, rules}
 use Rattle.mst_arena.specs.Content.{Content, part_at}
 use Rattle.mst_arena.specs.Lives.{State}
-use Rattle.mst_arena.specs.Row.{head_links, entry_links}
+use Rattle.mst_arena.specs.Row.{head_links, keyed_links}
 use Rattle.mst_path.specs.Joining.{TwoTrees, Met}
 use Rattle.mst_path.proofs.lemmas.trees.Opening.{Opened, head_there}
 use Rattle.mst_path.proofs.lemmas.trees.Meetings.{b_node, first_some, first_there, met_higher, met_lower, met_level}
@@ -69,17 +69,17 @@ entry-first-requires g c =
     c.requires.trees.2.b_search in
     record {
       there =
-          subst (λ (x : Content). IsSome (part_at entry_links x (c.head-high.result.first - 1)))
+          subst (λ (x : Content). IsSome (part_at keyed_links x (c.head-high.result.first - 1)))
           (sym (ap g.R.Rows.content (c.head-high.ensures.same ∙ c.head-low.ensures.same))) there;
     }
 
 -- ---- the first entry of the right node is read
 
 module _ (g : Over) (c : goal.After-entry-first g) where
-  first_read : part_at entry_links (g.R.Rows.content c.args.rows.now) (c.head-high.result.first - 1)
+  first_read : part_at keyed_links (g.R.Rows.content c.args.rows.now) (c.head-high.result.first - 1)
       ≡ Some c.entry-first.result
   first_read =
-      subst (λ (x : Content). part_at entry_links x (c.head-high.result.first - 1) ≡ Some
+      subst (λ (x : Content). part_at keyed_links x (c.head-high.result.first - 1) ≡ Some
       c.entry-first.result)
       (ap g.R.Rows.content (c.head-high.ensures.same ∙ c.head-low.ensures.same))
       c.entry-first.ensures.value

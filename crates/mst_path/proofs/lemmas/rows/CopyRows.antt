@@ -2,8 +2,8 @@
 use Rattle.mst_key.specs.declared.format.Format.{Format}
 use Rattle.std.proofs.Common.{◌≡◌, ℕ, zero, suc, ◌+◌, ◌-◌, ◌<◌, ◌≤◌, Bool, true, eqb, List, [], ◌∷◌, ◌++◌, length, Option, Some, None, refl, sym, ◌∙◌, ap, subst, arith, inl, inr, IsTrue, IfSome, IsSome}
 use Rattle.std.specs.Prelude.{slice_get, option_and_then}
-use Rattle.mst_arena.specs.Row.{entry_links, entry_value}
-use Rattle.mst_arena.specs.declared.row.EntryLinks.{EntryLinks}
+use Rattle.mst_arena.specs.Row.{keyed_links, entry_value}
+use Rattle.mst_arena.specs.declared.row.KeyedLinks.{KeyedLinks}
 use Rattle.std.specs.List.{AllByRecursion}
 use Rattle.std.proofs.lemmas.Bool.Decides.{nat_tests}
 use Rattle.mst_arena.specs.Content.{Content}
@@ -142,24 +142,24 @@ blank_ahead w blank each = go w.next each
 -- ---- what is read of a row
 
 pub links_there : (o : Option Row) (child nxt : ℕ) (key value : List ℕ)
-    → o ≡ Some (Entry child nxt key value) → IsSome (option_and_then entry_links o)
+    → o ≡ Some (Entry child nxt key value) → IsSome (option_and_then keyed_links o)
 links_there o child nxt key value is =
-    subst (λ (r : Option Row). IsSome (option_and_then entry_links r)) (sym is) refl
+    subst (λ (r : Option Row). IsSome (option_and_then keyed_links r)) (sym is) refl
 
 pub value_there : (o : Option Row) (child nxt : ℕ) (key value : List ℕ)
     → o ≡ Some (Entry child nxt key value) → option_and_then entry_value o ≡ Some value
 value_there o child nxt key value is = ap (option_and_then entry_value) is
 
-pub links_are : (o : Option Row) (l : EntryLinks) (child nxt : ℕ) (key value : List ℕ)
-    → o ≡ Some (Entry child nxt key value) → option_and_then entry_links o ≡ Some l
+pub links_are : (o : Option Row) (l : KeyedLinks) (child nxt : ℕ) (key value : List ℕ)
+    → o ≡ Some (Entry child nxt key value) → option_and_then keyed_links o ≡ Some l
     → (l.child ≡ child) × (l.next ≡ nxt) × (l.key ≡ key)
 links_are o l child nxt key value is read =
     let e : Some (record { child = child; next = nxt; key = key }) ≡ Some l =
-    sym (ap (option_and_then entry_links) is) ∙ read in
+    sym (ap (option_and_then keyed_links) is) ∙ read in
     let same : record { child = child; next = nxt; key = key } ≡ l = cc in (
-      sym (ap (λ (x : EntryLinks). x.child) same),
-      sym (ap (λ (x : EntryLinks). x.next) same),
-      sym (ap (λ (x : EntryLinks). x.key) same),
+      sym (ap (λ (x : KeyedLinks). x.child) same),
+      sym (ap (λ (x : KeyedLinks). x.next) same),
+      sym (ap (λ (x : KeyedLinks). x.key) same),
     )
 
 -- ---- the row for the next entry

@@ -8,8 +8,8 @@ use Rattle.std.proofs.lemmas.Grind.{flat_map-append}
 use Rattle.mst_node.specs.Tree as tree
 use Rattle.mst_node.specs.Text.{child_text, child_digest, counted, flat_entries, tail_digest, spelling, text, held_of, held_text}
 use Rattle.mst_arena.specs.Content.{Content, Writes, part_at, relinked}
-use Rattle.mst_arena.specs.Row.{entry_links, entry_value}
-use Rattle.mst_arena.specs.declared.row.EntryLinks.{EntryLinks}
+use Rattle.mst_arena.specs.Row.{keyed_links, entry_value}
+use Rattle.mst_arena.specs.declared.row.KeyedLinks.{KeyedLinks}
 use Rattle.mst_arena.specs.declared.row.Row.{Row}
 use Rattle.mst_arena.specs.declared.row.Row.TheVariants.{Entry, Head}
 use Rattle.mst_arena.specs.Standing.{Placed, tree_of, entries_of, link_of, first_of, tail_of, count_of, rows_of, chain_rows, used, chain_used, HasRows}
@@ -133,14 +133,14 @@ pub is_there : {A : Type 0} (o : Option A) (x : A) → o ≡ Some x → IsSome o
 is_there o x e = cc
 
 -- what is written is the entry of these parts with other links
-pub copy_is : (old new : Content) (from to child next : ℕ) (links : EntryLinks) (value : List ℕ)
-    → part_at entry_links old from ≡ Some links → part_at entry_value old from ≡ Some value
+pub copy_is : (old new : Content) (from to child next : ℕ) (links : KeyedLinks) (value : List ℕ)
+    → part_at keyed_links old from ≡ Some links → part_at entry_value old from ≡ Some value
     → IfSome (old from) (λ entry. Writes old new to (relinked child next entry)) → Writes old new to
     (Entry child next links.key value)
 copy_is old new from to child next links value is_links is_value writes =
     go (old from) is_links is_value writes
   where
-    go : (o : Option Row) → option_and_then entry_links o ≡ Some links → option_and_then entry_value
+    go : (o : Option Row) → option_and_then keyed_links o ≡ Some links → option_and_then entry_value
         o ≡ Some value → IfSome o (λ entry. Writes old new to (relinked child next entry))
         → Writes old new to (Entry child next links.key value)
     go None l v writes = absurd (cc)
@@ -149,15 +149,15 @@ copy_is old new from to child next links value is_links is_value writes =
         let same : record { child = c; next = n; key = k } ≡ links = cc in
         let same_value : w ≡ value = cc in
         subst (λ (x : List ℕ). Writes old new to (Entry child next links.key x)) same_value
-        (subst (λ (x : EntryLinks). Writes old new to (Entry child next x.key w)) same writes)
+        (subst (λ (x : KeyedLinks). Writes old new to (Entry child next x.key w)) same writes)
 
 -- and it leaves all else
-pub copy_keeps : (old new : Content) (from to child next : ℕ) (links : EntryLinks)
-    → part_at entry_links old from ≡ Some links → IfSome (old from)
+pub copy_keeps : (old new : Content) (from to child next : ℕ) (links : KeyedLinks)
+    → part_at keyed_links old from ≡ Some links → IfSome (old from)
     (λ entry. Writes old new to (relinked child next entry)) → (k : ℕ) → k ≢ to → new k ≡ old k
 copy_keeps old new from to child next links is writes k other = go (old from) is writes
   where
-    go : (o : Option Row) → option_and_then entry_links o ≡ Some links
+    go : (o : Option Row) → option_and_then keyed_links o ≡ Some links
         → IfSome o (λ entry. Writes old new to (relinked child next entry)) → new k ≡ old k
     go None l writes = absurd (cc)
     go (Some row) l writes = writes.others k other

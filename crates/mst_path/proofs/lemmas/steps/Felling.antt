@@ -11,12 +11,12 @@ use Rattle.mst_arena.specs.Content.{Content, part_at}
 use Rattle.mst_arena.specs.Lives.{State, next, with_life, ended_life}
 use Rattle.std.specs.Prelude.{slice_get}
 use Rattle.mst_arena.specs.Lists.{In, times}
-use Rattle.mst_arena.specs.Row.{head_links, entry_links}
+use Rattle.mst_arena.specs.Row.{head_links, keyed_links}
 use Rattle.mst_arena.specs.declared.row.Root.{Root}
 use Rattle.mst_arena.specs.declared.row.Row.{Row}
 use Rattle.mst_arena.specs.declared.row.Row.TheVariants.{Entry}
 use Rattle.mst_arena.specs.declared.row.HeadLinks.{HeadLinks}
-use Rattle.mst_arena.specs.declared.row.EntryLinks.{EntryLinks}
+use Rattle.mst_arena.specs.declared.row.KeyedLinks.{KeyedLinks}
 use Rattle.mst_arena.specs.Standing.{Placed, none, head, Chain, end, cell, tree_of, entries_of, link_of, first_of, tail_of, count_of, head_row, rows_of, chain_rows, used, chain_used, HasRows, Stands, numbers}
 use Rattle.mst_arena.proofs.ListLemmas.{times-append}
 use Rattle.mst_arena.proofs.Stands.{all-front, all-back}
@@ -187,7 +187,7 @@ nothing_falls content s link t is = go t.placed t.at
 
 -- the entry that was read, with the tree before it, and what is left after it
 pub record AtEntry (format : Format) (falls : Placed → List ℕ) (content : Content) (s s' : State)
-    (layer : ℕ) (whole : List ℕ) (tail row done all : ℕ) (e : EntryLinks) : Type 0 where
+    (layer : ℕ) (whole : List ℕ) (tail row done all : ℕ) (e : KeyedLinks) : Type 0 where
   pub dies : IsOld s' row
   pub below : ToFell content (having_killed s' row) e.child
   pub lower_down : height_at content e.child < layer + 1
@@ -197,26 +197,26 @@ pub record AtEntry (format : Format) (falls : Placed → List ℕ) (content : Co
 module _ (format : Format) (falls : Placed → List ℕ) (content : Content) (s s' : State)
     (layer : ℕ) (whole : List ℕ) (tail next done all : ℕ)
     (f : Felling format falls content s s' layer whole tail next done all) where
-  pub entry_there : done < all → IsSome (part_at entry_links content (next - 1)) × (0 < next)
+  pub entry_there : done < all → IsSome (part_at keyed_links content (next - 1)) × (0 < next)
       × IsOld s' (next - 1)
   entry_there lt = go f.rest f.first_is f.left f.rows f.old
     where
       go : (c : Chain) → first_of c ≡ next → count_of c + done ≡ all → HasRows content
           (chain_rows format c) → ((r : ℕ) → In r (chain_used c) → IsOld s' r)
-          → IsSome (part_at entry_links content (next - 1)) × (0 < next) × IsOld s' (next - 1)
+          → IsSome (part_at keyed_links content (next - 1)) × (0 < next) × IsOld s' (next - 1)
       go (end p) first left has old = absurd (omega (arith, lt, left))
       go (cell at p key value c) first left has old =
           let same : next - 1 ≡ at = omega (arith, first) in
           let there : content (next - 1) ≡ Some (Entry (link_of p) (first_of c) key value) =
           ap content same ∙ has.0 in (
-            subst (λ (o : Option Row). IsSome (option_and_then entry_links o)) (sym there) refl,
+            subst (λ (o : Option Row). IsSome (option_and_then keyed_links o)) (sym there) refl,
             omega (arith, first),
             subst (IsOld s') (sym same)
                 (old at (omega (arith, at_self at))),
           )
 
   pub at_entry : ((p : Placed) (r : ℕ) → times r (falls p) ≤ times r (used p)) → done < all
-      → (e : EntryLinks) → part_at entry_links content (next - 1) ≡ Some e
+      → (e : KeyedLinks) → part_at keyed_links content (next - 1) ≡ Some e
       → AtEntry format falls content s s' layer whole tail (next - 1) done all e
   at_entry fewer lt e read = go f.rest f.first_is f.tail_is f.left f.rows f.search f.old f.once f.is
     where
@@ -231,9 +231,9 @@ module _ (format : Format) (falls : Placed → List ℕ) (content : Content) (s 
           let there : content (next - 1) ≡ Some (Entry (link_of p) (first_of c) key value) =
           ap content same ∙ has.0 in
           let both : Some (record { child = link_of p; next = first_of c; key = key }) ≡ Some e =
-          sym (ap (option_and_then entry_links) there) ∙ read in
+          sym (ap (option_and_then keyed_links) there) ∙ read in
           let links : record { child = link_of p; next = first_of c; key = key } ≡ e = cc in
-          let child_is : link_of p ≡ e.child = ap (λ (x : EntryLinks). x.child) links in
+          let child_is : link_of p ≡ e.child = ap (λ (x : KeyedLinks). x.child) links in
           let dies : IsOld s' at = old at (omega (arith, at_self at)) in
           let later : (r : ℕ) → In r (used p ++ chain_used c) → IsOld s' r =
           λ r i. old r (omega (arith, i)) in
@@ -263,7 +263,7 @@ module _ (format : Format) (falls : Placed → List ℕ) (content : Content) (s 
                 record {
                   rest = c;
                   gone = f.gone ++ at ∷ falls p;
-                  first_is = ap (λ (x : EntryLinks). x.next) links;
+                  first_is = ap (λ (x : KeyedLinks). x.next) links;
                   tail_is = tail_is;
                   left = omega (arith, left);
                   rows = all-back _ (rows_of format p) (chain_rows format c) has.1;

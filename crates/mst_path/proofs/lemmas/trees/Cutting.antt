@@ -8,9 +8,9 @@ use Rattle.mst_key.proofs.KeyOrder.{same_from_equal, less_from_greater}
 use Rattle.mst_node.specs.Tree.{last, entry}
 use Rattle.mst_node.specs.Shape.{TreeEntry, with_entries}
 use Rattle.mst_arena.specs.Content.{Content, part_at}
-use Rattle.mst_arena.specs.Row.{entry_links}
+use Rattle.mst_arena.specs.Row.{keyed_links}
 use Rattle.mst_arena.specs.declared.row.Row.TheVariants.{Entry}
-use Rattle.mst_arena.specs.declared.row.EntryLinks.{EntryLinks}
+use Rattle.mst_arena.specs.declared.row.KeyedLinks.{KeyedLinks}
 use Rattle.mst_arena.specs.declared.row.HeadLinks.{HeadLinks}
 use Rattle.mst_arena.specs.Standing.{Placed, link_of, tree_of, HasRows}
 use Rattle.mst_arena.proofs.Stands.{all-append}
@@ -86,12 +86,12 @@ at_entry format content k es link done all o lt = go o.rest refl
 
 -- the links and the key of the next entry
 pub next_links : (format : Format) (content : Content) (k : List ℕ) (es : List PlacedEntry)
-    (link done all : ℕ) → Onward format content k es link done all → done < all → (e : EntryLinks)
-    × (part_at entry_links content (link - 1) ≡ Some e)
+    (link done all : ℕ) → Onward format content k es link done all → done < all → (e : KeyedLinks)
+    × (part_at keyed_links content (link - 1) ≡ Some e)
 next_links format content k es link done all o lt =
     let a = at_entry format content k es link done all o lt in (
       record { child = link_of a.here.child; next = link_from 0 a.more; key = a.here.key },
-      ap (option_and_then entry_links) a.row,
+      ap (option_and_then keyed_links) a.row,
     )
 
 -- ---- entries and cells
@@ -160,8 +160,8 @@ module _ (format : Format) (content : Content) (k : List ℕ) (links : HeadLinks
                 };
           }
 
-  module _ (lt : done < all) (e : EntryLinks)
-      (part : part_at entry_links content (link - 1) ≡ Some e) where
+  module _ (lt : done < all) (e : KeyedLinks)
+      (part : part_at keyed_links content (link - 1) ≡ Some e) where
     a : AtEntry format content k es link done all o
     a = at_entry format content k es link done all o lt
 

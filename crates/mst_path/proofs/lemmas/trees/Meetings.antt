@@ -9,11 +9,11 @@ use Rattle.mst_node.specs.Shape.{TreeEntry, with_entries}
 use Rattle.mst_arena.specs.Content.{Content, part_at}
 use Rattle.mst_arena.specs.Lives.{State}
 use Rattle.mst_arena.specs.Lists.{times}
-use Rattle.mst_arena.specs.Row.{head_links, entry_links}
+use Rattle.mst_arena.specs.Row.{head_links, keyed_links}
 use Rattle.mst_arena.specs.declared.row.Row.{Row}
 use Rattle.mst_arena.specs.declared.row.Row.TheVariants.{Entry}
 use Rattle.mst_arena.specs.declared.row.HeadLinks.{HeadLinks}
-use Rattle.mst_arena.specs.declared.row.EntryLinks.{EntryLinks}
+use Rattle.mst_arena.specs.declared.row.KeyedLinks.{KeyedLinks}
 use Rattle.mst_arena.specs.Standing.{Placed, none as no_tree, head as tree_head, tree_of, link_of, rows_of, used, HasRows}
 use Rattle.mst_arena.proofs.ListLemmas.{times-append}
 use Rattle.mst_change.specs.Parts.{cells, last_child, first_child, with_first}
@@ -94,10 +94,10 @@ module _ (format : Format) (c : Content) (s : State) (p : Placed) (row : ℕ) (h
   pub first_some : 0 < h.first
   first_some = omega (arith, first_run.begins)
 
-  pub first_there : IsSome (part_at entry_links c (h.first - 1))
+  pub first_there : IsSome (part_at keyed_links c (h.first - 1))
   first_there = links_there (c (h.first - 1)) _ _ _ _ first_row
 
-  pub first_link : (l : EntryLinks) → part_at entry_links c (h.first - 1) ≡ Some l
+  pub first_link : (l : KeyedLinks) → part_at keyed_links c (h.first - 1) ≡ Some l
       → l.child ≡ link_of first.entry.child
   first_link l read = (links_are (c (h.first - 1)) l _ _ _ _ first_row read).0
 
@@ -199,7 +199,7 @@ module _ (format : Format) (c : Content) (s : State) (left right : ℕ)
     low = low_layer format c s t.a (left - 1) low a_node t.a_search;
   }
 
-  module _ (links : EntryLinks) (read : part_at entry_links c (high.first - 1) ≡ Some links) where
+  module _ (links : KeyedLinks) (read : part_at keyed_links c (high.first - 1) ≡ Some links) where
     abbrev b_first : First b_node.entries
     b_first = first format c s t.b (right - 1) high b_node t.b_search
 

@@ -1,7 +1,7 @@
 use Rattle.std.proofs.Common.{◌≡◌, ◌-◌, ℕ, List, [], ◌∷◌, ◌++◌, length, Option, Some, sym, ◌∙◌, ap, subst, arith}
 use Rattle.mst_key.specs.declared.format.Format.{Format}
 use Rattle.mst_arena.specs.Content.{Content, part_at}
-use Rattle.mst_arena.specs.Row.{entry_links}
+use Rattle.mst_arena.specs.Row.{keyed_links}
 use Rattle.mst_arena.specs.Lists.{times}
 use Rattle.mst_arena.specs.Standing.{rows_of, HasRows}
 use Rattle.mst_path.specs.Takes.{KeepsBut}
@@ -37,7 +37,7 @@ move_entry-requires-clause-old g c =
 
 pub move_entry-requires-clause-entry : goal.move_entry-requires-clause-entry
 move_entry-requires-clause-entry g c =
-    subst (λ (x : Content). part_at entry_links x (c.args.parts.now.back.first - 1) ≡ Some
+    subst (λ (x : Content). part_at keyed_links x (c.args.parts.now.back.first - 1) ≡ Some
     c.entry-entry.result) (sym (ap g.R.Rows.content c.entry-entry.ensures.same))
     c.entry-entry.ensures.value
 

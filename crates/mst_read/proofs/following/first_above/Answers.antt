@@ -1,5 +1,5 @@
 use Rattle.std.proofs.Common.{◌-◌, refl, ◌∙◌, ap, arith}
-use Rattle.mst_arena.specs.Row.{entry_links}
+use Rattle.mst_arena.specs.Row.{keyed_links}
 use Rattle.mst_arena.proofs.EntryParts.{links_at}
 use Rattle.mst_read.proofs.Still.{there_still, read_before}
 use Rattle.mst_read.proofs.Stops.{all_ahead, ends_still, stop_before, ends_ahead, gap_link, above_found, none_above, found_link, found_there, found_left, behind_found, nothing_left}
@@ -54,7 +54,7 @@ links-first-requires g c =
     record {
       there = there_still
           (ap g.R.Rows.content (c.search.ensures.same ∙ c.loop-count.invariant.same))
-          entry_links (c.in-Found.link - 1)
+          keyed_links (c.in-Found.link - 1)
           (found_there c.args.bound.now lies.1
           (c.loop-count.invariant.onward lies.0 lies.1 lies.2)
           (stop_before (ap g.R.Rows.content c.loop-count.invariant.same) c.args.bound.now
@@ -87,7 +87,7 @@ loop-count-preserved g c = record {
       (stop_before (ap g.R.Rows.content c.loop-count.invariant.same) c.args.bound.now
       c.loop-count.count c.loop-count.first c.search.ensures.stop) c.in-Found.is
       (read_before (ap g.R.Rows.content (c.search.ensures.same ∙ c.loop-count.invariant.same))
-      entry_links (c.in-Found.link - 1)
+      keyed_links (c.in-Found.link - 1)
       (links_at (g.R.Rows.content c.search.new.self) (c.in-Found.link - 1) c.links-first.result
       c.links-first.ensures.value).1);
 }

@@ -1,6 +1,6 @@
 use Rattle.std.proofs.Common.{Some, ◌∙◌, sym, ap, subst, arith}
 use Rattle.std.specs.Option.{option_copied}
-use Rattle.mst_arena.specs.Row.{entry_links, entry_pair}
+use Rattle.mst_arena.specs.Row.{keyed_links, entry_pair}
 use Rattle.mst_read.specs.Search.{LinkStands}
 use Rattle.mst_read.proofs.Still.{there_still, read_before}
 use Rattle.mst_read.proofs.Descend.{Ahead, there_at, reached_at, node_there, ahead_there, reach, lower, inside, at_nothing, depth_is}
@@ -135,7 +135,7 @@ pair-requires g c =
     let there = subst (HasPair (g.R.Rows.content c.args.rows.now)) c.in_ok-row.was
     c.loop-top.invariant.pair in
     record {
-      there = there_still (ap g.R.Rows.content c.loop-top.invariant.same) entry_links
+      there = there_still (ap g.R.Rows.content c.loop-top.invariant.same) keyed_links
           c.in_ok-row.row (pair_there (g.R.Rows.content c.args.rows.now c.in_ok-row.row) there);
     }
 

@@ -6,7 +6,7 @@ use Rattle.mst_key.specs.Map.{Pair, map_get}
 use Rattle.mst_arena.specs.Content.{Content}
 use Rattle.mst_node.specs.Tree as tree
 use Rattle.mst_node.specs.Tree.{Tree}
-use Rattle.mst_node.specs.Text.{text, version}
+use Rattle.mst_node.specs.Text.{text, format_byte}
 use Rattle.mst_node.specs.Trail.{trail, framed, answer_text}
 use Rattle.mst_arena.specs.Standing.{entries_of}
 use Rattle.mst_read.specs.Search.{StandsBelow, head_of, gap_placed}
@@ -156,16 +156,16 @@ returns-clause-proof g c m s =
     all.count_is ∙ sym (length-map whole text) in
     c.in_ok-push_answer.ensures.ok m stands
     ∙ ap (λ (l : List ℕ). l ++ answer)
-    (c.write_count.ensures.count (version format) 0 c.loop-top.invariant.made.0
+    (c.write_count.ensures.count (format_byte format) 0 c.loop-top.invariant.made.0
     c.loop-top.invariant.made.1
-    ∙ ap (λ (l : List ℕ). version format ∷ c.loop-top.count ∷ l) all.texts_are
-    ∙ ap (λ (n : ℕ). version format ∷ n ∷ framed (map text whole)) count)
+    ∙ ap (λ (l : List ℕ). format_byte format ∷ c.loop-top.count ∷ l) all.texts_are
+    ∙ ap (λ (n : ℕ). format_byte format ∷ n ∷ framed (map text whole)) count)
 
 pub returns-clause-short : goal.returns-clause-short
 returns-clause-short g c =
     let begun =
     ap (λ (l : List ℕ). length l)
-    (c.write_count.ensures.count (version c.args.format) 0 c.loop-top.invariant.made.0
+    (c.write_count.ensures.count (format_byte c.args.format) 0 c.loop-top.invariant.made.0
     c.loop-top.invariant.made.1) in
     omega (
       arith,

@@ -1,7 +1,7 @@
 use Rattle.std.proofs.Common.{◌≡◌, ◌≤◌, ◌+◌, ◌*◌, ℕ, List, ◌∷◌, length}
 use Rattle.std.specs.Prelude.{IfSome}
 use Rattle.mst_key.specs.Map.{Pair}
-use Rattle.mst_node.specs.Text.{version}
+use Rattle.mst_node.specs.Text.{format_byte}
 use Rattle.mst_node.specs.Trail.{trail}
 use Rattle.mst_arena.specs.Row.{IsHead}
 use Rattle.mst_read.specs.Search.{StandsBelow}
@@ -16,7 +16,7 @@ invariant-loop-top g l = record {
   same : l.rows ≡ l.fn.rows;
   limits : IfSome l.top IsHead;
   few : l.count + depth l.top ≤ 129;
-  made : (texts : List ℕ) × (l.proof.items ≡ version l.format ∷ 0 ∷ texts)
+  made : (texts : List ℕ) × (l.proof.items ≡ format_byte l.format ∷ 0 ∷ texts)
       × (length texts ≤ 8584995 * l.count)
       × ((m : List Pair) → StandsBelow l.format (g.R.Rows.content l.fn.rows) l.link m
       → Met l.format (g.R.Rows.content l.fn.rows) l.top l.key texts l.count

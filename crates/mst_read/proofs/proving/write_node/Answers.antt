@@ -2,8 +2,8 @@ use Rattle.std.proofs.Common.{◌≡◌, ◌-◌, ◌++◌, length, ℕ, List, [
 use Rattle.std.specs.Prelude.{IfSome}
 use Rattle.std.proofs.lemmas.Option.{same_Some}
 use Rattle.mst_node.specs.Text.{heading, child_text, child_digest, counted, held_text, held_of}
-use Rattle.mst_arena.specs.Row.{entry_links, entry_pair}
-use Rattle.mst_arena.specs.declared.row.EntryLinks.{EntryLinks}
+use Rattle.mst_arena.specs.Row.{keyed_links, entry_pair}
+use Rattle.mst_arena.specs.declared.row.KeyedLinks.{KeyedLinks}
 use Rattle.mst_arena.proofs.EntryParts.{links_at}
 use Rattle.mst_key.specs.Map.{Pair}
 use Rattle.mst_arena.specs.Standing.{tree_of}
@@ -56,8 +56,8 @@ pub spell-requires : goal.spell-requires
 spell-requires g c = record {
   there = there_still
       (ap g.R.Rows.content (c.digest_at-child.ensures.same ∙ c.links-links.ensures.same))
-      entry_links (c.loop.link - 1)
-      (let Is : Option EntryLinks → Type 0 =
+      keyed_links (c.loop.link - 1)
+      (let Is : Option KeyedLinks → Type 0 =
       IsSome in subst Is
       (sym (links_at (g.R.Rows.content c.loop.rows) (c.loop.link - 1) c.links-links.result
       c.links-links.ensures.value).1) refl);

@@ -3,8 +3,8 @@ use Rattle.mst_key.specs.declared.key.Key.{Key}
 use Rattle.mst_key.specs.declared.value.Value.{Value}
 use Rattle.mst_node.specs.Tree.{pairs, entries_pairs}
 use Rattle.mst_arena.specs.Content.{part_at}
-use Rattle.mst_arena.specs.Row.{entry_links, entry_pair}
-use Rattle.mst_arena.specs.declared.row.EntryLinks.{EntryLinks}
+use Rattle.mst_arena.specs.Row.{keyed_links, entry_pair}
+use Rattle.mst_arena.specs.declared.row.KeyedLinks.{KeyedLinks}
 use Rattle.mst_arena.proofs.EntryParts.{links_at}
 use Rattle.mst_arena.specs.Standing.{tree_of, entries_of}
 use Rattle.mst_read.specs.Span.{HeadStands, filled}
@@ -60,7 +60,7 @@ gather_part-requires g t c κs within =
 -- ---- and then the entry's own pair is added
 
 module _ (g : Over) (n : ℕ) (c : goal.After-is_wanted g n) where
-  read : (k : List ℕ) × (part_at entry_links (g.R.Rows.content c.loop.rows) (c.loop.link - 1)
+  read : (k : List ℕ) × (part_at keyed_links (g.R.Rows.content c.loop.rows) (c.loop.link - 1)
       ≡ Some (record {
         child = c.links-links.result.child;
         next = c.links-links.result.next;
@@ -69,7 +69,7 @@ module _ (g : Over) (n : ℕ) (c : goal.After-is_wanted g n) where
   read = links_at (g.R.Rows.content c.loop.rows) (c.loop.link - 1) c.links-links.result
       c.links-links.ensures.value
 
-  abbrev e : EntryLinks
+  abbrev e : KeyedLinks
   e = record {
     child = c.links-links.result.child;
     next = c.links-links.result.next;
@@ -84,9 +84,9 @@ module _ (g : Over) (n : ℕ) (c : goal.After-is_wanted g n) where
         ∙ c.loop.invariant.same
   ]
 
-  links : part_at entry_links (g.R.Rows.content c.match-head_at.rows) (c.loop.link - 1) ≡ Some
+  links : part_at keyed_links (g.R.Rows.content c.match-head_at.rows) (c.loop.link - 1) ≡ Some
       e
-  links = read_still (ap g.R.Rows.content (rows_still ∙ sym c.loop.invariant.same)) entry_links
+  links = read_still (ap g.R.Rows.content (rows_still ∙ sym c.loop.invariant.same)) keyed_links
       (c.loop.link - 1) read.1
 
   module _ (s : SomePart (g.R.Rows.content c.args.rows.now) c.args.part.now) where
@@ -132,8 +132,8 @@ make_room-requires g t c =
 pub push_pair-requires : goal.push_pair-requires
 push_pair-requires g t c =
     let at = (goal.at.push_pair-requires g t c).After-is_wanted in
-    let Is : Option EntryLinks → Type 0 = IsSome in
-    let still = read_still (ap g.R.Rows.content c.if-not-is_wanted.ensures.same) entry_links
+    let Is : Option KeyedLinks → Type 0 = IsSome in
+    let still = read_still (ap g.R.Rows.content c.if-not-is_wanted.ensures.same) keyed_links
     (c.loop.link - 1) (links g t at) in
     record {
       there = subst Is (sym still) refl;

@@ -1,6 +1,6 @@
 use Rattle.std.proofs.Common.{◌<◌, ◌-◌, [], Option, None, inl, IsSome, refl, ◌∙◌, sym, ap, subst, arith}
-use Rattle.mst_arena.specs.Row.{entry_links, entry_pair}
-use Rattle.mst_arena.specs.declared.row.EntryLinks.{EntryLinks}
+use Rattle.mst_arena.specs.Row.{keyed_links, entry_pair}
+use Rattle.mst_arena.specs.declared.row.KeyedLinks.{KeyedLinks}
 use Rattle.mst_arena.proofs.EntryParts.{links_at}
 use Rattle.mst_read.specs.Span.{filled, past_gap}
 use Rattle.mst_read.proofs.Still.{read_still}
@@ -22,7 +22,7 @@ returns-then-len-limit-clause-found g c f p s =
 pub make_room-requires : goal.make_room-requires
 make_room-requires g c =
     let wanted = c.if-not-is_wanted.ensures.wanted _
-    (read_still (ap g.R.Rows.content c.links-links.ensures.same) entry_links
+    (read_still (ap g.R.Rows.content c.links-links.ensures.same) keyed_links
     (c.args.part.now.first - 1)
     (links_at (g.R.Rows.content c.args.rows.now) (c.args.part.now.first - 1)
     c.links-links.result
@@ -31,12 +31,12 @@ make_room-requires g c =
 
 pub push_pair-requires : goal.push_pair-requires
 push_pair-requires g c =
-    let Is : Option EntryLinks → Type 0 = IsSome in
+    let Is : Option KeyedLinks → Type 0 = IsSome in
     record {
       room = c.in_ok-make_room.ensures.ok;
       there =
           subst Is (sym (read_still (ap g.R.Rows.content
-          (c.if-not-is_wanted.ensures.same ∙ c.links-links.ensures.same)) entry_links
+          (c.if-not-is_wanted.ensures.same ∙ c.links-links.ensures.same)) keyed_links
           (c.args.part.now.first - 1)
           (links_at (g.R.Rows.content c.args.rows.now) (c.args.part.now.first - 1)
           c.links-links.result
@@ -50,7 +50,7 @@ returns-then-not-is_wanted-clause-found g c f p s =
     let ends =
     c.if-not-is_wanted.ensures.ends _
     (read_still (ap g.R.Rows.content c.links-links.ensures.same)
-    entry_links (c.args.part.now.first - 1)
+    keyed_links (c.args.part.now.first - 1)
     (links_at (g.R.Rows.content c.args.rows.now) (c.args.part.now.first - 1)
     c.links-links.result
     c.links-links.ensures.value).1) refl in
@@ -84,7 +84,7 @@ returns-then-len-limit-2-clause-found g c f p s =
     value
     (c.if-not-is_wanted.ensures.wanted _
     (read_still (ap g.R.Rows.content c.links-links.ensures.same)
-    entry_links (c.args.part.now.first - 1)
+    keyed_links (c.args.part.now.first - 1)
     (links_at (g.R.Rows.content c.args.rows.now) (c.args.part.now.first - 1)
     c.links-links.result
     c.links-links.ensures.value).1) refl) in
@@ -139,7 +139,7 @@ returns-clause-found g c f p s =
     value
     (c.if-not-is_wanted.ensures.wanted _
     (read_still (ap g.R.Rows.content c.links-links.ensures.same)
-    entry_links (c.args.part.now.first - 1)
+    keyed_links (c.args.part.now.first - 1)
     (links_at (g.R.Rows.content c.args.rows.now) (c.args.part.now.first - 1)
     c.links-links.result
     c.links-links.ensures.value).1) refl) in

@@ -20,7 +20,7 @@ returns-clause-complete c = λ m splits has is.
     let b = bytes-at c.args.proof.now (λ i. omega (arith, c.type_inv.proof i)) in
     c.judge.ensures.verdict
     ∙ sharded_complete c.args.format m splits c.args.root.now c.args.key.now c.args.proof.now b has
-    c.within_limits.ensures.key is
+    c.key_limits.ensures.limits is
 
 pub returns-clause-accepted : goal.returns-clause-accepted
 returns-clause-accepted c = λ a.

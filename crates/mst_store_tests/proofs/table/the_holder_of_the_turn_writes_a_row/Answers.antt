@@ -8,7 +8,7 @@ use Rattle.mst_arena.specs.Lives.{State, reached_at}
 use Rattle.mst_arena.specs.declared.life.Life.{Life}
 use Rattle.mst_arena.specs.declared.life.Life.TheVariants.{Free}
 use Rattle.mst_words.specs.declared.view.View.{View}
-use Rattle.mst_words.specs.Access.{all_below, is_blank}
+use Rattle.mst_words.specs.Access.{all_below, may_write}
 use Rattle.mst_words.specs.Layout.{row_word}
 use Rattle.mst_words.specs.Stored.{stored, state_of, version_of}
 use Rattle.mst_words.specs.Steps.{Takes}
@@ -36,7 +36,7 @@ each_below (suc n) p each = and_both (p n) (all_below n p) (each n) (each_below 
 -- a free row is blank to the pass that took the turn
 free_is_blank : (f : Format) (m m' : Me (Option State) View) (t : Takes (stored f) m m')
     → m.0.pin ≡ None → (v : View) → v ≡ m'.0 → (d : State) → m'.1 ≡ (0, Some d) ∷ [] → (x : ℕ)
-    → slice_get d.lives x ≡ Some Free → is_blank v x ≡ true
+    → slice_get d.lives x ≡ Some Free → may_write v x ≡ true
 free_is_blank f m m' t unpinned v same d slot x free = let alike : d.lives ≡ t.desk.lives =
     sym (ap lives_in slot) ∙ ap lives_in (has_desk f m m' t) in
     let is_free : slice_get t.desk.lives x ≡ Some Free =
@@ -44,7 +44,7 @@ free_is_blank f m m' t unpinned v same d slot x free = let alike : d.lives ≡ t
     let inside : x < length t.desk.lives = slice_get_within t.desk.lives x Free is_free in
     let rows = t.is_desk.rows_is in
     let wide = t.wide in
-    subst (λ (w : View). is_blank w x ≡ true)
+    subst (λ (w : View). may_write w x ≡ true)
     (sym (same ∙ ap (λ (n : Me (Option State) View). n.0) t.is))
     (and_both _ _
     (and_both _ true

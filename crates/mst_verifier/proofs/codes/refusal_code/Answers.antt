@@ -10,8 +10,8 @@ returns-in-Root c = search rules
 pub returns-in-Key : goal.returns-in-Key
 returns-in-Key c = search rules
 
-pub returns-in-Proof-Version : goal.returns-in-Proof-Version
-returns-in-Proof-Version c = search rules
+pub returns-in-Proof-FormatByte : goal.returns-in-Proof-FormatByte
+returns-in-Proof-FormatByte c = search rules
 
 pub returns-in-Proof-CutShort : goal.returns-in-Proof-CutShort
 returns-in-Proof-CutShort c = search rules

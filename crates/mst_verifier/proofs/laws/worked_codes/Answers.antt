@@ -11,8 +11,8 @@ returns-clause-root c = refl
 pub returns-clause-key : goal.returns-clause-key
 returns-clause-key c = refl
 
-pub returns-clause-version : goal.returns-clause-version
-returns-clause-version c = refl
+pub returns-clause-format_byte : goal.returns-clause-format_byte
+returns-clause-format_byte c = refl
 
 pub returns-clause-cut_short : goal.returns-clause-cut_short
 returns-clause-cut_short c = refl

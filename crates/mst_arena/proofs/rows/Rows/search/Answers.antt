@@ -1,6 +1,6 @@
 use Rattle.std.proofs.Common.{◌-◌, IsSome, refl, sym, ◌∙◌, ap, subst, arith}
 use Rattle.mst_arena.specs.Content.{Content, part_at}
-use Rattle.mst_arena.specs.Row.{entry_links}
+use Rattle.mst_arena.specs.Row.{keyed_links}
 use Rattle.mst_arena.specs.Ways.{entry_way}
 use Rattle.mst_arena.proofs.StopLemmas.{from_first, entry_met, in_gap, at_key, past_entry, behind_all}
 use Rattle.mst_arena.proofs.rows.Rows.search.Goals as goal
@@ -16,7 +16,7 @@ overflow_sub-link g c =
 pub way-requires : goal.way-requires
 way-requires g c = record {
   there =
-      subst (λ (x : Content). IsSome (part_at entry_links x (c.loop-passed.link - 1)))
+      subst (λ (x : Content). IsSome (part_at keyed_links x (c.loop-passed.link - 1)))
       (sym (ap g.Self.Rows.content c.loop-passed.invariant.same))
       (entry_met c.loop-passed.invariant.goes c.loop-passed-test.true).there;
 }

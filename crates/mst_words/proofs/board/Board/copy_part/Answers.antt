@@ -5,7 +5,7 @@ use Rattle.mst_words.specs.declared.view.View.{View}
 use Rattle.mst_words.specs.Layout.{row_word}
 use Rattle.mst_words.specs.Records as records
 use Rattle.std.specs.Prelude.{IsTrue, slice_set as set}
-use Rattle.mst_words.specs.Access.{PartStored, is_blank}
+use Rattle.mst_words.specs.Access.{PartStored, may_write}
 use Rattle.mst_words.proofs.Accesses.{stored_once, fill_from}
 use Rattle.mst_words.proofs.Copied.{still_blank, part_next, beyond, filled_more}
 use Rattle.mst_words.proofs.board.Board.copy_part.Goals as goal
@@ -53,7 +53,7 @@ loop-k-preserved g c =
 pub store_word-requires-clause-blank : goal.store_word-requires-clause-blank
 store_word-requires-clause-blank g c =
     let k = c.loop-k.invariant in
-    subst (λ (m : Me (Option lives.State) View). IsTrue (is_blank m.0 c.args.to))
+    subst (λ (m : Me (Option lives.State) View). IsTrue (may_write m.0 c.args.to))
     (sym c.word-word.ensures.same.2)
     (still_blank c.args.seat.now.me c.loop-k.seat.me c.args.to k.kept k.stored.long
     c.requires.blank)

@@ -3,7 +3,7 @@ use Rattle.atomic_table.specs.Table.{Me}
 use Rattle.mst_arena.specs.Lives as lives
 use Rattle.mst_words.specs.declared.view.View.{View}
 use Rattle.mst_words.specs.Records as records
-use Rattle.mst_words.specs.Access.{Seated, with_words, may_read, RowStored, HasEnds, relinked_list}
+use Rattle.mst_words.specs.Access.{Seated, with_words, may_read, RowStored, IsPadded, relinked_list}
 use Rattle.mst_words.proofs.Accesses.{row_written, blank_stays, blank_parts, beside_stays, same_seated}
 use Rattle.mst_words.proofs.ShortRows.{source_of}
 use Rattle.mst_words.proofs.seat.PassSeat.copy_words.Given.{Over}
@@ -72,7 +72,7 @@ copy_words-requires-clause-kind g c =
 pub copy_words-requires-clause-ends : goal.copy_words-requires-clause-ends
 copy_words-requires-clause-ends g c =
     subst (λ (m : Me (Option lives.State) View).
-    HasEnds (records.row m.0.known_words c.args.from 3) (records.row m.0.known_words c.args.from))
+    IsPadded (records.row m.0.known_words c.args.from 3) (records.row m.0.known_words c.args.from))
     (sym (ap (λ (z : Seated). z.me) c.self.view_is))
     (source_of c.args.self.now.me.0 c.args.from c.requires.there).ends
 

@@ -1,6 +1,6 @@
 use Rattle.std.proofs.Common.{rules}
-use Rattle.mst_arena.proofs.Readers.{key_bytes, entry_links_of}
-use Rattle.mst_arena.proofs.row.EntryLinks.read.Goals as goal
+use Rattle.mst_arena.proofs.Readers.{key_bytes, keyed_links_of}
+use Rattle.mst_arena.proofs.row.KeyedLinks.read.Goals as goal
 
 pub returns-then-len-gt32-clause-some : goal.returns-then-len-gt32-clause-some
 returns-then-len-gt32-clause-some c = search rules
@@ -9,7 +9,7 @@ pub returns-then-len-gt32-clause-when : goal.returns-then-len-gt32-clause-when
 returns-then-len-gt32-clause-when c = search rules
 
 pub returns-then-len-gt32-clause-part : goal.returns-then-len-gt32-clause-part
-returns-then-len-gt32-clause-part c all at some = entry_links_of c.args.words.now all _
+returns-then-len-gt32-clause-part c all at some = keyed_links_of c.args.words.now all _
     (λ child next key a b size e f len front. search rules) at some
 
 pub returns-in_err-ok-clause-some : goal.returns-in_err-ok-clause-some
@@ -19,7 +19,7 @@ pub returns-in_err-ok-clause-when : goal.returns-in_err-ok-clause-when
 returns-in_err-ok-clause-when c = search rules
 
 pub returns-in_err-ok-clause-part : goal.returns-in_err-ok-clause-part
-returns-in_err-ok-clause-part c all at some = entry_links_of c.args.words.now all _
+returns-in_err-ok-clause-part c all at some = keyed_links_of c.args.words.now all _
     (λ child next key a b size e f len front. search rules) at some
 
 pub returns-in_err-ok-2-clause-some : goal.returns-in_err-ok-2-clause-some
@@ -29,7 +29,7 @@ pub returns-in_err-ok-2-clause-when : goal.returns-in_err-ok-2-clause-when
 returns-in_err-ok-2-clause-when c = search rules
 
 pub returns-in_err-ok-2-clause-part : goal.returns-in_err-ok-2-clause-part
-returns-in_err-ok-2-clause-part c all at some = entry_links_of c.args.words.now all _
+returns-in_err-ok-2-clause-part c all at some = keyed_links_of c.args.words.now all _
     (λ child next key a b size e f len front. search rules) at some
 
 pub returns-in_err-ok-3-clause-some : goal.returns-in_err-ok-3-clause-some
@@ -39,7 +39,7 @@ pub returns-in_err-ok-3-clause-when : goal.returns-in_err-ok-3-clause-when
 returns-in_err-ok-3-clause-when c = search rules
 
 pub returns-in_err-ok-3-clause-part : goal.returns-in_err-ok-3-clause-part
-returns-in_err-ok-3-clause-part c all at some = entry_links_of c.args.words.now all _
+returns-in_err-ok-3-clause-part c all at some = keyed_links_of c.args.words.now all _
     (λ child next key a b size e f len front. search rules) at some
 
 pub returns-clause-some : goal.returns-clause-some
@@ -49,7 +49,7 @@ pub returns-clause-when : goal.returns-clause-when
 returns-clause-when c = search rules
 
 pub returns-clause-part : goal.returns-clause-part
-returns-clause-part c all at some = entry_links_of c.args.words.now all _
+returns-clause-part c all at some = keyed_links_of c.args.words.now all _
     (λ child next key a b size e f len front. search rules) at some
 
 pub bounds-words-2 : goal.bounds-words-2
