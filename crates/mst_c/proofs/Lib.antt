@@ -2,7 +2,7 @@ pub mod AsBox
 pub mod Dealt
 pub mod Listing
 pub mod Packed
-pub mod PartsSteps
+pub mod RawBoxSteps
 pub mod Readings
 pub mod Unpacked
 pub mod Values

@@ -19,10 +19,10 @@ use Rattle.mst_c.proofs.Readings.{step, none_from}
 abbrev pub Part : Type 0
 Part = ℕ × List ℕ × List ℕ × List ℕ
 
-abbrev pub Parts : Type 0
-Parts = Result Part EditFault
+abbrev pub ReadPart : Type 0
+ReadPart = Result Part EditFault
 
-abbrev parts : ℕ → List ℕ → List ℕ → List ℕ → Parts
+abbrev parts : ℕ → List ℕ → List ℕ → List ℕ → ReadPart
 parts kind key value rest = Ok (kind, key, value, rest)
 
 abbrev pub read : Edit → List ℕ → Result (Edit × List ℕ) EditFault
@@ -36,9 +36,9 @@ within : (kind k v : ℕ) (bytes : List ℕ) → 0 < k → k ≤ 32 → v ≤ 64
     → parts_by kind k v bytes
     ≡ Ok (kind, take k bytes, take v (drop k bytes), drop v (drop k bytes))
 within kind k v bytes some few small fits =
-    let r : Parts = Ok (kind, take k bytes, take v (drop k bytes), drop v (drop k bytes)) in
-    let full : Parts = if nat_lt (length bytes) (k + v) then Err Form else r in
-    let sized : Parts = if nat_lt 64 v then Err ValueSize else full in
+    let r : ReadPart = Ok (kind, take k bytes, take v (drop k bytes), drop v (drop k bytes)) in
+    let full : ReadPart = if nat_lt (length bytes) (k + v) then Err Form else r in
+    let sized : ReadPart = if nat_lt 64 v then Err ValueSize else full in
     ap (λ (t : Bool). if t then Err KeySize else if nat_lt 32 k then Err KeySize else sized)
     (not_less k 1 some)
     ∙ ap (λ (t : Bool). if t then Err KeySize else sized) (not_less 32 k few)
@@ -79,7 +79,7 @@ edit_by : (kind : ℕ) (k v rest : List ℕ) → IsKey k → IsValue v
     ≡ (edit_of kind k v >>= λ e. Ok (e, rest))
 unfolding edit_at
 edit_by kind k v rest key value = ap
-    (λ (r : Parts). r >>= λ x. edit_of x.0 x.1 x.2 >>= λ e. read e x.3)
+    (λ (r : ReadPart). r >>= λ x. edit_of x.0 x.1 x.2 >>= λ e. read e x.3)
     (parts_are kind k v rest key value)
 
 -- an edit at the front is read back

@@ -14,7 +14,7 @@ use Rattle.mst_c.specs.declared.packing.EditFault.{EditFault}
 use Rattle.mst_c.specs.declared.packing.EditFault.TheVariants.{KeySize, ValueSize, Form}
 use Rattle.mst_c.specs.declared.packing.BadEdit.{BadEdit}
 use Rattle.mst_c.specs.Batches.{parts_at, edit_of, edit_at, ◌>>=◌, placed, edits_from, edits_in, size_bytes, edit_bytes, edits_bytes}
-use Rattle.mst_c.proofs.Packed.{Part, Parts, read, some_bytes}
+use Rattle.mst_c.proofs.Packed.{Part, ReadPart, read, some_bytes}
 
 -- what stands in a result, or this
 abbrev or_else : {A B : Type 0} → A → Result A B → A
@@ -135,7 +135,7 @@ made kind key value rest behind e (Ok x) first is =
 made kind key value rest behind e (Err fault) first is =
     let there : Edit × List ℕ = (e, behind) in absurd (no_fault fault there is)
 
-edit_back_by : (bytes : List ℕ) → IsBytes bytes → (e : Edit) (behind : List ℕ) (r : Parts)
+edit_back_by : (bytes : List ℕ) → IsBytes bytes → (e : Edit) (behind : List ℕ) (r : ReadPart)
     → parts_at bytes ≡ r
     → (r >>= λ x. edit_of x.0 x.1 x.2 >>= λ e. read e x.3) ≡ read e behind
     → (bytes ≡ edit_bytes e ++ behind) × IsBytes behind

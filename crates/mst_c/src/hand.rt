@@ -8,8 +8,8 @@ ghost use Rattle.std.specs.Option.{MatchOption};
 ghost use Rattle.mst_c.specs.Owning.{HeldNow, hand_coded};
 ghost use Rattle.mst_c.specs.States.{PinsNone};
 
-use crate::parts::Parts;
 use crate::pass_box::PassBox;
+use crate::raw_box::RawBox;
 use std::alloc::Global;
 use std::marker::Model;
 use std::mem::replace;
@@ -51,24 +51,24 @@ impl Hand {
         }
     }
 
-    fn of_parts(parts: Parts<PassBox, Global>) -> Hand
+    fn of_parts(parts: RawBox<PassBox, Global>) -> Hand
         ensures { result.held ≡ Some parts.value }
     {
-        let Parts { ptr, alloc } = parts;
+        let RawBox { ptr, alloc } = parts;
         Hand {
             ptr: ptr as *mut u8,
             alloc,
         }
     }
 
-    fn into_parts(self) -> Option<Parts<PassBox, Global>>
+    fn into_parts(self) -> Option<RawBox<PassBox, Global>>
         ensures { MatchOption result (self.held ≡ None) (λ p. self.held ≡ Some p.value) }
     {
         let Hand { ptr, alloc } = self;
         if ptr.is_null() {
             None
         } else {
-            Some(Parts {
+            Some(RawBox {
                 ptr: ptr as *mut PassBox,
                 alloc,
             })
@@ -78,7 +78,7 @@ impl Hand {
     fn of_box(held: Box<PassBox, Global>) -> Hand
         ensures { result.held ≡ Some held.value }
     {
-        Hand::of_parts(Parts::of(held))
+        Hand::of_parts(RawBox::of(held))
     }
 
     fn into_box(self) -> Option<Box<PassBox, Global>>

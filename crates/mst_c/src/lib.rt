@@ -35,9 +35,9 @@ pub mod knowing;
 mod laws;
 pub mod opening;
 pub mod packing;
-pub mod parts;
 pub mod pass_box;
 pub mod ranging;
+pub mod raw_box;
 pub mod telling;
 
 pub use laws::{batch_laws, worked_batches};

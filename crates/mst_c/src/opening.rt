@@ -18,6 +18,9 @@ use mst_store::{OpenFault, Pass, Seats, Shape, Store};
 use std::alloc::Global;
 use std::sync::Arc;
 
+/// The most passes of a store, which are one for each hand.
+pub const MOST_PASSES: usize = 32;
+
 /// The pass goes into the hand, if all before it went into theirs.
 fn hand_next(
     alloc: Global,
@@ -124,7 +127,7 @@ fn open_in(alloc: Global, format: Format, rows: u32, hands: &mut [PaddedHand]) -
     ensures size { result ≡ bad_shape ↔ ¬ (IsSize rows (length hands.old)) }
     ensures range { (result ≡ pos 0) ⊎ (result ≡ bad_shape) ⊎ (result ≡ memory) }
 {
-    if hands.len() > 32 {
+    if hands.len() > MOST_PASSES {
         return BAD_SHAPE;
     }
     let passes = hands.len() as u32;

@@ -1,6 +1,6 @@
 //! The calls as C is told of them.
 ghost use Rattle.std.specs.Prelude.{◌≡◌, ◌≤◌, ◌++◌, length, drop, Some, None, ◌↔◌, IsOk, IfOk};
-ghost use Rattle.mst_c.specs.Told.{value_code, room_after, unwritten_code as code_of_unwritten, done_code, bytes_code, GetTold, PutTold, RootTold, ProveTold, PinTold, UnpinTold, CloseTold, RemoveTold, VersionTold, RowsTold, count_code, count_after, NextTold, IsBound, bound_of, pair_code, key_room_after, value_room_after, key_size_after};
+ghost use Rattle.mst_c.specs.Told.{value_code, room_after, unwritten_code as code_of_unwritten, done_code as code_of_done, bytes_code, GetTold, PutTold, RootTold, ProveTold, PinTold, UnpinTold, CloseTold, RemoveTold, VersionTold, RowsTold, count_code, count_after, NextTold, IsBound, bound_of, pair_code, key_room_after, value_room_after, key_size_after};
 
 use crate::codes::{
     ABSENT, BAD_KEY, BAD_VALUE, BUSY, CLOSED, MEMORY, NO_FREE_ROWS, ROWS_PINNED, SHORT_ROOM,
@@ -12,8 +12,11 @@ use mst_key::{Key, KeySize, Value};
 use mst_store::WriteFault;
 use std::alloc::Global;
 
-/// Puts bytes first, and keeps those after them.
-pub fn put(room: &mut [u8], bytes: &[u8])
+/// How many bytes a root digest has.
+pub const ROOT_LENGTH: usize = 32;
+
+/// Writes bytes first into a room, and keeps those after them.
+pub fn write_first(room: &mut [u8], bytes: &[u8])
     requires fits { length bytes.now ≤ length room.old }
     ensures room { room.new ≡ bytes.now ++ drop (length bytes.now) room.old }
 {
@@ -31,7 +34,7 @@ pub fn tell(value: &Option<Value>, room: &mut [u8]) -> i32
             if room.len() < bytes.len() {
                 return SHORT_ROOM;
             }
-            put(room, bytes);
+            write_first(room, bytes);
             bytes.len() as i32
         }
         None => ABSENT,
@@ -48,10 +51,11 @@ pub fn tell_proof(proof: &[u8], room: &mut [u8], size: &mut usize) -> i32
     if room.len() < proof.len() {
         return SHORT_ROOM;
     }
-    put(room, proof);
+    write_first(room, proof);
     0
 }
 
+/// The code of what was not written.
 pub fn unwritten_code(fault: Unwritten) -> i32
     ensures code { result ≡ code_of_unwritten fault }
 {
@@ -79,8 +83,9 @@ fn tell_rows(rows: Result<Option<u32>, Uncounted>, count: &mut u32) -> i32
     }
 }
 
-pub fn done(done: bool) -> i32
-    ensures code { result ≡ done_code done }
+/// The code of a pin or of its end: whether it was made.
+pub fn done_code(done: bool) -> i32
+    ensures code { result ≡ code_of_done done }
 {
     if done { 0 } else { WRONG_STATE }
 }
@@ -130,14 +135,14 @@ pub fn root(alloc: Global, hand: &mut Hand, room: &mut [u8]) -> i32
     let Some(mut taken) = take(alloc, hand) else {
         return CLOSED;
     };
-    if room.len() < 32 {
+    if room.len() < ROOT_LENGTH {
         give(hand, taken);
         return SHORT_ROOM;
     }
     let root = taken.held.root();
     give(hand, taken);
-    put(room, &root);
-    32
+    write_first(room, &root);
+    ROOT_LENGTH as i32
 }
 
 /// As `mst_prove` of `mst_exports` says.
@@ -169,7 +174,7 @@ pub fn pin(alloc: Global, hand: &mut Hand) -> i32
     };
     let pinned = taken.held.pin();
     give(hand, taken);
-    done(pinned)
+    done_code(pinned)
 }
 
 /// As `mst_unpin` of `mst_exports` says.
@@ -181,7 +186,7 @@ pub fn unpin(alloc: Global, hand: &mut Hand) -> i32
     };
     let unpinned = taken.held.unpin();
     give(hand, taken);
-    done(unpinned)
+    done_code(unpinned)
 }
 
 /// As `mst_close` of `mst_exports` says.
@@ -274,8 +279,8 @@ pub fn tell_pair(
     if key_room.len() < key.len() || room.len() < value.len() {
         return SHORT_ROOM;
     }
-    put(key_room, key);
-    put(room, value);
+    write_first(key_room, key);
+    write_first(room, value);
     *size = key.len();
     value.len() as i32
 }

@@ -8,7 +8,7 @@ use Rattle.std_heap.specs.contracts.GlobalAllocator.TheImpl.{ghosts, dict}
 use Rattle.std_heap.proofs.Global.TheLaws as heap
 use Rattle.mst_c_sharded.specs.contracts.handle_box.HandleBox as HandleBox
 use Rattle.mst_c_sharded.proofs.handle_box.HandleBox.TheLaws as held
-use Rattle.mst_c.specs.contracts.parts.Parts as Parts
+use Rattle.mst_c.specs.contracts.raw_box.RawBox as RawBox
 use Rattle.mst_c_sharded.specs.contracts.hand.ShardedHand as Hand
 
 abbrev pub E : Bx
@@ -27,8 +27,8 @@ E =
           };
     }
 
-abbrev pub FromParts : Slot 0
-FromParts = plain (λ _. Parts.the_row HandleBox.the_row Heap.the_row ghosts)
+abbrev pub FromRawBox : Slot 0
+FromRawBox = plain (λ _. RawBox.the_row HandleBox.the_row Heap.the_row ghosts)
 
 abbrev pub FromHand : Slot 0
 FromHand = plain (λ _. Hand.the_row)

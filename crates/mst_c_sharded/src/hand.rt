@@ -6,7 +6,7 @@ ghost use Rattle.mst_c_sharded.specs.ShardedOwning.{HeldNow, hand_coded};
 ghost use Rattle.mst_c_sharded.specs.ShardedStates.{PinsNone};
 
 use crate::handle_box::HandleBox;
-use mst_c::parts::Parts;
+use mst_c::raw_box::RawBox;
 use std::alloc::Global;
 use std::marker::Model;
 use std::mem::replace;
@@ -46,24 +46,24 @@ impl ShardedHand {
         }
     }
 
-    fn of_parts(parts: Parts<HandleBox, Global>) -> ShardedHand
+    fn of_parts(parts: RawBox<HandleBox, Global>) -> ShardedHand
         ensures { result.held ≡ Some parts.value }
     {
-        let Parts { ptr, alloc } = parts;
+        let RawBox { ptr, alloc } = parts;
         ShardedHand {
             ptr: ptr as *mut u8,
             alloc,
         }
     }
 
-    fn into_parts(self) -> Option<Parts<HandleBox, Global>>
+    fn into_parts(self) -> Option<RawBox<HandleBox, Global>>
         ensures { MatchOption result (self.held ≡ None) (λ p. self.held ≡ Some p.value) }
     {
         let ShardedHand { ptr, alloc } = self;
         if ptr.is_null() {
             None
         } else {
-            Some(Parts {
+            Some(RawBox {
                 ptr: ptr as *mut HandleBox,
                 alloc,
             })
@@ -73,7 +73,7 @@ impl ShardedHand {
     fn of_box(held: Box<HandleBox, Global>) -> ShardedHand
         ensures { result.held ≡ Some held.value }
     {
-        ShardedHand::of_parts(Parts::of(held))
+        ShardedHand::of_parts(RawBox::of(held))
     }
 
     fn into_box(self) -> Option<Box<HandleBox, Global>>

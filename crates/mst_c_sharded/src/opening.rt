@@ -17,6 +17,7 @@ use crate::splits::list_splits;
 use crate::telling::close;
 use mst_c::codes::{BAD_SHAPE, BAD_SPLITS, MEMORY, UNKNOWN_FORMAT};
 use mst_c::formats::format_named;
+use mst_c::opening::MOST_PASSES;
 use mst_key::{Format, Key, Memory};
 use mst_sharded::{AllSeats, Sharded, ShardsFault, SharedHandle};
 use mst_store::Shape;
@@ -67,14 +68,14 @@ fn close_all(alloc: Global, hands: &mut [PaddedShardedHand])
     }
 }
 
-/// The passes of a shard that has one for each hand. Of more than 32 hands it is 33, which no store
-/// has.
+/// The passes of a shard that has one for each hand. Of more hands than a store has passes it is
+/// one more than that.
 fn passes_for(hands: usize) -> u32
     ensures same { hands ≤ 32 → result ≡ hands }
     ensures fits { result ≤ 32 → result ≡ hands }
 {
-    if hands > 32 {
-        return 33;
+    if hands > MOST_PASSES {
+        return MOST_PASSES as u32 + 1;
     }
     hands as u32
 }

@@ -7,7 +7,7 @@ use crate::hand::{ShardedHand, give, take};
 use mst_c::codes::{
     BAD_KEY, CLOSED, MEMORY, MIXED_FORMATS, SHORT_ROOM, STRAY_KEY, VERSIONS_SPENT, WRONG_STATE,
 };
-use mst_c::telling::{put, tell_proof};
+use mst_c::telling::{ROOT_LENGTH, tell_proof, write_first};
 use mst_key::Key;
 use mst_sharded::DirectoryFault;
 use std::alloc::Global;
@@ -32,11 +32,11 @@ fn tell_root(told: Result<[u8; 32], Unlisted>, room: &mut [u8]) -> i32
 {
     match told {
         Ok(root) => {
-            if room.len() < 32 {
+            if room.len() < ROOT_LENGTH {
                 return SHORT_ROOM;
             }
-            put(room, &root);
-            32
+            write_first(room, &root);
+            ROOT_LENGTH as i32
         }
         Err(fault) => unlisted_code(fault),
     }

@@ -4,7 +4,7 @@ ghost use Rattle.mst_c_sharded.specs.ShardedTold.{GetTold, PutTold, RemoveTold, 
 
 use crate::hand::{ShardedHand, give, take};
 use mst_c::codes::{BAD_KEY, BAD_VALUE, CLOSED};
-use mst_c::telling::{done, tell, unwritten_code};
+use mst_c::telling::{done_code, tell, unwritten_code};
 use mst_key::{Key, Value};
 use std::alloc::Global;
 
@@ -93,7 +93,7 @@ pub fn snapshot(alloc: Global, hand: &mut ShardedHand) -> i32
     };
     let pinned = taken.held.snapshot();
     give(hand, taken);
-    done(pinned)
+    done_code(pinned)
 }
 
 /// As `mst_sharded_release` of `mst_exports` says.
@@ -105,7 +105,7 @@ pub fn release(alloc: Global, hand: &mut ShardedHand) -> i32
     };
     let released = taken.held.release();
     give(hand, taken);
-    done(released)
+    done_code(released)
 }
 
 /// As `mst_sharded_close` of `mst_exports` says.

@@ -2,12 +2,12 @@
 use Rattle.std.proofs.Common.{◌≡◌, ◌≢◌, ℕ, ◌<◌, ◌==◌, List, [], ◌∷◌, ◌++◌, length, sym, refl, ap, ◌∙◌, subst, arith, append_assoc, append-nil, Bool, true, false, cond, Option, Some, None}
 use Rattle.std.specs.Prelude.{nat_lt}
 use Rattle.mst_devices.specs.Device.{Puts, Breaks}
-use Rattle.mst_lines.specs.Lines.{IsWithout, complete, remainder, lines_of, kept}
+use Rattle.mst_lines.specs.Lines.{IsWithout, complete, remainder, lines_of, longest_line, kept}
 use Rattle.mst_lines.specs.Reading.{Cuts, Ends, Fails}
 use Rattle.mst_lines.specs.Runs.{Replies, Ran, Stopped}
 use Rattle.mst_lines.specs.Driving.{Answered, Lost, Reached, Rests, Closed, NotClosed}
 use Rattle.mst_devices.proofs.Putting.{puts_then, puts_breaks}
-use Rattle.mst_lines.proofs.Parts.{all_go_on, line_ends, only_adds, none_yet, lines_none, lines_one}
+use Rattle.mst_lines.proofs.LineParts.{all_go_on, line_ends, only_adds, none_yet, lines_none, lines_one}
 
 module _ {L : Type 0} (answers : L → Option (List ℕ) → List ℕ → L → Type 0) where
   replies_append : (ls ks : List (List ℕ)) (a b c : L) (x y : List ℕ) → Replies answers a ls x b
@@ -30,7 +30,7 @@ module _ {L : Type 0} (answers : L → Option (List ℕ) → List ℕ → L → 
       replies_append ls (l ∷ []) a b c x y p (y, [], c, q, (refl, refl), sym (append-nil y))
 
 -- what is kept is nothing exactly if the line is empty
-some_kept : (b : ℕ) (bs : List ℕ) (t : Bool) → nat_lt 4096 (length (b ∷ bs)) ≡ t
+some_kept : (b : ℕ) (bs : List ℕ) (t : Bool) → nat_lt longest_line (length (b ∷ bs)) ≡ t
     → kept (b ∷ bs) ≢ Some []
 some_kept b bs true is e = let x : None ≡ Some [] =
     sym (ap (λ (u : Bool). cond u None (Some (b ∷ bs))) is) ∙ e in absurd cc
@@ -50,7 +50,7 @@ module _ {L : Type 0} (answers : L → Option (List ℕ) → List ℕ → L → 
       (sym (ap (λ (z : List ℕ). text ++ z) none.1 ∙ append-nil text))
       (subst (λ (z : L). Replies answers a (complete input) text z) (sym none.0) x))
   rest_replies a b c input (d ∷ ds) text last k is keeps x r =
-      let some : k ≢ Some [] = λ e. some_kept d ds (nat_lt 4096 (length (d ∷ ds))) refl
+      let some : k ≢ Some [] = λ e. some_kept d ds (nat_lt longest_line (length (d ∷ ds))) refl
       (sym keeps ∙ e) in
       subst (λ (ls : List (List ℕ)). Replies answers a ls (text ++ last) c)
       (sym (lines_one input d ds is))

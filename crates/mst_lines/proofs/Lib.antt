@@ -1,5 +1,5 @@
 pub mod Cutting
 pub mod Reading
-pub mod Parts
+pub mod LineParts
 pub mod Driving
 pub mod Worked

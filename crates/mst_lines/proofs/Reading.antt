@@ -4,22 +4,22 @@ use Rattle.std.specs.Prelude.{nat_lt}
 use Rattle.std.proofs.lemmas.Bool.{ltb-true, lt-ltb}
 use Rattle.std.proofs.lemmas.List.Elements.{All-append}
 use Rattle.mst_devices.specs.Device.{Puts, Breaks}
-use Rattle.mst_lines.specs.Lines.{IsWithout, kept, kept_with}
+use Rattle.mst_lines.specs.Lines.{IsWithout, longest_line, kept, kept_with}
 use Rattle.mst_lines.specs.Reading.{Cuts, Ends, Fails, Goes}
 use Rattle.mst_devices.proofs.Putting.{puts_breaks}
 
-kept_by : (line more : List ℕ) (t : Bool) → nat_lt 4096 (length line) ≡ t → kept_with (kept line)
-    more ≡ kept (line ++ more)
+kept_by : (line more : List ℕ) (t : Bool) → nat_lt longest_line (length line) ≡ t
+    → kept_with (kept line) more ≡ kept (line ++ more)
 kept_by line more true is =
-    let longer : nat_lt 4096 (length (line ++ more)) ≡ true =
-    lt-ltb 4096 (length (line ++ more))
-    (omega (arith, ltb-true 4096 (length line) is, length-append line more)) in
+    let longer : nat_lt longest_line (length (line ++ more)) ≡ true =
+    lt-ltb longest_line (length (line ++ more))
+    (omega (arith, ltb-true longest_line (length line) is, length-append line more)) in
     ap (λ (b : Bool). kept_with (cond b None (Some line)) more) is
     ∙ sym (ap (λ (b : Bool). cond b None (Some (line ++ more))) longer)
 kept_by line more false is = ap (λ (b : Bool). kept_with (cond b None (Some line)) more) is
 
 pub kept_more : (line more : List ℕ) → kept_with (kept line) more ≡ kept (line ++ more)
-kept_more line more = kept_by line more (nat_lt 4096 (length line)) refl
+kept_more line more = kept_by line more (nat_lt longest_line (length line)) refl
 
 none_in : (xs ys : List ℕ) → IsWithout 10 xs → IsWithout 10 ys → IsWithout 10 (xs ++ ys)
 none_in xs ys a b = All-append (λ (x : ℕ). (x == 10) ≡ false) xs ys a b

@@ -18,6 +18,6 @@ mod line;
 mod reader;
 mod separator;
 
-pub use line::{LONGEST, LineBuffer};
+pub use line::{LONGEST_LINE, LineBuffer};
 pub use reader::Reader;
 pub use separator::cut;

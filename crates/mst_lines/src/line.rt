@@ -6,12 +6,12 @@ use arrayvec::ArrayVec;
 use std::marker::Model;
 
 /// The most bytes that a line has, without its newline.
-pub const LONGEST: usize = 4096;
+pub const LONGEST_LINE: usize = 4096;
 
 /// What is kept of the line that is being read: its bytes, or only that they are too many.
 #[derive(Drop)]
 pub struct LineBuffer {
-    bytes: ArrayVec<u8, LONGEST>,
+    bytes: ArrayVec<u8, LONGEST_LINE>,
     is_long: bool,
 }
 

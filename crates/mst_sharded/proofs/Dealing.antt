@@ -32,18 +32,18 @@ only_pass s all rest p one is last =
     ∙ ap (λ (l : List Known). get_or l (length rest) p) (sym last ∙ single)
     ∙ ap (λ (n : ℕ). get_or (new_pass s 1 ∷ []) n p) none
 
--- ---- the rows
+-- ---- the lots
 
 pub length-dealt : (stores ds : List StoreId) (n : ℕ) → length (dealt_from stores ds n) ≡ length ds
 length-dealt stores [] n = refl
 length-dealt stores (d ∷ ds) n = ap suc (length-dealt stores ds (suc n))
 
--- one more row, before any store's passes are dealt
-pub one_more_row : (front : List StoreId) (d : StoreId) (n : ℕ)
+-- one more lot, before any store's passes are dealt
+pub one_more_lot : (front : List StoreId) (d : StoreId) (n : ℕ)
     → dealt_from [] (front ++ d ∷ []) n ≡ dealt_from [] front n ++ dealt [] d 0 ∷ []
-one_more_row [] d n = refl
-one_more_row (x ∷ front) d n =
-    ap (λ (l : List Dealt). dealt [] x n ∷ l) (one_more_row front d (suc n))
+one_more_lot [] d n = refl
+one_more_lot (x ∷ front) d n =
+    ap (λ (l : List Dealt). dealt [] x n ∷ l) (one_more_lot front d (suc n))
 
 dealt_at : (stores ds : List StoreId) (n k : ℕ) (e : Dealt) (d : StoreId) → k < length ds
     → get_or (dealt_from stores ds n) k e ≡ dealt stores (get_or ds k d) (n + k)
@@ -59,7 +59,7 @@ abbrev made : List Known → StoreId → List (Option ℕ) → Dealt
 made passes d listed =
     record { passes = passes; directory = record { pass = new_pass d 1; listed = listed } }
 
--- a row gets the pass of one more store
+-- a lot gets the pass of one more store
 dealt_grows : (front : List StoreId) (s d : StoreId) (n : ℕ)
     → dealt_more (dealt front d n) (new_pass s n) ≡ dealt (front ++ s ∷ []) d n
 dealt_grows front s d n =
@@ -70,19 +70,19 @@ dealt_grows front s d n =
     ∙ ap (λ (l : List (Option ℕ)). made (map pass (front ++ s ∷ [])) d l)
     (sym (map-append none front (s ∷ [])))
 
--- each row got the pass of one more store
-pub rows_grow : (front ds : List StoreId) (s : StoreId) (rows rows' : List Dealt)
-    (passes : List Known) → rows ≡ dealt_from front ds 1 → passes ≡ new_passes s
-    → s.passes ≡ length ds → length rows' ≡ length rows →
-    ((k : ℕ) (d : Dealt) (e : Known) → k < length rows
-    → get_or rows' k d ≡ dealt_more (get_or rows k d) (get_or passes k e))
-    → rows' ≡ dealt_from (front ++ s ∷ []) ds 1
-rows_grow front ds s rows rows' passes are all count long each =
+-- each lot got the pass of one more store
+pub lots_grow : (front ds : List StoreId) (s : StoreId) (lots lots' : List Dealt)
+    (passes : List Known) → lots ≡ dealt_from front ds 1 → passes ≡ new_passes s
+    → s.passes ≡ length ds → length lots' ≡ length lots →
+    ((k : ℕ) (d : Dealt) (e : Known) → k < length lots
+    → get_or lots' k d ≡ dealt_more (get_or lots k d) (get_or passes k e))
+    → lots' ≡ dealt_from (front ++ s ∷ []) ds 1
+lots_grow front ds s lots lots' passes are all count long each =
     let before = length-dealt front ds 1 in
     let then_ = length-dealt (front ++ s ∷ []) ds 1 in
-    let were : length rows ≡ length (dealt_from front ds 1) =
+    let were : length lots ≡ length (dealt_from front ds 1) =
     ap (λ (l : List Dealt). length l) are in
-    same_lists rows' (dealt_from (front ++ s ∷ []) ds 1) (long ∙ were ∙ before ∙ sym then_)
+    same_lists lots' (dealt_from (front ++ s ∷ []) ds 1) (long ∙ were ∙ before ∙ sym then_)
     (λ k d low.
     let few : k < length ds = omega (arith, low, long, were, before) in
     let next : 1 + k ≡ suc k = omega arith in
@@ -105,7 +105,7 @@ length-first_handles s (suc n) =
     let before = length-first_handles s n in
     omega (arith, more, before)
 
--- ---- a row makes a handle
+-- ---- a lot makes a handle
 
 pub length-shards : (low : List ℕ) (splits : List (List ℕ))
     → length (shards_from low splits) ≡ length splits + 1
@@ -150,11 +150,11 @@ all_whole splits stores (d ∷ ds) format n count shaped = (
   all_whole splits stores ds format (suc n) count shaped.1,
 )
 
-abbrev pub handle_of_row : List (List ℕ) → Dealt → Sharding
-handle_of_row splits d = sharding splits d.passes
+abbrev pub handle_of_lot : List (List ℕ) → Dealt → Sharding
+handle_of_lot splits d = sharding splits d.passes
 
 handles_from : (s : Shards) (ds : List StoreId) (n : ℕ) → first_handles s (n + length ds)
-    ≡ first_handles s n ++ map (handle_of_row s.splits) (dealt_from s.stores ds (suc n))
+    ≡ first_handles s n ++ map (handle_of_lot s.splits) (dealt_from s.stores ds (suc n))
 handles_from s [] n =
     let e : n + 0 ≡ n = omega arith in
     ap (λ (j : ℕ). first_handles s j) e ∙ sym (append-nil (first_handles s n))
@@ -162,10 +162,10 @@ handles_from s (d ∷ ds) n =
     let e : n + suc (length ds) ≡ suc n + length ds = omega arith in
     ap (λ (j : ℕ). first_handles s j) e ∙ handles_from s ds (suc n)
     ∙ append_assoc (first_handles s n) (new_handle s (suc n) ∷ [])
-    (map (handle_of_row s.splits) (dealt_from s.stores ds (suc (suc n))))
+    (map (handle_of_lot s.splits) (dealt_from s.stores ds (suc (suc n))))
 
--- the handles of the rows are those of the map
-pub all_handles : (s : Shards) → map (handle_of_row s.splits) (dealt_from s.stores s.directories 1)
+-- the handles of the lots are those of the map
+pub all_handles : (s : Shards) → map (handle_of_lot s.splits) (dealt_from s.stores s.directories 1)
     ≡ first_handles s (length s.directories)
 all_handles s =
     let e : 0 + length s.directories ≡ length s.directories = omega arith in

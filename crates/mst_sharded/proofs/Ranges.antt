@@ -1,5 +1,6 @@
 -- The first pairs between two bounds in the map of all shards.
 use Rattle.std.proofs.Common.{◌≡◌, ℕ, zero, suc, ◌+◌, ◌-◌, ◌<◌, ◌&&◌, Bool, false, not, List, [], ◌∷◌, ◌++◌, length, take, filter, Option, Some, None, get_or, slice_get, refl, sym, ap, ◌∙◌, Ordering, Less, is_lt, arith}
+use Rattle.std.proofs.Math.Seq.{take-nil}
 use Rattle.std.proofs.lemmas.List.{append_assoc, append-nil, length-append}
 use Rattle.std.proofs.lemmas.List.Elements.{filter-append}
 use Rattle.mst_key.specs.Bytes.{IsKey, IsValue}
@@ -99,14 +100,10 @@ range_more limit all found more part rest left so_far is added =
     ∙ ap (λ (j : ℕ). (found ++ take n part) ++ take j left) e
     ∙ ap (λ (l : List Pair). l ++ take (limit - length l) left) (sym added)
 
-take_nothing : (n : ℕ) → ◌≡◌ {A = List Pair} (take n []) []
-take_nothing zero = refl
-take_nothing (suc n) = refl
-
 pub range_done : (limit : ℕ) (all found left : List Pair)
     → take limit all ≡ found ++ take (limit - length found) left → left ≡ []
     → found ≡ take limit all
 range_done limit all found left so_far is =
     sym (so_far ∙ ap (λ (l : List Pair). found ++ take (limit - length found) l) is
-    ∙ ap (λ (l : List Pair). found ++ l) (take_nothing (limit - length found))
+    ∙ ap (λ (l : List Pair). found ++ l) (take-nil (limit - length found))
     ∙ append-nil found)

@@ -21,7 +21,7 @@ use Rattle.mst_sharded.proofs.Changing.{next_shard, shard_get, shard_keeps}
 use Rattle.mst_sharded.proofs.Dealing.{length-shards}
 use Rattle.mst_sharded.proofs.Formats.{format_at}
 use Rattle.mst_sharded.proofs.Only.{stays, stays_becomes}
-use Rattle.mst_sharded.proofs.Parts.{HasParts, parts, union_map}
+use Rattle.mst_sharded.proofs.ShardParts.{HasParts, parts, union_map}
 use Rattle.mst_sharded.proofs.Places.{place_within}
 
 -- ---- a sharded map has its root digest

@@ -1,5 +1,5 @@
 -- Handles and snapshots beside a share of their map: their passes stay those of its stores.
-use Rattle.std.proofs.Common.{◌≡◌, ℕ, zero, suc, ◌+◌, ◌<◌, ◌≤◌, List, [], ◌∷◌, ◌++◌, inl, inr, Option, Some, None, slice_get, Result, Ok, Err, IfOk, IfErr, OnOk, length, map, reverse, take, drop, set, get_or, refl, sym, ap, ◌∙◌, subst, arith, length-append, append_assoc}
+use Rattle.std.proofs.Common.{◌≡◌, ℕ, zero, suc, ◌+◌, ◌<◌, ◌≤◌, List, [], ◌∷◌, ◌++◌, inl, inr, Option, Some, None, slice_get, Result, Ok, Err, IfOk, IfErr, OnOk, length, map, take, drop, set, get_or, refl, sym, ap, ◌∙◌, subst, arith, length-append, append_assoc}
 use Rattle.std.specs.List.{swap_remove, SwappedAt}
 use Rattle.std.specs.Prelude.{slice_index_or}
 use Rattle.std.proofs.lemmas.List.{length-map, get_or-map, map-set, set-get_or}
@@ -24,15 +24,14 @@ use Rattle.mst_sharded.specs.Listing.{Listing, HasListed}
 use Rattle.std.specs.List.{AllByRecursion}
 use Rattle.mst_key.specs.declared.format.Format.{Format}
 use Rattle.mst_sharded.specs.Opening.{Shards, Dealt, dealt_from, directory_shape}
-use Rattle.mst_sharded.specs.Shared.{AreOf, KeepsPins, IsRowOf, AreRowsOf}
+use Rattle.mst_sharded.specs.Shared.{AreOf, KeepsPins, IsLotOf, AreLotsOf}
 use Rattle.mst_key.specs.Map.{Pair, IsMap}
 use Rattle.mst_sharded_proof.specs.Shards.{least, shards_from, directory}
 use Rattle.mst_sharded.proofs.Dealing.{all_whole, length-shards}
 use Rattle.mst_sharded.specs.Sharding.{IsSplits, Sharding, place, sharding, IsSharding, HaveFewPairs, Routes, AllStep, PinsNow, SeesMore}
 use Rattle.mst_sharded.proofs.Listed.{handle_kept}
 use Rattle.mst_sharded.proofs.Moved.{read_any, put_back, given_back}
-use Rattle.mst_sharded.proofs.Pins.{moved_on}
-use Rattle.mst_sharded.proofs.Rows.{next_at}
+use Rattle.mst_sharded.proofs.HandingOut.{next_at}
 
 abbrev store : Known → StoreId
 store p = p.store
@@ -136,32 +135,26 @@ pins_own stores ps qs pins own = stays ps qs pins ∙ own
 
 -- ---- all passes, one after the other
 
-popped_is : (all front left rest : List Known) (p : Known) → all ≡ front ++ reverse left
-    → left ≡ rest ++ p ∷ [] → all ≡ front ++ p ∷ reverse rest
-popped_is all front left rest p is next =
-    moved_on all front left rest p is next ∙ append_assoc front (p ∷ []) (reverse rest)
-
--- there is a store for the one that was popped
-pub popped_low : (stores : List StoreId) (all front left rest : List Known) (p : Known) (i : ℕ)
-    → AreOf stores all → all ≡ front ++ reverse left → left ≡ rest ++ p ∷ [] → i ≡ length front
+-- there is a store for the one that comes next
+pub next_low : (stores : List StoreId) (all done left rest : List Known) (p : Known) (i : ℕ)
+    → AreOf stores all → all ≡ done ++ left → left ≡ p ∷ rest → i ≡ length done
     → i < length stores
-popped_low stores all front left rest p i own is next at =
-    let long = length-append front (p ∷ reverse rest) in
-    let same : length all ≡ length (front ++ p ∷ reverse rest) =
-    ap (λ (l : List Known). length l) (popped_is all front left rest p is next) in
+next_low stores all done left rest p i own is next at =
+    let long = length-append done (p ∷ rest) in
+    let same : length all ≡ length (done ++ p ∷ rest) = ap (λ (l : List Known). length l)
+    (is ∙ ap (λ (l : List Known). done ++ l) next) in
     let many = as_many stores all own in
     omega (arith, long, same, many, at)
 
 -- and it is of that store
-pub popped_own : (stores : List StoreId) (all front left rest : List Known) (p : Known) (i : ℕ)
-    (s : StoreId) → AreOf stores all → all ≡ front ++ reverse left → left ≡ rest ++ p ∷ []
-    → i ≡ length front → s ≡ get_or stores i s → p.store ≡ s
-popped_own stores all front left rest p i s own is next at there =
+pub next_own : (stores : List StoreId) (all done left rest : List Known) (p : Known) (i : ℕ)
+    (s : StoreId) → AreOf stores all → all ≡ done ++ left → left ≡ p ∷ rest → i ≡ length done
+    → s ≡ get_or stores i s → p.store ≡ s
+next_own stores all done left rest p i s own is next at there =
     let many = as_many stores all own in
-    let low = popped_low stores all front left rest p i own is next at in
+    let low = next_low stores all done left rest p i own is next at in
     own_at stores all i p s own (omega (arith, low, many))
-    (sym (next_at all front (reverse rest) p i p (popped_is all front left rest p is next)
-    (sym at)))
+    (sym (next_at all done rest p i p (is ∙ ap (λ (l : List Known). done ++ l) next) (sym at)))
     there
 
 -- ---- what is dealt
@@ -174,13 +167,13 @@ seam : (front ds : List StoreId) (d : StoreId) → slice_get (front ++ d ∷ ds)
 seam [] ds d = refl
 seam (x ∷ front) ds d = seam front ds d
 
-rows_from : (s : Shards) (format : Format) (front ds : List StoreId) (n : ℕ)
+lots_from : (s : Shards) (format : Format) (front ds : List StoreId) (n : ℕ)
     → s.directories ≡ front ++ ds → length front ≡ n
     → length s.stores ≡ length s.splits + 1
     → AllByRecursion (HasShape (directory_shape (length s.splits + 1) format)) ds
-    → AreRowsOf s n (dealt_from s.stores ds (suc n))
-rows_from s format front [] n is long count shaped = tt
-rows_from s format front (d ∷ ds) n is long count shaped =
+    → AreLotsOf s n (dealt_from s.stores ds (suc n))
+lots_from s format front [] n is long count shaped = tt
+lots_from s format front (d ∷ ds) n is long count shaped =
     let more = length-append front (d ∷ []) in (
       record {
         whole = (all_whole s.splits s.stores (d ∷ []) format (suc n) count (shaped.0, tt)).0;
@@ -188,34 +181,34 @@ rows_from s format front (d ∷ ds) n is long count shaped =
         directory = ap (λ (l : List StoreId). slice_get l n) is
             ∙ ap (λ (j : ℕ). slice_get (front ++ d ∷ ds) j) (sym long) ∙ seam front ds d;
       },
-      rows_from s format (front ++ d ∷ []) ds (suc n)
+      lots_from s format (front ++ d ∷ []) ds (suc n)
           (is ∙ sym (append_assoc front (d ∷ []) ds)) (omega (arith, more, long)) count shaped.1,
     )
 
--- the rows of a map are those of its stores
-pub rows_are : (s : Shards) (format : Format) → length s.stores ≡ length s.splits + 1
+-- the lots of a map are those of its stores
+pub lots_are : (s : Shards) (format : Format) → length s.stores ≡ length s.splits + 1
     → AllByRecursion (HasShape (directory_shape (length s.splits + 1) format)) s.directories
-    → AreRowsOf s 0 (dealt_from s.stores s.directories 1)
-rows_are s format count shaped = rows_from s format [] s.directories 0 refl refl count shaped
+    → AreLotsOf s 0 (dealt_from s.stores s.directories 1)
+lots_are s format count shaped = lots_from s format [] s.directories 0 refl refl count shaped
 
-pub row_next : (s : Shards) (n : ℕ) (front rest : List Dealt) (d : Dealt)
-    → AreRowsOf s n (front ++ d ∷ rest) → IsRowOf s (n + length front) d
-row_next s n [] rest d all =
+pub lot_next : (s : Shards) (n : ℕ) (front rest : List Dealt) (d : Dealt)
+    → AreLotsOf s n (front ++ d ∷ rest) → IsLotOf s (n + length front) d
+lot_next s n [] rest d all =
     let same : n ≡ n + 0 = omega arith in
-    subst (λ (j : ℕ). IsRowOf s j d) same all.0
-row_next s n (x ∷ front) rest d all =
+    subst (λ (j : ℕ). IsLotOf s j d) same all.0
+lot_next s n (x ∷ front) rest d all =
     let same : suc n + length front ≡ n + suc (length front) = omega arith in
-    subst (λ (j : ℕ). IsRowOf s j d) same (row_next s (suc n) front rest d all.1)
+    subst (λ (j : ℕ). IsLotOf s j d) same (lot_next s (suc n) front rest d all.1)
 
 -- the next one of a loop over them
-pub row_own : (s : Shards) (all front left rest : List Dealt) (d : Dealt) (i : ℕ)
-    → AreRowsOf s 0 all → all ≡ front ++ left → left ≡ d ∷ rest → i ≡ length front
-    → IsRowOf s i d
-row_own s all front left rest d i own is next at =
+pub lot_own : (s : Shards) (all front left rest : List Dealt) (d : Dealt) (i : ℕ)
+    → AreLotsOf s 0 all → all ≡ front ++ left → left ≡ d ∷ rest → i ≡ length front
+    → IsLotOf s i d
+lot_own s all front left rest d i own is next at =
     let same : 0 + length front ≡ i = omega (arith, at) in
-    subst (λ (j : ℕ). IsRowOf s j d) same
-    (row_next s 0 front rest d
-    (subst (λ (l : List Dealt). AreRowsOf s 0 l) (is ∙ ap (λ (l : List Dealt). front ++ l) next)
+    subst (λ (j : ℕ). IsLotOf s j d) same
+    (lot_next s 0 front rest d
+    (subst (λ (l : List Dealt). AreLotsOf s 0 l) (is ∙ ap (λ (l : List Dealt). front ++ l) next)
     own))
 
 -- ---- a list at a place

@@ -3,11 +3,9 @@ use Rattle.std.proofs.Common.{◌≡◌, ◌≢◌, inl, inr, ℕ, zero, suc, �
 use Rattle.std.specs.Prelude.{◌==◌, if◌then◌else◌}
 use Rattle.std.proofs.lemmas.Bool.{cases_order}
 use Rattle.mst_key.specs.declared.history.Edit.{Edit}
-use Rattle.mst_key.proofs.HistoryLaws.{IsPrefix-itself, IsPrefix-append, IsPrefix-chain}
-use Rattle.mst_key.specs.declared.history.Event.{Event}
+use Rattle.mst_key.proofs.HistoryLaws.{IsPrefix-itself}
 use Rattle.mst_key.specs.declared.format.Format.{Format}
-use Rattle.mst_key.specs.History.{History, Reply, IsPrefix}
-use Rattle.mst_store.specs.Passes.{Known, Wrote, having_missed}
+use Rattle.mst_store.specs.Passes.{Known, having_missed}
 use Rattle.mst_versions.specs.Applying.{RefusesBatch}
 use Rattle.mst_versions.specs.Migrating.{RefusesMigration}
 use Rattle.mst_versions.specs.declared.faults.ApplyFault.{ApplyFault}
@@ -16,6 +14,7 @@ use Rattle.mst_versions.specs.declared.faults.MigrateFault.{MigrateFault}
 use Rattle.mst_versions.specs.declared.faults.MigrateFault.TheVariants as move
 use Rattle.mst_sharded.specs.Sharding.{AllStep, SeesMore}
 use Rattle.mst_sharded.specs.Applying.{picked, AppliesPart, Migrates, StepsFrom, StopsAt}
+use Rattle.mst_sharded.proofs.Listed.{wrote_more}
 
 -- ---- the edits of a place
 
@@ -177,14 +176,9 @@ all_see_more S from (p ∷ ps) (q ∷ qs) more steps =
 same_sees : (p q : Known) → q ≡ p → SeesMore p q
 same_sees p q is = subst (λ (x : Known). SeesMore p x) (sym is) (IsPrefix-itself p.seen)
 
-wrote_sees : (e : Event) (p q : Known) (answer : Reply) → Wrote e p answer q → SeesMore p q
-wrote_sees e p q answer w =
-    subst (λ (h : History). IsPrefix p.seen h) (sym w.seen)
-    (IsPrefix-chain p.seen w.log (w.log ++ e ∷ []) w.later (IsPrefix-append w.log (e ∷ [])))
-
 part_sees : (edits : List Edit) (p q : Known) → AppliesPart edits p q → SeesMore p q
 part_sees [] p q is = same_sees p q is
-part_sees (e ∷ edits) p q w = wrote_sees _ p q _ w
+part_sees (e ∷ edits) p q w = wrote_more _ p q _ w
 
 pub parts_see : (part : ℕ → List Edit) (i : ℕ) (p q : Known) → AppliesPart (part i) p q
     → SeesMore p q
@@ -201,7 +195,7 @@ refused_sees (apply.Memory refused) edits p q r = r.0.later
 refused_sees apply.NoRoom edits p q r = r.0.later
 
 pub migrated_sees : (to : Format) (i : ℕ) (p q : Known) → Migrates to p q → SeesMore p q
-migrated_sees to i p q m = wrote_sees _ p q _ m.1
+migrated_sees to i p q m = wrote_more _ p q _ m.1
 
 pub stays_sees : (fault : MigrateFault) (to : Format) (p q : Known) → RefusesMigration fault to p q
     → SeesMore p q

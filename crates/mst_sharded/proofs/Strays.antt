@@ -6,6 +6,7 @@ use Rattle.mst_key.specs.Map.{Pair, key_cmp, from_on, below, map_range}
 use Rattle.mst_key.proofs.Alls.{alls-both, alls-weaker, alls-passes, filter-whole, filter-nothing}
 use Rattle.mst_sharded_proof.specs.Shards.{Shard, is_in, part_of}
 use Rattle.mst_sharded.specs.Entries.{low_at, shard_at}
+use Rattle.mst_sharded.proofs.Unions.{and_left, and_right, not_false}
 
 -- ---- the first that passes a test
 
@@ -38,10 +39,6 @@ emptied found same b n is empty counted =
 lt_not : (b : Bool) → b ≡ false → not b ≡ true
 lt_not b is = ap not is
 
-not_true : (b : Bool) → not b ≡ true → b ≡ false
-not_true true is = absurd (true≢false (sym is))
-not_true false is = refl
-
 pub none_below : (m found : List Pair) (k : List ℕ) (b : Bool) (n : ℕ)
     → found ≡ map_range m None (Some k) 1 → b ≡ (n == 0) → n ≡ length found → b ≡ true
     → AllByRecursion (λ p. from_on (Some k) p.0 ≡ true) m
@@ -57,7 +54,7 @@ pub some_below : (m found : List Pair) (k : List ℕ) (b : Bool) (n : ℕ)
 some_below m found k b n is empty counted some all =
     true≢false (sym (passes_none (λ p. is_lt (key_cmp p.0 k)) m
     (alls-weaker (λ p. from_on (Some k) p.0 ≡ true) (λ p. is_lt (key_cmp p.0 k) ≡ false)
-    (λ p. not_true (is_lt (key_cmp p.0 k))) m all))
+    (λ p. not_false (is_lt (key_cmp p.0 k))) m all))
     ∙ sym (emptied found (map_range m None (Some k) 1) b n is empty counted) ∙ some)
 
 -- ---- from a bound on
@@ -97,14 +94,6 @@ none_unbound (p ∷ m) = (refl, none_unbound m)
 both : (a b : Bool) → a ≡ true → b ≡ true → a && b ≡ true
 both a b x y = ap (λ (c : Bool). c && b) x ∙ y
 
-first : (a b : Bool) → a && b ≡ true → a ≡ true
-first true b is = refl
-first false b is = is
-
-second : (a b : Bool) → a && b ≡ true → b ≡ true
-second true b is = is
-second false b is = absurd (true≢false (sym is))
-
 pub keeps_both : (m : List Pair) (s : Shard)
     → AllByRecursion (λ p. from_on (Some s.low) p.0 ≡ true) m
     → AllByRecursion (λ p. below s.high p.0 ≡ true) m → part_of m s ≡ m
@@ -125,13 +114,13 @@ pub keeps_low : (m : List Pair) (s : Shard) → part_of m s ≡ m
 keeps_low m s keep =
     alls-weaker (λ (p : Pair). is_in s p.0 ≡ true)
     (λ (p : Pair). from_on (Some s.low) p.0 ≡ true)
-    (λ p. first (from_on (Some s.low) p.0) (below s.high p.0)) m (all_in m s keep)
+    (λ p. and_left (from_on (Some s.low) p.0) (below s.high p.0)) m (all_in m s keep)
 
 pub keeps_high : (m : List Pair) (s : Shard) → part_of m s ≡ m
     → AllByRecursion (λ p. below s.high p.0 ≡ true) m
 keeps_high m s keep =
     alls-weaker (λ (p : Pair). is_in s p.0 ≡ true) (λ (p : Pair). below s.high p.0 ≡ true)
-    (λ p. second (from_on (Some s.low) p.0) (below s.high p.0)) m (all_in m s keep)
+    (λ p. and_right (from_on (Some s.low) p.0) (below s.high p.0)) m (all_in m s keep)
 
 -- ---- the shard at a place
 

@@ -19,7 +19,7 @@ use Rattle.mst_sharded.specs.Directory.{AllIn, KeepWithin}
 use Rattle.mst_sharded.specs.Listing.{Listing, AreListed, HasListed}
 use Rattle.mst_sharded.specs.Entries.{edits_of, NewKeep, versions_of, Becomes, HasRowsBeside, ListsAll}
 use Rattle.mst_sharded.proofs.Dealing.{length-shards}
-use Rattle.mst_sharded.proofs.Parts.{HasParts, parts}
+use Rattle.mst_sharded.proofs.ShardParts.{HasParts, parts}
 use Rattle.mst_sharded.proofs.Relisting.{RiseFrom, rise_from, lists_last, relist, lows, keys_relisted, small_edits}
 
 -- ---- how many keys there are

@@ -28,19 +28,19 @@ pub record KeepsPins (s : Shards) (number : ℕ) (l : Listing) (pins : List Know
   pub directory : slice_get s.directories number ≡ Some l.pass.store
 
 -- what is dealt to the handle with this number, from 0, is of the stores of the map
-pub record IsRowOf (s : Shards) (number : ℕ) (d : Dealt) : Type 0 where
+pub record IsLotOf (s : Shards) (number : ℕ) (d : Dealt) : Type 0 where
   pub whole : IsWhole s.splits d
   pub own : AreOf s.stores d.passes
   pub directory : slice_get s.directories number ≡ Some d.directory.pass.store
 
 -- the same of all handles from this number on
-abbrev pub AreRowsOf : Shards → ℕ → List Dealt → Type 0
-AreRowsOf s number [] = Unit {0}
-AreRowsOf s number (d ∷ ds) = IsRowOf s number d × AreRowsOf s (suc number) ds
+abbrev pub AreLotsOf : Shards → ℕ → List Dealt → Type 0
+AreLotsOf s number [] = Unit {0}
+AreLotsOf s number (d ∷ ds) = IsLotOf s number d × AreLotsOf s (suc number) ds
 
 -- the handles of what was dealt
 abbrev pub handles_in : List (List ℕ) → List Dealt → List Sharding
-handles_in splits rows = map (λ d. sharding splits d.passes) rows
+handles_in splits lots = map (λ d. sharding splits d.passes) lots
 
 -- Why a migration is refused: a list of the passes was refused memory, and then nothing has
 -- changed; or it stops at a shard

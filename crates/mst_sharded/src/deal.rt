@@ -1,5 +1,5 @@
 //! The dealing of the handles of a sharded map.
-ghost use Rattle.std.specs.Prelude.{◌≡◌, ◌<◌, ◌≤◌, ◌+◌, ◌++◌, ◌∷◌, ℕ, [], List, None, map, length, get_or, slice_index_or, vec_len, IfOk, OnOk};
+ghost use Rattle.std.specs.Prelude.{◌≡◌, ◌<◌, ◌+◌, ◌++◌, ◌∷◌, ℕ, [], None, map, length, get_or, slice_index_or, vec_len, IfOk, OnOk};
 ghost use Rattle.std.specs.List.{AllByRecursion};
 ghost use Rattle.mst_store.specs.Passes.{Known, new_passes};
 ghost use Rattle.mst_sharded.specs.Sharding.{sharding, IsSplits};
@@ -24,12 +24,12 @@ fn list_none<B: Allocator>(listed: &mut Vec<Option<u64>, B>) -> Result<(), Memor
 
 // What is dealt to one handle.
 #[derive(Drop)]
-pub(crate) struct Row<'a, A: Allocator + Copy, B: Allocator> {
+pub(crate) struct Lot<'a, A: Allocator + Copy, B: Allocator> {
     pub(crate) passes: Vec<Pass<'a, A>, B>,
     pub(crate) directory: Directory<'a, A, B>,
 }
 
-impl<'a, A: Allocator + Copy, B: Allocator> Model for Row<'a, A, B> {
+impl<'a, A: Allocator + Copy, B: Allocator> Model for Lot<'a, A, B> {
     ghost use Rattle.mst_sharded.specs.Opening.{Dealt};
 
     ghost Value = { Dealt };
@@ -37,9 +37,9 @@ impl<'a, A: Allocator + Copy, B: Allocator> Model for Row<'a, A, B> {
     ghost view = { λ r. record { passes = r.passes.items; directory = r.directory } };
 }
 
-impl<'a, A: Allocator + Copy, B: Allocator> Row<'a, A, B> {
-    // A row with a directory, and with no passes yet.
-    fn new(alloc: B, pass: Pass<'a, A>) -> Row<'a, A, B>
+impl<'a, A: Allocator + Copy, B: Allocator> Lot<'a, A, B> {
+    // A lot with a directory, and with no passes yet.
+    fn new(alloc: B, pass: Pass<'a, A>) -> Lot<'a, A, B>
     where
         B: Copy,
         ensures new { result ≡ record {
@@ -47,7 +47,7 @@ impl<'a, A: Allocator + Copy, B: Allocator> Row<'a, A, B> {
           directory = record { pass = pass.entry; listed = [] };
         } }
     {
-        Row {
+        Lot {
             passes: Vec::new(alloc),
             directory: Directory {
                 pass,
@@ -83,99 +83,99 @@ fn deal_at<'a, A: Allocator + Copy, B: Allocator>(
     }
 }
 
-// Deals the only pass of the store at a place, and makes a row with it.
-fn row_at<'a, A: Allocator + Copy, B: Allocator + Copy>(
+// Deals the only pass of the store at a place, and makes a lot with it.
+fn lot_at<'a, A: Allocator + Copy, B: Allocator + Copy>(
     alloc: B,
     stores: &'a [Store<A>],
     place: usize,
     seats: Seats<A>,
-) -> Result<Row<'a, A, B>, Memory>
+) -> Result<Lot<'a, A, B>, Memory>
     requires there { place < length stores.now }
     requires own { seats ≡ slice_index_or stores.now place seats }
     requires alone { seats.passes ≡ 1 }
-    ensures ok { IfOk result (λ row. row ≡ dealt [] seats 0) }
+    ensures ok { IfOk result (λ lot. lot ≡ dealt [] seats 0) }
 {
     let mut passes = deal_at(alloc, stores, place, seats)?;
     match passes.pop() {
-        Some(pass) => Ok(Row::new(alloc, pass)),
+        Some(pass) => Ok(Lot::new(alloc, pass)),
         None => unreachable!(),
     }
 }
 
-// Makes a row of each directory.
-fn rows_of<'a, A: Allocator + Copy, B: Allocator + Copy>(
+// Makes a lot of each directory.
+fn lots_of<'a, A: Allocator + Copy, B: Allocator + Copy>(
     alloc: B,
     directories: &'a [Store<A>],
     seats: Vec<Seats<A>, A>,
-) -> Result<Vec<Row<'a, A, B>, B>, Memory>
+) -> Result<Vec<Lot<'a, A, B>, B>, Memory>
     requires own { seats.items ≡ directories.now }
     requires alone { AllByRecursion (λ s. s.passes ≡ 1) directories.now }
-    ensures rows { IfOk result (λ rows. rows.items ≡ dealt_from [] directories.now 1) }
+    ensures lots { IfOk result (λ lots. lots.items ≡ dealt_from [] directories.now 1) }
 {
-    let mut rows = Vec::new(alloc);
+    let mut lots = Vec::new(alloc);
     let mut place = 0;
     for its_seats in seats {
-        let row = row_at(alloc, directories, place, its_seats)?;
-        rows.push(row)?;
+        let lot = lot_at(alloc, directories, place, its_seats)?;
+        lots.push(lot)?;
         place += 1;
     }
-    Ok(rows)
+    Ok(lots)
 }
 
-// Gives each row a pass of one more store.
+// Gives each lot a pass of one more store.
 fn hand_out<'a, A: Allocator + Copy, B: Allocator>(
-    rows: &mut Vec<Row<'a, A, B>, B>,
+    lots: &mut Vec<Lot<'a, A, B>, B>,
     passes: Vec<Pass<'a, A>, B>,
 ) -> Result<(), Memory>
-    requires count { vec_len passes ≡ vec_len rows.old }
-    ensures count { OnOk result (length rows.new.items ≡ length rows.old.items) }
-    ensures each { OnOk result ((k : ℕ) (d : Dealt) (e : Known) → k < length rows.old.items
-        → get_or rows.new.items k d ≡ dealt_more (get_or rows.old.items k d)
+    requires count { vec_len passes ≡ vec_len lots.old }
+    ensures count { OnOk result (length lots.new.items ≡ length lots.old.items) }
+    ensures each { OnOk result ((k : ℕ) (d : Dealt) (e : Known) → k < length lots.old.items
+        → get_or lots.new.items k d ≡ dealt_more (get_or lots.old.items k d)
         (get_or passes.entry.items k e)) }
 {
     let mut place = 0;
     for pass in passes {
-        rows[place].push(pass)?;
+        lots[place].push(pass)?;
         place += 1;
     }
     Ok(())
 }
 
-// Makes the rows, and gives each its pass of each store.
-pub(crate) fn all_rows<'a, A: Allocator + Copy, B: Allocator + Copy>(
+// Makes the lots, and gives each its pass of each store.
+pub(crate) fn all_lots<'a, A: Allocator + Copy, B: Allocator + Copy>(
     alloc: B,
     directories: &'a [Store<A>],
     their_seats: Vec<Seats<A>, A>,
     stores: &'a [Store<A>],
     seats: Vec<Seats<A>, A>,
-) -> Result<Vec<Row<'a, A, B>, B>, Memory>
+) -> Result<Vec<Lot<'a, A, B>, B>, Memory>
     requires own { seats.items ≡ stores.now }
     requires own_directories { their_seats.items ≡ directories.now }
     requires alone { AllByRecursion (λ s. s.passes ≡ 1) directories.now }
     requires passes { AllByRecursion (λ s. s.passes ≡ length directories.now) stores.now }
-    ensures rows { IfOk result (λ rows. rows.items ≡ dealt_from stores.now directories.now 1) }
+    ensures lots { IfOk result (λ lots. lots.items ≡ dealt_from stores.now directories.now 1) }
 {
-    let mut rows = rows_of(alloc, directories, their_seats)?;
+    let mut lots = lots_of(alloc, directories, their_seats)?;
     let mut place = 0;
     for its_seats in seats {
         let passes = deal_at(alloc, stores, place, its_seats)?;
-        hand_out(&mut rows, passes)?;
+        hand_out(&mut lots, passes)?;
         place += 1;
     }
-    Ok(rows)
+    Ok(lots)
 }
 
-// Makes a handle of a row.
+// Makes a handle of a lot.
 fn handle_of<'a, A: Allocator + Copy, B: Allocator + Copy>(
     alloc: B,
     splits: &'a [Key],
-    row: Row<'a, A, B>,
+    lot: Lot<'a, A, B>,
 ) -> Result<Handle<'a, A, B>, Memory>
     requires splits { IsSplits splits.now }
-    requires whole { IsWhole splits.now row }
-    ensures handle { IfOk result (λ handle. handle ≡ sharding splits.now row.entry.passes) }
+    requires whole { IsWhole splits.now lot }
+    ensures handle { IfOk result (λ handle. handle ≡ sharding splits.now lot.entry.passes) }
 {
-    let Row { passes, directory } = row;
+    let Lot { passes, directory } = lot;
     let room = list_with_room(alloc, passes.len())?;
     Ok(Handle {
         splits,
@@ -185,20 +185,20 @@ fn handle_of<'a, A: Allocator + Copy, B: Allocator + Copy>(
     })
 }
 
-// Makes a handle of each row.
+// Makes a handle of each lot.
 fn handles_of<'a, A: Allocator + Copy, B: Allocator + Copy>(
     alloc: B,
     splits: &'a [Key],
-    rows: Vec<Row<'a, A, B>, B>,
+    lots: Vec<Lot<'a, A, B>, B>,
 ) -> Result<Vec<Handle<'a, A, B>, B>, Memory>
     requires splits { IsSplits splits.now }
-    requires whole { AllByRecursion (IsWhole splits.now) rows.items }
+    requires whole { AllByRecursion (IsWhole splits.now) lots.items }
     ensures handles { IfOk result
-        (λ handles. handles.items ≡ map (λ d. sharding splits.now d.passes) rows.entry.items) }
+        (λ handles. handles.items ≡ map (λ d. sharding splits.now d.passes) lots.entry.items) }
 {
     let mut handles = Vec::new(alloc);
-    for row in rows {
-        let handle = handle_of(alloc, splits, row)?;
+    for lot in lots {
+        let handle = handle_of(alloc, splits, lot)?;
         handles.push(handle)?;
     }
     Ok(handles)
@@ -222,13 +222,13 @@ impl<A: Allocator + Copy> Sharded<A> {
             stores,
             directories,
         } = seats;
-        let rows = all_rows(
+        let lots = all_lots(
             alloc,
             self.directories.as_slice(),
             directories,
             self.stores.as_slice(),
             stores,
         )?;
-        handles_of(alloc, self.splits.as_slice(), rows)
+        handles_of(alloc, self.splits.as_slice(), lots)
     }
 }

@@ -1,13 +1,13 @@
 //! What the directory lists of pinned shards.
-ghost use Rattle.std.specs.Prelude.{◌≡◌, ◌≤◌, ◌<◌, ◌+◌, ◌++◌, true, false, ℕ, List, Some, None, length, slice_get, IfOk, IfErr, IfNone, IfSome, OnOk};
+ghost use Rattle.std.specs.Prelude.{◌≡◌, ◌≤◌, ◌<◌, ◌+◌, ◌++◌, true, false, Some, None, length, slice_get, IfOk, IfErr, IfNone, IfSome, OnOk};
 ghost use Rattle.std.specs.List.{AllByRecursion};
 ghost use Rattle.std.specs.Option.{option_copied};
 ghost use Rattle.mst_key.specs.declared.format.Format.{Format};
 ghost use Rattle.mst_key.specs.History.{after};
-ghost use Rattle.mst_key.specs.Map.{IsMap, from_on, below};
+ghost use Rattle.mst_key.specs.Map.{from_on, below};
 ghost use Rattle.mst_store.specs.Passes.{format_seen};
 ghost use Rattle.mst_sharded_proof.specs.Shards.{shards, bound_text};
-ghost use Rattle.mst_sharded.specs.Sharding.{IsSplits, sharding};
+ghost use Rattle.mst_sharded.specs.Sharding.{sharding};
 ghost use Rattle.mst_sharded.specs.Directory.{LacksDirectory};
 ghost use Rattle.mst_sharded.specs.Entries.{low_at, shard_at, KeepsTo, entry_of, is_current, is_version, edit_of, edits_of, NewKeep, IsFaultOf};
 

@@ -1,6 +1,7 @@
 //! Passes that are laid down next to the stores of the shards, and lifted again: one at a place, or
-//! all of a list. Lists keep their room, so that none of it takes memory.
-ghost use Rattle.std.specs.Prelude.{◌≡◌, ◌<◌, ◌≤◌, ◌+◌, ◌++◌, ◌∷◌, [], length, slice_index_or, vec_len, vec_capacity};
+//! all of a list. Lists keep their room, so that none of it takes memory: one that is emptied from
+//! its front is a deque meanwhile, in the room that it has.
+ghost use Rattle.std.specs.Prelude.{◌≡◌, ◌<◌, ◌≤◌, ◌+◌, ◌++◌, ◌∷◌, [], slice_index_or, vec_len, vec_capacity};
 ghost use Rattle.std.specs.List.{AllByRecursion, swap_remove, SwappedAt};
 ghost use Rattle.mst_key.specs.History.{after};
 ghost use Rattle.mst_key.specs.Map.{IsMap};
@@ -9,6 +10,7 @@ ghost use Rattle.mst_sharded.specs.Shared.{AreOf};
 
 use mst_store::{Laid, LaidPinned, Pass, Pinned, Store};
 use std::alloc::Allocator;
+use std::collections::VecDeque;
 
 // ---- one pass at a place
 
@@ -98,15 +100,14 @@ pub(crate) fn lift_all<'a, A: Allocator + Copy>(
     ensures empty { result.1.items ≡ [] }
     ensures room { vec_len result.0 ≤ vec_capacity result.1 }
 {
-    let mut laid = laid;
+    let mut left = VecDeque::from_vec(laid);
     let mut passes = room;
-    laid.reverse();
     let mut place = 0;
-    while let Some(pass) = laid.pop() {
+    while let Some(pass) = left.pop_front() {
         passes.push_reserved(stores[place].lift(pass));
         place += 1;
     }
-    (passes, laid)
+    (passes, left.into_vec())
 }
 
 /// Lays each pass down.
@@ -119,10 +120,9 @@ pub(crate) fn lay_all<A: Allocator + Copy>(
     ensures same { result.items ≡ passes.entry.items }
     ensures room { vec_capacity result ≡ vec_capacity room }
 {
-    let mut passes = passes;
+    let mut left = VecDeque::from_vec(passes);
     let mut laid = room;
-    passes.reverse();
-    while let Some(pass) = passes.pop() {
+    while let Some(pass) = left.pop_front() {
         laid.push_reserved(pass.lay());
     }
     laid
@@ -141,15 +141,14 @@ pub(crate) fn lift_pins<'a, A: Allocator + Copy>(
     ensures empty { result.1.items ≡ [] }
     ensures room { vec_len result.0 ≤ vec_capacity result.1 }
 {
-    let mut laid = laid;
+    let mut left = VecDeque::from_vec(laid);
     let mut pinned = room;
-    laid.reverse();
     let mut place = 0;
-    while let Some(pin) = laid.pop() {
+    while let Some(pin) = left.pop_front() {
         pinned.push_reserved(stores[place].lift_pinned(pin));
         place += 1;
     }
-    (pinned, laid)
+    (pinned, left.into_vec())
 }
 
 /// Lays each pinned pass down.
@@ -162,10 +161,9 @@ pub(crate) fn lay_pins<A: Allocator + Copy>(
     ensures same { result.items ≡ pinned.entry.items }
     ensures room { vec_capacity result ≡ vec_capacity room }
 {
-    let mut pinned = pinned;
+    let mut left = VecDeque::from_vec(pinned);
     let mut laid = room;
-    pinned.reverse();
-    while let Some(pin) = pinned.pop() {
+    while let Some(pin) = left.pop_front() {
         laid.push_reserved(pin.lay());
     }
     laid
@@ -189,16 +187,15 @@ pub(crate) fn pin_laid<A: Allocator + Copy>(
     ensures empty { result.1.items ≡ [] }
     ensures room { vec_len result.0 ≤ vec_capacity result.1 }
 {
-    let mut passes = passes;
+    let mut left = VecDeque::from_vec(passes);
     let mut pinned = room;
-    passes.reverse();
     let mut place = 0;
-    while let Some(laid) = passes.pop() {
+    while let Some(laid) = left.pop_front() {
         let pass = stores[place].lift(laid);
         pinned.push_reserved(pass.pin().lay());
         place += 1;
     }
-    (pinned, passes)
+    (pinned, left.into_vec())
 }
 
 /// Ends the pin of each shard, by pinned passes that are laid down again at once. Returns the list
@@ -215,14 +212,13 @@ pub(crate) fn unpin_laid<A: Allocator + Copy>(
     ensures empty { result.1.items ≡ [] }
     ensures room { vec_len result.0 ≤ vec_capacity result.1 }
 {
-    let mut pinned = pinned;
+    let mut left = VecDeque::from_vec(pinned);
     let mut passes = room;
-    pinned.reverse();
     let mut place = 0;
-    while let Some(laid) = pinned.pop() {
+    while let Some(laid) = left.pop_front() {
         let pin = stores[place].lift_pinned(laid);
         passes.push_reserved(pin.unpin().lay());
         place += 1;
     }
-    (passes, pinned)
+    (passes, left.into_vec())
 }

@@ -1,12 +1,12 @@
 //! Handles with a share of their map. They name no lifetime, so code that is not Rattle can keep
 //! one: between calls each pass is laid down.
-ghost use Rattle.std.specs.Prelude.{◌≡◌, ◌≤◌, ◌++◌, ◌∷◌, [], Some, slice_get, vec_len, vec_capacity, IfOk, OnOk};
+ghost use Rattle.std.specs.Prelude.{◌≡◌, ◌≤◌, [], Some, slice_get, vec_len, vec_capacity, IfOk, OnOk};
 ghost use Rattle.std.specs.Arc.{arc_value};
 ghost use Rattle.mst_sharded.specs.Sharding.{sharding, IsSplits};
-ghost use Rattle.mst_sharded.specs.Shared.{AreOf, IsRowOf, AreRowsOf, handles_in};
-ghost use Rattle.mst_sharded.specs.Opening.{IsWhole, seats_of, new_handles};
+ghost use Rattle.mst_sharded.specs.Shared.{AreOf, IsLotOf, AreLotsOf, handles_in};
+ghost use Rattle.mst_sharded.specs.Opening.{seats_of, new_handles};
 
-use crate::deal::{Row, all_rows};
+use crate::deal::{Lot, all_lots};
 use crate::directory::Directory;
 use crate::moving::lay_all;
 use crate::rooms::list_with_room;
@@ -90,7 +90,7 @@ impl<A: Allocator + Copy> Model for SharedHandle<A> {
         × (h.room.items ≡ []) × (vec_len h.passes ≤ vec_capacity h.room) };
 }
 
-/// A snapshot with a share of its map. One that is dropped holds the rows of its versions for
+/// A snapshot with a share of its map. One that is dropped holds the lots of its versions for
 /// good: [`SharedSnapshot::release`] ends the pins.
 #[derive(Drop)]
 pub struct SharedSnapshot<A: Allocator + Copy> {
@@ -121,18 +121,18 @@ impl<A: Allocator + Copy> Model for SharedSnapshot<A> {
 // ---- dealing
 
 // Makes a handle of what was dealt to it.
-fn share_row<A: Allocator + Copy>(
+fn share_lot<A: Allocator + Copy>(
     alloc: A,
     map: &Arc<Sharded<A>, A>,
     number: usize,
-    row: Row<'_, A, A>,
+    lot: Lot<'_, A, A>,
 ) -> Result<SharedHandle<A>, Memory>
     requires splits { IsSplits (arc_value map.now).splits }
-    requires own { IsRowOf (arc_value map.now) number row }
+    requires own { IsLotOf (arc_value map.now) number lot }
     ensures handle { IfOk result
-        (λ handle. handle ≡ sharding (arc_value map.now).splits row.entry.passes) }
+        (λ handle. handle ≡ sharding (arc_value map.now).splits lot.entry.passes) }
 {
-    let Row { passes, directory } = row;
+    let Lot { passes, directory } = lot;
     let space = list_with_room(alloc, passes.len())?;
     let room = list_with_room(alloc, passes.len())?;
     let map = Arc::try_clone(map)?;
@@ -145,21 +145,21 @@ fn share_row<A: Allocator + Copy>(
     })
 }
 
-// Makes a handle of each row.
-fn share_rows<A: Allocator + Copy>(
+// Makes a handle of each lot.
+fn share_lots<A: Allocator + Copy>(
     alloc: A,
     map: &Arc<Sharded<A>, A>,
-    rows: Vec<Row<'_, A, A>, A>,
+    lots: Vec<Lot<'_, A, A>, A>,
 ) -> Result<Vec<SharedHandle<A>, A>, Memory>
     requires splits { IsSplits (arc_value map.now).splits }
-    requires own { AreRowsOf (arc_value map.now) 0 rows.items }
+    requires own { AreLotsOf (arc_value map.now) 0 lots.items }
     ensures handles { IfOk result
-        (λ handles. handles.items ≡ handles_in (arc_value map.now).splits rows.entry.items) }
+        (λ handles. handles.items ≡ handles_in (arc_value map.now).splits lots.entry.items) }
 {
     let mut handles = Vec::new(alloc);
     let mut number = 0;
-    for row in rows {
-        let handle = share_row(alloc, map, number, row)?;
+    for lot in lots {
+        let handle = share_lot(alloc, map, number, lot)?;
         handles.push(handle)?;
         number += 1;
     }
@@ -167,22 +167,22 @@ fn share_rows<A: Allocator + Copy>(
 }
 
 // What is dealt to the handles of a map.
-fn rows_of_map<'a, A: Allocator + Copy>(
+fn lots_of_map<'a, A: Allocator + Copy>(
     map: &'a Sharded<A>,
     alloc: A,
     seats: AllSeats<A>,
-) -> Result<Vec<Row<'a, A, A>, A>, Memory>
+) -> Result<Vec<Lot<'a, A, A>, A>, Memory>
     requires own { seats ≡ seats_of map.now }
     ensures splits { OnOk result (IsSplits map.now.splits) }
-    ensures own { IfOk result (λ rows. AreRowsOf map.now 0 rows.items) }
+    ensures own { IfOk result (λ lots. AreLotsOf map.now 0 lots.items) }
     ensures handles { IfOk result
-        (λ rows. handles_in map.now.splits rows.items ≡ new_handles map.now) }
+        (λ lots. handles_in map.now.splits lots.items ≡ new_handles map.now) }
 {
     let AllSeats {
         stores,
         directories,
     } = seats;
-    all_rows(
+    all_lots(
         alloc,
         map.directories.as_slice(),
         directories,
@@ -204,7 +204,7 @@ impl<A: Allocator + Copy> Sharded<A> {
         requires own { seats ≡ seats_of (arc_value map.now) }
         ensures ok { IfOk result (λ handles. handles.items ≡ new_handles (arc_value map.now)) }
     {
-        let rows = rows_of_map(map, alloc, seats)?;
-        share_rows(alloc, map, rows)
+        let lots = lots_of_map(map, alloc, seats)?;
+        share_lots(alloc, map, lots)
     }
 }

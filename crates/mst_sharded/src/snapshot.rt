@@ -1,5 +1,5 @@
 //! A snapshot: each shard pinned.
-ghost use Rattle.std.specs.Prelude.{◌≡◌, ◌<◌, ◌≤◌, ◌++◌, [], length, option_map, slice_get, vec_len, vec_capacity};
+ghost use Rattle.std.specs.Prelude.{◌≡◌, ◌<◌, ◌≤◌, [], length, option_map, slice_get, vec_len, vec_capacity};
 ghost use Rattle.std.specs.List.{AllByRecursion};
 ghost use Rattle.mst_key.specs.History.{after};
 ghost use Rattle.mst_key.specs.Map.{map_get, IsMap};
@@ -11,6 +11,7 @@ use crate::place::place_of;
 use mst_key::{Key, Value};
 use mst_store::{Pass, Pinned};
 use std::alloc::Allocator;
+use std::collections::VecDeque;
 use std::marker::Model;
 
 /// Each shard of a map, pinned. It may be moved to another thread. One that is dropped holds the
@@ -57,13 +58,12 @@ fn pin_all<'a, A: Allocator + Copy, B: Allocator>(
     ensures empty { result.1.items ≡ [] }
     ensures room { vec_len result.0 ≤ vec_capacity result.1 }
 {
-    let mut passes = passes;
+    let mut left = VecDeque::from_vec(passes);
     let mut pinned = room;
-    passes.reverse();
-    while let Some(pass) = passes.pop() {
+    while let Some(pass) = left.pop_front() {
         pinned.push_reserved(pass.pin());
     }
-    (pinned, passes)
+    (pinned, left.into_vec())
 }
 
 // Ends the pin of each shard. Returns the list of the pinned passes too, which is now empty.
@@ -77,13 +77,12 @@ fn unpin_all<'a, A: Allocator + Copy, B: Allocator>(
     ensures empty { result.1.items ≡ [] }
     ensures room { vec_len result.0 ≤ vec_capacity result.1 }
 {
-    let mut pinned = pinned;
+    let mut left = VecDeque::from_vec(pinned);
     let mut passes = room;
-    pinned.reverse();
-    while let Some(pin) = pinned.pop() {
+    while let Some(pin) = left.pop_front() {
         passes.push_reserved(pin.unpin());
     }
-    (passes, pinned)
+    (passes, left.into_vec())
 }
 
 impl<'a, A: Allocator + Copy, B: Allocator> Handle<'a, A, B> {

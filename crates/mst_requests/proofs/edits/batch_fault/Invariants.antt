@@ -1,5 +1,6 @@
 use Rattle.std.proofs.Common.{◌≡◌, ◌≤◌, length, IfSome}
 use Rattle.std.specs.Result.{result_err}
+use Rattle.mst_lines.specs.Lines.{longest_line}
 use Rattle.mst_requests.specs.Fields.{fields_behind}
 use Rattle.mst_requests.specs.Batches.{edits_in, edits_read}
 use Rattle.mst_requests.proofs.Batching.{left, comes_to}
@@ -8,7 +9,7 @@ use Rattle.mst_requests.proofs.edits.batch_fault.Given as goal
 -- what is left decides
 abbrev pub invariant-loop-rest : goal.invariant-loop-rest
 invariant-loop-rest l = record {
-  small : IfSome l.rest (λ rest. length rest.now ≤ 4096);
+  small : IfSome l.rest (λ rest. length rest.now ≤ longest_line);
   same : result_err (edits_read (fields_behind l.fn.fields))
       ≡ comes_to l.fault (edits_in (fields_behind l.rest));
 }

@@ -1,12 +1,13 @@
-use Rattle.std.proofs.Common.{◌≡◌, ◌+◌, ◌≤◌, ◌++◌, reverse, vec_len, vec_capacity, vec_items}
+use Rattle.std.proofs.Common.{◌≡◌, ◌+◌, ◌≤◌, ◌++◌, vec_len, vec_capacity, vec_items}
+use Rattle.std.specs.VecDeque.{deque_items, deque_len}
 use Rattle.mst_sharded.proofs.moving.lay_pins.Given as goal
 
--- the first pinned passes are laid down, and those that are left stand in the other order
+-- the first passes are laid down
 abbrev pub invariant-loop-pin : goal.invariant-loop-pin
 invariant-loop-pin g l =
-    (vec_len l.laid + vec_len l.pinned ≤ vec_capacity l.laid)
+    (vec_len l.laid + deque_len l.left ≤ vec_capacity l.laid)
     × (vec_capacity l.laid ≡ vec_capacity l.fn.room)
-    × (vec_items l.fn.pinned ≡ vec_items l.laid ++ reverse (vec_items l.pinned))
+    × (vec_items l.fn.pinned ≡ vec_items l.laid ++ deque_items l.left)
 
 abbrev pub decreases-loop-pin : goal.decreases-loop-pin
-decreases-loop-pin g l = vec_len l.pinned
+decreases-loop-pin g l = deque_len l.left

@@ -1,55 +1,34 @@
-use Rattle.std.proofs.Common.{◌≡◌, ◌∙◌, length, vec_len, vec_items, arith, sym, ap}
-use Rattle.std.proofs.lemmas.List.{nil_from_length}
-use Rattle.mst_sharded.proofs.Shares.{popped_low, popped_own}
-use Rattle.mst_sharded.proofs.Turned.{none_turned, next_turned, all_turned}
+use Rattle.std.proofs.Common.{◌∙◌, vec_items, arith, sym}
+use Rattle.std.specs.VecDeque.{deque_items}
+use Rattle.mst_sharded.proofs.HandingOut.{goes_same, all_gone}
+use Rattle.mst_sharded.proofs.Shares.{next_low, next_own}
 use Rattle.mst_sharded.proofs.moving.lift_pins.Goals as goal
-
-pub loop-pin-init : goal.loop-pin-init
-loop-pin-init g c =
-    let none : vec_len c.args.room ≡ 0 = c.args.room.ok.0 ∙ ap length c.requires.empty in
-    let same = c.reverse.ensures.len in
-    let kept = c.reverse.ensures.capacity in
-    let long = c.args.laid.ok.1 in
-    let fits = c.requires.fits in (
-      omega (arith, none, same, fits),
-      omega (arith, none, same, kept, long),
-      none_turned (vec_items c.args.laid) (vec_items c.reverse.new.self)
-          (vec_items c.args.room) c.reverse.ensures.items c.requires.empty,
-      sym none,
-    )
 
 pub lift_pinned-requires : goal.lift_pinned-requires
 lift_pinned-requires g c =
     let was = c.loop-pin.invariant in
     record {
-      own = popped_own c.args.stores.now (vec_items c.args.laid)
-          (vec_items c.loop-pin.pinned) (vec_items c.loop-pin.laid)
-          (vec_items c.pop.new.self) c.in-Some.pin c.loop-pin.place
-          c.index-stores-place.result c.requires.own was.2 c.in-Some.ensures.items
-          (was.3 ∙ c.loop-pin.pinned.ok.0) c.index-stores-place.is;
+      own = next_own c.args.stores.now (vec_items c.args.laid) (vec_items c.loop-pin.pinned)
+          (deque_items c.loop-pin.left) (deque_items c.pop_front.new.self) c.in-Some.pin
+          c.loop-pin.place c.index-stores-place.result c.requires.own was.2
+          c.in-Some.ensures.items (was.3 ∙ c.loop-pin.pinned.ok.0) c.index-stores-place.is;
     }
 
 pub bounds-stores-place : goal.bounds-stores-place
 bounds-stores-place g c =
     let was = c.loop-pin.invariant in
-    popped_low c.args.stores.now (vec_items c.args.laid) (vec_items c.loop-pin.pinned)
-    (vec_items c.loop-pin.laid) (vec_items c.pop.new.self) c.in-Some.pin
-    c.loop-pin.place c.requires.own was.2 c.in-Some.ensures.items
-    (was.3 ∙ c.loop-pin.pinned.ok.0)
+    next_low c.args.stores.now (vec_items c.args.laid) (vec_items c.loop-pin.pinned)
+    (deque_items c.loop-pin.left) (deque_items c.pop_front.new.self) c.in-Some.pin
+    c.loop-pin.place c.requires.own was.2 c.in-Some.ensures.items (was.3 ∙ c.loop-pin.pinned.ok.0)
 
 pub offset_bounds-stores-place : goal.offset_bounds-stores-place
 offset_bounds-stores-place g c =
     let was = c.loop-pin.invariant in
-    let low = popped_low c.args.stores.now (vec_items c.args.laid)
-    (vec_items c.loop-pin.pinned) (vec_items c.loop-pin.laid) (vec_items c.pop.new.self)
-    c.in-Some.pin c.loop-pin.place c.requires.own was.2 c.in-Some.ensures.items
-    (was.3 ∙ c.loop-pin.pinned.ok.0) in
+    let low = next_low c.args.stores.now (vec_items c.args.laid) (vec_items c.loop-pin.pinned)
+    (deque_items c.loop-pin.left) (deque_items c.pop_front.new.self) c.in-Some.pin
+    c.loop-pin.place c.requires.own was.2 c.in-Some.ensures.items (was.3 ∙ c.loop-pin.pinned.ok.0)
+    in
     omega (arith, low)
-
-pub push_reserved-requires : goal.push_reserved-requires
-push_reserved-requires g c =
-    let fits = c.loop-pin.invariant.0 in
-    omega (arith, fits, c.in-Some.ensures.cases)
 
 pub loop-pin-preserved : goal.loop-pin-preserved
 loop-pin-preserved g c =
@@ -63,26 +42,16 @@ loop-pin-preserved g c =
     let room = c.push_reserved.ensures.capacity in (
       omega (arith, fits, popped, pushed, room),
       omega (arith, back, popped, pushed, kept),
-      next_turned (vec_items c.args.laid) (vec_items c.loop-pin.pinned)
-          (vec_items c.loop-pin.laid) (vec_items c.pop.new.self)
-          (vec_items c.push_reserved.new.self) c.in-Some.pin c.lift_pinned.result was.2
-          c.in-Some.ensures.items (c.lift_pinned.ensures.same) c.push_reserved.ensures.items,
+      goes_same (vec_items c.args.laid) (vec_items c.loop-pin.pinned) (deque_items c.loop-pin.left)
+          (deque_items c.pop_front.new.self) (vec_items c.push_reserved.new.self)
+          c.in-Some.pin c.lift_pinned.result was.2 c.in-Some.ensures.items
+          c.lift_pinned.ensures.same c.push_reserved.ensures.items,
       omega (arith, at, pushed),
     )
 
-pub loop-pin-smaller : goal.loop-pin-smaller
-loop-pin-smaller g c = omega (arith, c.in-Some.ensures.cases)
-
-pub returns : goal.returns
-returns g c =
+pub returns-clause-same : goal.returns-clause-same
+returns-clause-same g c =
     let was = c.loop-pin.invariant in
-    let none = c.in_default.ensures.cases in
-    let back = was.1 in
-    let kept = c.pop.ensures.capacity in
-    let empty : length (vec_items c.pop.new.self) ≡ 0 = sym c.pop.new.self.ok.0 ∙ none.1 in
-    record {
-      same = all_turned (vec_items c.args.laid) (vec_items c.loop-pin.pinned)
-          (vec_items c.loop-pin.laid) was.2 (sym c.loop-pin.laid.ok.0 ∙ none.0);
-      empty = nil_from_length (vec_items c.pop.new.self) empty;
-      room = omega (arith, back, none, kept);
-    }
+    all_gone (vec_items c.args.laid) (vec_items c.loop-pin.pinned) (deque_items c.loop-pin.left)
+    was.2
+    (sym c.loop-pin.left.ok.0 ∙ c.in_default.ensures.cases.0)

@@ -28,7 +28,7 @@ use Rattle.std_alloc.proofs.VecSteps.Shapes.{after}
 use Rattle.core.specs.contracts.option.Option as Opt
 use Rattle.mst_c.specs.contracts.hand.Hand as Hand
 use Rattle.mst_c.proofs.AsBox.{E, FromHand}
-use Rattle.mst_c.proofs.PartsSteps.{Part, Apart, parts_in}
+use Rattle.mst_c.proofs.RawBoxSteps.{Part, Apart, parts_in}
 use Rattle.mst_c.proofs.Values.{nil_good, hand_out}
 use Rattle.mst_c.specs.contracts.hand.Hand.into_parts as f
 use Rattle.mst_c.proofs.hand.Hand.into_parts.Statement.{statement}

@@ -19,8 +19,8 @@ use types.Run.{enter, stop, fld, of_opd, no_more, and_then, returns}
 use Rattle.core.proofs.alloc.Calls.{token}
 use Rattle.std_alloc.specs.Box.Ownership.{box_owns}
 use Rattle.std_alloc.proofs.BoxSteps.Form.{R, word, handle, box_typed}
-use Rattle.mst_c.proofs.AsBox.{E, FromParts}
-use Rattle.mst_c.proofs.PartsSteps.{Part, parts_out, hand_full}
+use Rattle.mst_c.proofs.AsBox.{E, FromRawBox}
+use Rattle.mst_c.proofs.RawBoxSteps.{Part, parts_out, hand_full}
 use Rattle.mst_c.specs.contracts.hand.Hand.of_parts as f
 use Rattle.mst_c.proofs.hand.Hand.of_parts.Statement.{statement}
 use Rattle.mst_c.proofs.hand.Hand.of_parts.Code as code
@@ -32,7 +32,7 @@ pub of_parts_spec : {M : Type 1} → statement M
 of_parts_spec 𝓤 𝓛 𝓜 𝓡 wired =
     let c = f.clauses 𝓛 𝓜.mem 𝓡.returns in let W = walk_of 𝓛 f.ended stayed c in let 𝓣 =
     tables 𝓤 𝓛.H 𝓜 𝓡 𝓡.env in
-    proved_at 𝓛 f.ended stayed c 𝓜 𝓡 (Goes-dropped 𝓛 0 FromParts no (λ κs x w. refl), tt)
+    proved_at 𝓛 f.ended stayed c 𝓜 𝓡 (Goes-dropped 𝓛 0 FromRawBox no (λ κs x w. refl), tt)
     f.Key.name code.function (code.unfolded 𝓤 𝓛.H 𝓜 𝓡 wired) (λ y are.
     let d = y.0.3.0 in let vs = y.0.4.0 in let a = d.alloc in let x = d.value in
     qed 𝓛 ((‵ ftrue ⊛ ‵ (fsep ((Part E).own_val d vs) ftrue)) ∷ ‵ ftrue ∷ []) ∵ split ! $ drop ! $

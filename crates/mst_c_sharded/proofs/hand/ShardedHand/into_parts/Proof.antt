@@ -28,7 +28,7 @@ use Rattle.std_alloc.proofs.VecSteps.Shapes.{after}
 use Rattle.core.specs.contracts.option.Option as Opt
 use Rattle.mst_c_sharded.specs.contracts.hand.ShardedHand as Hand
 use Rattle.mst_c_sharded.proofs.ShardedBox.{E, FromHand}
-use Rattle.mst_c.proofs.PartsSteps.{Part, Apart, parts_in}
+use Rattle.mst_c.proofs.RawBoxSteps.{Part, Apart, parts_in}
 use Rattle.mst_c_sharded.proofs.ShardedValues.{nil_good, hand_out}
 use Rattle.mst_c_sharded.specs.contracts.hand.ShardedHand.into_parts as f
 use Rattle.mst_c_sharded.proofs.hand.ShardedHand.into_parts.Statement.{statement}

@@ -1,4 +1,5 @@
 use Rattle.std.proofs.Common.{◌≤◌, length, IfSome}
+use Rattle.mst_lines.specs.Lines.{longest_line}
 use Rattle.mst_requests.specs.Fields.{fields_behind}
 use Rattle.mst_requests.specs.Batches.{edits_in}
 use Rattle.mst_requests.proofs.Batching.{left, IsRead}
@@ -6,7 +7,7 @@ use Rattle.mst_requests.proofs.edits.Edits.to_vec.Given as goal
 
 abbrev pub invariant-loop-rest : goal.invariant-loop-rest
 invariant-loop-rest g l = record {
-  small : IfSome l.rest (λ rest. length rest.now ≤ 4096);
+  small : IfSome l.rest (λ rest. length rest.now ≤ longest_line);
   read : IsRead l.self l.edits.items (edits_in (fields_behind l.rest));
 }
 

@@ -3,7 +3,7 @@ use Rattle.std.specs.Arc.{arc_value}
 use Rattle.mst_store.specs.Passes.{Known}
 use Rattle.mst_sharded.specs.Sharding.{PinsNow}
 use Rattle.mst_sharded.proofs.Listed.{listed_later}
-use Rattle.mst_sharded.proofs.Pins.{all_step_length, pins_more}
+use Rattle.mst_sharded.proofs.PinningAll.{all_step_length, pins_more}
 use Rattle.mst_sharded.proofs.Shares.{pins_own}
 use Rattle.mst_sharded.proofs.shared.SharedHandle.snapshot.Goals as goal
 

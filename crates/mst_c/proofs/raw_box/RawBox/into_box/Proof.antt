@@ -39,10 +39,10 @@ use Rattle.std_alloc.proofs.boxed.Box.from_raw.Met as raised_met
 use Rattle.std_alloc.proofs.BoxSteps.Form.{Bx, B, R, D, handle, box_ty, word, box_typed}
 use Rattle.std_alloc.proofs.BoxSteps.Steps.{box_out, box_in}
 use Rattle.std_alloc.proofs.VecSteps.Shapes.{after}
-use Rattle.mst_c.proofs.PartsSteps.{Part, parts_out}
-use Rattle.mst_c.specs.contracts.parts.Parts.into_box as f
-use Rattle.mst_c.proofs.parts.Parts.into_box.Statement.{statement}
-use Rattle.mst_c.proofs.parts.Parts.into_box.Code as code
+use Rattle.mst_c.proofs.RawBoxSteps.{Part, parts_out}
+use Rattle.mst_c.specs.contracts.raw_box.RawBox.into_box as f
+use Rattle.mst_c.proofs.raw_box.RawBox.into_box.Statement.{statement}
+use Rattle.mst_c.proofs.raw_box.RawBox.into_box.Code as code
 
 module _ (E : Bx) where
   abbrev args : Args

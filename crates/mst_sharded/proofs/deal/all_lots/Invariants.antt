@@ -2,11 +2,11 @@ use Rattle.std.specs.Prelude.{◌≡◌, ◌+◌, ◌++◌, List, length, vec_it
 use Rattle.std.specs.Vec.Iter.{into_iter_items, into_iter_len}
 use Rattle.mst_store.specs.Passes.{StoreId}
 use Rattle.mst_sharded.specs.Opening.{dealt_from}
-use Rattle.mst_sharded.proofs.deal.all_rows.Given as goal
+use Rattle.mst_sharded.proofs.deal.all_lots.Given as goal
 
 abbrev pub invariant-loop-its_seats : goal.invariant-loop-its_seats
 invariant-loop-its_seats g l =
     (l.place + into_iter_len l.its_seats-iterator ≡ length l.stores)
     × ((front : List StoreId)
     × (vec_items l.fn.seats ≡ front ++ into_iter_items l.its_seats-iterator)
-    × (length front ≡ l.place) × (vec_items l.rows ≡ dealt_from front l.directories 1))
+    × (length front ≡ l.place) × (vec_items l.lots ≡ dealt_from front l.directories 1))

@@ -11,6 +11,7 @@ use Rattle.mst_key.proofs.MapLaws.{AllBelow-less, IsMap-nil}
 use Rattle.mst_sharded_proof.specs.Shards.{Shard, AreSplits, shards_from, is_in, part_of}
 use Rattle.mst_sharded_proof.proofs.Shards.{part_map}
 use Rattle.mst_sharded.specs.Sharding.{union}
+use Rattle.mst_sharded.proofs.Unions.{and_right}
 
 -- ---- a part of a list
 
@@ -55,10 +56,6 @@ from_part : (a b : Bool) → (not a && b) ≡ true → a ≡ false
 from_part true b e = absurd (true≢false (sym e))
 from_part false b e = refl
 
-below_part : (a b : Bool) → (a && b) ≡ true → b ≡ true
-below_part true b e = e
-below_part false b e = absurd (true≢false (sym e))
-
 part_from : (m : List Pair) (s : Shard) → AllFrom (part_of m s) s.low
 part_from m s =
     alls-weaker (λ (p : Pair). is_in s p.0 ≡ true)
@@ -72,7 +69,7 @@ part_below m low t =
     let s : Shard = record { low = low; high = Some t } in
     alls-weaker (λ (p : Pair). is_in s p.0 ≡ true) (λ (p : Pair). key_cmp p.0 t ≡ Less)
     (λ p is. less_from_test p.0 t
-    (below_part (not (is_lt (key_cmp p.0 low))) (is_lt (key_cmp p.0 t)) is)) (part_of m s)
+    (and_right (not (is_lt (key_cmp p.0 low))) (is_lt (key_cmp p.0 t)) is)) (part_of m s)
     (alls-passes (λ (p : Pair). is_in s p.0) m)
 
 -- ---- the shards from a bound on

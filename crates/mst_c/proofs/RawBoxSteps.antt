@@ -17,8 +17,8 @@ use denote.Struct.Owning.{Owning, shape, to}
 use Rattle.core.proofs.alloc.Calls.{token, Fits, handle_tells}
 use Rattle.std_alloc.specs.Box.Ownership.{box_owns}
 use Rattle.std_alloc.proofs.BoxSteps.Form.{Bx, X, R, P, τ, word, handle}
-use Rattle.mst_c.specs.contracts.parts.Parts as Of
-use Rattle.mst_c.specs.declared.parts.Parts.{Parts}
+use Rattle.mst_c.specs.contracts.raw_box.RawBox as Of
+use Rattle.mst_c.specs.declared.raw_box.RawBox.{RawBox}
 use Rattle.mst_c.specs.contracts.hand.Hand as Hand
 use Rattle.mst_c.proofs.AsBox.{E as HeldBox}
 
@@ -30,7 +30,7 @@ module _ (E : Bx) where
   part_type = Of.the_type (R E) (P E) E.al.g
 
   abbrev pub Apart : Type 0
-  Apart = Parts (X E) E.al.row.Denot
+  Apart = RawBox (X E) E.al.row.Denot
 
   module _ {M : Type 1} {𝓤 : Ura M} {𝓛 : Logic 𝓤} {K : Type 0} {Γ : List (Item 𝓤)} {G : Goal 𝓤 𝓛.H}
     where

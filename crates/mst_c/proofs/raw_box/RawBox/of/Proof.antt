@@ -40,10 +40,10 @@ use Rattle.std_alloc.proofs.boxed.Box.into_raw_with_allocator.Symbol as taken
 use Rattle.std_alloc.proofs.boxed.Box.into_raw_with_allocator.Met as taken_met
 use Rattle.std_alloc.proofs.BoxSteps.Form.{Bx, B, R, τ, word, box_typed}
 use Rattle.std_alloc.proofs.BoxSteps.Steps.{box_out, box_in}
-use Rattle.mst_c.proofs.PartsSteps.{parts_in}
-use Rattle.mst_c.specs.contracts.parts.Parts.of as f
-use Rattle.mst_c.proofs.parts.Parts.of.Statement.{statement}
-use Rattle.mst_c.proofs.parts.Parts.of.Code as code
+use Rattle.mst_c.proofs.RawBoxSteps.{parts_in}
+use Rattle.mst_c.specs.contracts.raw_box.RawBox.of as f
+use Rattle.mst_c.proofs.raw_box.RawBox.of.Statement.{statement}
+use Rattle.mst_c.proofs.raw_box.RawBox.of.Code as code
 
 module _ (E : Bx) (drops : Dict) where
   abbrev args : Args

@@ -2,9 +2,9 @@ use Rattle.std.proofs.Common.{◌≡◌, ◌∷◌, ◌++◌, [], List, length, 
 use Rattle.std.specs.Vec.Iter.{into_iter_items, into_iter_len}
 use Rattle.mst_store.specs.Passes.{StoreId}
 use Rattle.mst_sharded.specs.Opening.{Dealt, dealt_from}
-use Rattle.mst_sharded.proofs.Rows.{goes_on, own_next, holds_own, taken}
-use Rattle.mst_sharded.proofs.Dealing.{rows_grow, length-dealt}
-use Rattle.mst_sharded.proofs.deal.all_rows.Goals as goal
+use Rattle.mst_sharded.proofs.HandingOut.{goes_on, own_next, holds_own, taken}
+use Rattle.mst_sharded.proofs.Dealing.{lots_grow, length-dealt}
+use Rattle.mst_sharded.proofs.deal.all_lots.Goals as goal
 
 pub deal_at-requires-clause-own : goal.deal_at-requires-clause-own
 deal_at-requires-clause-own g c =
@@ -22,7 +22,7 @@ loop-its_seats-init g c =
     let count = gives.1 ∙ c.args.seats.ok.0
     ∙ ap (λ (l : List StoreId). length l) c.requires.own in (
       omega (arith, count),
-      ([], sym gives.0, refl, c.in_ok-rows.ensures.rows),
+      ([], sym gives.0, refl, c.in_ok-lots.ensures.lots),
     )
 
 pub loop-its_seats-preserved : goal.loop-its_seats-preserved
@@ -49,8 +49,8 @@ loop-its_seats-preserved g c =
             (into_iter_items c.loop-its_seats.its_seats-iterator)
             (into_iter_items c.next.new.self) x was.1.1 rest,
         omega (arith, long, is_long),
-        rows_grow front c.args.directories.now x (vec_items c.loop-its_seats.rows)
-            (vec_items c.hand_out.new.rows) (vec_items c.in_ok-passes.passes) was.1.3
+        lots_grow front c.args.directories.now x (vec_items c.loop-its_seats.lots)
+            (vec_items c.hand_out.new.lots) (vec_items c.in_ok-passes.passes) was.1.3
             c.in_ok-passes.ensures.ok count c.in_ok-hand_out.ensures.count
             c.in_ok-hand_out.ensures.each,
       ),
@@ -71,7 +71,7 @@ hand_out-requires g c =
     (into_iter_items c.next.new.self) x c.requires.own was.1.1 rest c.requires.passes in
     record {
       count = c.in_ok-passes.ensures.count ∙ count
-          ∙ sym (c.loop-its_seats.rows.ok.0 ∙ ap (λ (l : List Dealt). length l) was.1.3
+          ∙ sym (c.loop-its_seats.lots.ok.0 ∙ ap (λ (l : List Dealt). length l) was.1.3
           ∙ length-dealt front c.args.directories.now 1);
     }
 
@@ -84,7 +84,7 @@ returns g c =
     let own : length (vec_items c.args.seats) ≡ length c.args.stores.now =
     ap (λ (l : List StoreId). length l) c.requires.own in
     record {
-      rows = was.1.3
+      lots = was.1.3
           ∙ ap (λ (l : List StoreId). dealt_from l c.args.directories.now 1)
           (taken (vec_items c.args.seats) was.1.0
           (into_iter_items c.loop-its_seats.its_seats-iterator) was.1.1

@@ -2,12 +2,12 @@ use Rattle.std.proofs.Common.{◌≡◌, ◌∷◌, ◌++◌, [], List, length, 
 use Rattle.std.specs.Vec.Iter.{into_iter_items, into_iter_len}
 use Rattle.mst_store.specs.Passes.{StoreId}
 use Rattle.mst_sharded.specs.Opening.{Dealt, dealt_from}
-use Rattle.mst_sharded.proofs.Rows.{goes_on, own_next, holds_own, taken}
-use Rattle.mst_sharded.proofs.Dealing.{one_more_row}
-use Rattle.mst_sharded.proofs.deal.rows_of.Goals as goal
+use Rattle.mst_sharded.proofs.HandingOut.{goes_on, own_next, holds_own, taken}
+use Rattle.mst_sharded.proofs.Dealing.{one_more_lot}
+use Rattle.mst_sharded.proofs.deal.lots_of.Goals as goal
 
-pub row_at-requires-clause-own : goal.row_at-requires-clause-own
-row_at-requires-clause-own g c =
+pub lot_at-requires-clause-own : goal.lot_at-requires-clause-own
+lot_at-requires-clause-own g c =
     let was = c.loop-its_seats.invariant in
     let rest : into_iter_items c.loop-its_seats.its_seats-iterator
     ≡ c.in-Some.its_seats ∷ into_iter_items c.next.new.self =
@@ -16,8 +16,8 @@ row_at-requires-clause-own g c =
     (into_iter_items c.loop-its_seats.its_seats-iterator) (into_iter_items c.next.new.self)
     c.in-Some.its_seats c.loop-its_seats.place c.requires.own was.1.1 rest was.1.2
 
-pub row_at-requires-clause-alone : goal.row_at-requires-clause-alone
-row_at-requires-clause-alone g c =
+pub lot_at-requires-clause-alone : goal.lot_at-requires-clause-alone
+lot_at-requires-clause-alone g c =
     let was = c.loop-its_seats.invariant in
     let rest : into_iter_items c.loop-its_seats.its_seats-iterator
     ≡ c.in-Some.its_seats ∷ into_iter_items c.next.new.self =
@@ -33,7 +33,7 @@ loop-its_seats-init g c =
     let count = gives.1 ∙ c.args.seats.ok.0
     ∙ ap (λ (l : List StoreId). length l) c.requires.own in (
       omega (arith, count),
-      ([], sym gives.0, refl, c.new-rows.ensures.items),
+      ([], sym gives.0, refl, c.new-lots.ensures.items),
     )
 
 pub loop-its_seats-preserved : goal.loop-its_seats-preserved
@@ -45,7 +45,7 @@ loop-its_seats-preserved g c =
     ≡ c.in-Some.its_seats ∷ into_iter_items c.next.new.self =
     c.in-Some.ensures.steps.0 in
     let pushed : vec_items c.push.new.self
-    ≡ vec_items c.loop-its_seats.rows ++ c.in_ok-row.row ∷ [] =
+    ≡ vec_items c.loop-its_seats.lots ++ c.in_ok-lot.lot ∷ [] =
     c.in_ok-push.ensures.items in
     let long = length-append front (x ∷ []) in
     let is_long : length front ≡ c.loop-its_seats.place = was.1.2 in
@@ -58,9 +58,9 @@ loop-its_seats-preserved g c =
             (into_iter_items c.loop-its_seats.its_seats-iterator)
             (into_iter_items c.next.new.self) x was.1.1 rest,
         omega (arith, long, is_long),
-        pushed ∙ ap (λ (l : List Dealt). l ++ c.in_ok-row.row ∷ []) was.1.3
-            ∙ ap (λ (r : Dealt). dealt_from [] front 1 ++ r ∷ []) c.in_ok-row.ensures.ok
-            ∙ sym (one_more_row front x 1),
+        pushed ∙ ap (λ (l : List Dealt). l ++ c.in_ok-lot.lot ∷ []) was.1.3
+            ∙ ap (λ (r : Dealt). dealt_from [] front 1 ++ r ∷ []) c.in_ok-lot.ensures.ok
+            ∙ sym (one_more_lot front x 1),
       ),
     )
 
@@ -73,7 +73,7 @@ returns g c =
     let own : length (vec_items c.args.seats) ≡ length c.args.directories.now =
     ap (λ (l : List StoreId). length l) c.requires.own in
     record {
-      rows = was.1.3
+      lots = was.1.3
           ∙ ap (λ (l : List StoreId). dealt_from [] l 1)
           (taken (vec_items c.args.seats) was.1.0
           (into_iter_items c.loop-its_seats.its_seats-iterator) was.1.1
