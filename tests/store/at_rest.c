@@ -32,7 +32,7 @@ static struct version pinned[PASSES], current;
 static int pins[PASSES];
 static uint32_t rows, changes; /* of the store, and made to it */
 
-/* Whether a version is kept whose rows this change made. */
+/* Whether a version is live whose rows this change made. */
 static int keeps(uint32_t made) {
     for (int i = 0; i < PASSES; i++)
         if (pins[i] && pinned[i].made == made)
@@ -40,7 +40,7 @@ static int keeps(uint32_t made) {
     return current.made == made;
 }
 
-/* How many rows no kept version holds; none if more are held than there are. */
+/* How many rows no live version holds; none if more are held than there are. */
 static uint32_t free_rows(void) {
     uint32_t held = 0;
     for (uint32_t made = 1; made <= changes; made++)

@@ -94,7 +94,7 @@ class Script:
         self.answers.append(answer)
 
     def free(self):
-        """How many rows no kept version holds."""
+        """How many rows no live version holds."""
         held = {}
         for version in (self.current, *(it for it, _ in self.pinned.values())):
             held.update(version.rows())

@@ -55,7 +55,7 @@ def picture():
     bend(canvas, 3, TOP_EDGE + 124, 40)
     across = (middle(0) + middle(3)) / 2
     canvas.text(across, TOP_EDGE + 154, "Desk::sweep", 16, "middle", code=True)
-    says = "once no kept version reaches it: neither the current one nor one that is pinned"
+    says = "once no live version reaches it: neither the current one nor one that is pinned"
     canvas.text(across, TOP_EDGE + 188, says, 16, "middle")
     says = "Version v reaches a row exactly when birth ≤ v < death."
     canvas.text(24, 280, says + " While a live version reaches it, no word of it changes.", 17)

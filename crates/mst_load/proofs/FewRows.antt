@@ -11,7 +11,7 @@ use Rattle.mst_versions.proofs.FewRows.{weigh_map}
 
 -- ---- versions of a list
 
--- how many numbers below n are those of kept versions
+-- how many numbers below n are those of live versions
 abbrev kept_below : List ℕ → ℕ → ℕ
 kept_below live zero = 0
 kept_below live (suc w) = cond (is_kept live w) 1 0 + kept_below live w
@@ -64,7 +64,7 @@ kept_few (u ∷ live) n =
     let one = kept_one u live n in let once = found_once u n in let more = kept_few live n in
     omega (arith, one, once, more)
 
--- ---- what the kept versions hold
+-- ---- what the live versions hold
 
 -- no version of a history has more than 288 pairs
 abbrev pub AreSmall : History → Type 0

@@ -17,7 +17,7 @@ use Rattle.mst_store.specs.declared.faults.ChangeFault.{ChangeFault}
 use Rattle.mst_store.specs.declared.faults.ChangeFault.TheVariants.{VersionsSpent, NoRoom}
 use Rattle.mst_store.specs.Passes.{StoreId, Known, IsSamePass, new_pass}
 use Rattle.mst_store.specs.Waiting.{RefusesAfter}
-use Rattle.mst_versions.specs.Writes.{LacksKept}
+use Rattle.mst_versions.specs.Writes.{LacksRoomBeside}
 use Rattle.mst_load.specs.Calls.{change_of, event_of}
 use Rattle.mst_load.specs.Reports.{HasSettled}
 use Rattle.mst_load.specs.Workers.{HasPut, MadePuts, HasWorked, HasAllCalls}
@@ -38,7 +38,7 @@ call_is w c low = let inside : c % 32 < 32 = omega arith in
 -- what is kept and the change together take fewer rows than there are
 room_always : (first : Format) (passes : ℕ) (h : History) (found : List ℕ) (e : Event)
     → AreCalls h → is_call e.change ≡ true → passes ≤ 32
-    → LacksKept first 32768 passes h found e.change → ⊥
+    → LacksRoomBeside first 32768 passes h found e.change → ⊥
 room_always first passes h found e calls call few lacks =
     let kept = held_few first h (length h ∷ found) (each_few h calls) in
     let new = few_new (tree (format_after first h) (after h))
@@ -63,7 +63,8 @@ never_refused NoRoom w c p q h low calls short begins rows few r =
     room_always p.store.format p.store.passes q.seen q.found (event_of w c)
     (alls-front (λ (x : Event). is_call x.change ≡ true) q.seen begins.0
     (subst AreCalls begins.1 calls)) (call_is w c low) few
-    (subst (λ (n : ℕ). LacksKept p.store.format n p.store.passes q.seen q.found (change_of w c))
+    (subst (λ (n : ℕ). LacksRoomBeside p.store.format n p.store.passes q.seen q.found
+    (change_of w c))
     rows r.refused.4)
 
 -- ---- all puts of a writer

@@ -16,12 +16,12 @@ same_some : (a b : ℕ) → Some a ≡ Some b → a ≡ b
 same_some a b e = cc
 
 -- the pass pins the record, which has these rows
-pub record Pins (p r : ℕ) (rows : ℕ → Bool) (s : State) : Type 0 where
+pub record HasPin (p r : ℕ) (rows : ℕ → Bool) (s : State) : Type 0 where
   pub pin : s.pins p ≡ Some r
   pub rows_are : (x : ℕ) → s.rows r x ≡ rows x
 
-pins_after : (p r : ℕ) (rows : ℕ → Bool) (s : State) (e : Event) → Pins p r rows s → IsTaken s e
-    → e ≢ Unpin p → Pins p r rows (after s e)
+pins_after : (p r : ℕ) (rows : ℕ → Bool) (s : State) (e : Event) → HasPin p r rows s → IsTaken s e
+    → e ≢ Unpin p → HasPin p r rows (after s e)
 pins_after p r rows s (Pin q) is taken other = record {
   pin = dite (ℕ_discrete p q)
       (λ same. absurd (let f : None ≡ Some r = sym (none_is (s.pins q) taken.1)
@@ -45,24 +45,24 @@ pins_after p r rows s Transfer is taken other = record { pin = is.pin; rows_are 
 pins_after p r rows s (Ask n) is taken other = is
 
 pins_run : (p r : ℕ) (rows : ℕ → Bool) (events : List Event) (answers : List Answer) (s t : State)
-    → Pins p r rows s → KeepsPin p events → Runs s events answers t → Pins p r rows t
-pins_run p r rows [] [] s t is kept ran = subst (Pins p r rows) (sym ran) is
+    → HasPin p r rows s → KeepsPin p events → Runs s events answers t → HasPin p r rows t
+pins_run p r rows [] [] s t is kept ran = subst (HasPin p r rows) (sym ran) is
 pins_run p r rows [] (a ∷ answers) s t is kept ran = absurd ran
 pins_run p r rows (e ∷ events) [] s t is kept ran = absurd ran
 pins_run p r rows (e ∷ events) (a ∷ answers) s t is kept ran =
     pins_run p r rows events answers ran.0 t
-    (⊎_elim (λ y. subst (Pins p r rows) (sym y.2) (pins_after p r rows s e is y.0 kept.0))
-    (λ n. subst (Pins p r rows) (sym n.2) is) ran.1)
+    (⊎_elim (λ y. subst (HasPin p r rows) (sym y.2) (pins_after p r rows s e is y.0 kept.0))
+    (λ n. subst (HasPin p r rows) (sym n.2) is) ran.1)
     kept.1 ran.2
 
 -- the state after a pin
 pub pin_begins : (p r : ℕ) (s t : State) → Steps s (Pin p) (Record r) t → (r ≡ s.current)
-    × Pins p r (s.rows r) t
+    × HasPin p r (s.rows r) t
 pin_begins p r s t (inl y) =
     let named : Record r ≡ Record s.current = y.1 in
     let same : r ≡ s.current = cc in (
       same,
-      subst (Pins p r (s.rows r)) (sym y.2)
+      subst (HasPin p r (s.rows r)) (sym y.2)
           (record {
             pin = with_here s.pins p (Some s.current) p refl ∙ ap (λ (n : ℕ). Some n)
                 (sym same);
@@ -73,13 +73,13 @@ pin_begins p r s t (inr n) = absurd (let f : Record r ≡ Refused = n.1 in cc)
 
 pub since_pin : (p r : ℕ) (events : List Event) (answers : List Answer) (s t u : State)
     → Steps s (Pin p) (Record r) t → KeepsPin p events → Runs t events answers u → (r ≡ s.current)
-    × Pins p r (s.rows r) u
+    × HasPin p r (s.rows r) u
 since_pin p r events answers s t u pinned kept ran =
     let first = pin_begins p r s t pinned in
     (first.0, pins_run p r (s.rows r) events answers t u first.1 kept ran)
 
 -- a write that is taken is of a row that no pinned record has
-pub not_written : (p r : ℕ) (rows : ℕ → Bool) (x : ℕ) (u v : State) → Pins p r rows u
+pub not_written : (p r : ℕ) (rows : ℕ → Bool) (x : ℕ) (u v : State) → HasPin p r rows u
     → Steps u (Write x) Done v → rows x ≡ false
 not_written p r rows x u v is (inl y) = sym (is.rows_are x) ∙ y.0.1 r (inr (p, is.pin))
 not_written p r rows x u v is (inr n) = absurd (let f : Done ≡ Refused = n.1 in cc)

@@ -14,7 +14,7 @@ use Rattle.mst_node.specs.Text.{root, text as text_of_node}
 use Rattle.mst_node.specs.Tree.{Tree, empty, node, tree}
 use Rattle.mst_node.specs.Trail.{proof_text}
 use Rattle.mst_arena.specs.Lives.{last_version}
-use Rattle.mst_versions.specs.Writes.{rows_of, LacksKept}
+use Rattle.mst_versions.specs.Writes.{rows_of, LacksRoomBeside}
 use Rattle.mst_store.specs.Passes.{StoreId, HasRoom, LacksRoom}
 use Rattle.mst_requests.specs.declared.request.Fault.{Fault}
 use Rattle.mst_requests.specs.declared.request.Fault.TheVariants.{Pinning}
@@ -71,7 +71,7 @@ IsSpent h text = (text ≡ line_of (codes "spent")) × (length h ≡ last_versio
 abbrev pub HasNoRoom : StoreId → Change → History → List ℕ → Type 0
 HasNoRoom store change h text = (text ≡ line_of (codes "noroom")) × (length h < last_version)
     × (store.passes ≡ 1 → LacksRoom store.rows (format_after store.format h) (after h) change)
-    × ((found : List ℕ) × LacksKept store.format store.rows store.passes h found change)
+    × ((found : List ℕ) × LacksRoomBeside store.format store.rows store.passes h found change)
 
 -- there is a next version, and in another format the tree finds no memory or no room
 abbrev pub HasNoTree : StoreId → Format → History → List ℕ → Type 0

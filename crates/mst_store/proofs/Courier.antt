@@ -6,7 +6,7 @@ use Rattle.std.proofs.lemmas.List.Elements.{All-weaker, All-map}
 use Rattle.atomic_table.specs.Seated.{TableId}
 use Rattle.mst_words.specs.Access.{Seated}
 use Rattle.mst_words.specs.Steps.{IsPinned}
-use Rattle.mst_versions.specs.declared.reading.PinnedRoot.{PinnedRoot}
+use Rattle.mst_versions.specs.declared.reading.PinnedVersion.{PinnedVersion}
 use Rattle.mst_versions.specs.Pinned.{HasPinned}
 use mathlib.Core.Logic.{dite}
 use native.Mathlib.Decide.{ℕ_discrete}
@@ -14,9 +14,9 @@ use Rattle.mst_key.specs.declared.history.Event.{Event}
 use Rattle.mst_key.specs.History.{History, events_of, IsPrefix}
 use Rattle.mst_words.specs.declared.view.View.{View}
 use Rattle.mst_words.specs.Notes.{having_heard, IsOfPasses, SeesTold}
-use Rattle.mst_versions.specs.declared.numbers.Numbers.{Numbers}
+use Rattle.mst_versions.specs.declared.parameters.PassParameters.{PassParameters}
 use Rattle.mst_store.specs.Passes.{Known, IsPinning, having_asked}
-use Rattle.mst_versions.specs.Turns.{Seat}
+use Rattle.mst_versions.specs.Turns.{SeatState}
 use Rattle.mst_store.specs.Settling.{AreAllPasses, IsOfOne, IsBeside, GoesOn}
 use Rattle.mst_key.proofs.HistoryLaws.{IsPrefix-chain, events_of-between}
 
@@ -31,7 +31,7 @@ one_more P xs i x l below here k d m = dite (ℕ_discrete k i)
 
 -- ---- the way there
 
-pub goes_on : (m n o : Seat) → GoesOn m n → GoesOn n o → GoesOn m o
+pub goes_on : (m n o : SeatState) → GoesOn m n → GoesOn n o → GoesOn m o
 goes_on m n o g h = record {
   courier = h.courier;
   passes_is = h.passes_is ∙ g.passes_is;
@@ -40,13 +40,15 @@ goes_on m n o g h = record {
 }
 
 -- what stands beside a courier stands beside it when it has gone on
-pub beside_on : (t u : TableId) (m n : Seat) (ps : List Known) → u ≡ t → n.0.passes ≡ m.0.passes
+pub beside_on : (t u : TableId) (m n : SeatState) (ps : List Known) → u ≡ t
+    → n.0.passes ≡ m.0.passes
     → All (IsBeside t m.0.passes) ps → All (IsBeside u n.0.passes) ps
 beside_on t u m n ps table passes = All-weaker (IsBeside t m.0.passes) (IsBeside u n.0.passes)
     (λ p b. record { table_is = b.table_is ∙ sym table; passes_is = b.passes_is ∙ sym passes }) ps
 
 -- what it had heard it has heard when it has gone on
-pub later_on : (m n : Seat) (ps : List Known) → GoesOn m n → All (λ p. IsPrefix p.seen m.0.seen) ps
+pub later_on : (m n : SeatState) (ps : List Known) → GoesOn m n
+    → All (λ p. IsPrefix p.seen m.0.seen) ps
     → All (λ p. IsPrefix p.seen n.0.seen) ps
 later_on m n ps on = All-weaker (λ (p : Known). IsPrefix p.seen m.0.seen)
     (λ (p : Known). IsPrefix p.seen n.0.seen)
@@ -77,7 +79,7 @@ asked_thrice (p ∷ ps) = let n : (p.asked + 1) + 2 ≡ p.asked + 3 = omega arit
 
 -- ---- pinned passes
 
-still : (at : PinnedRoot) (v : View) (h told : History) (n : ℕ) → HasPinned at v
+still : (at : PinnedVersion) (v : View) (h told : History) (n : ℕ) → HasPinned at v
     → HasPinned at (record v { seen = h; told = told; asked = n })
 still at v h told n p =
     record {
@@ -92,20 +94,22 @@ still at v h told n p =
     }
 
 -- a pinned pass that looks and hears pins what it pinned
-pub pinned_still : (numbers : Numbers) (at : PinnedRoot) (s t : Seated) (h told : History)
+pub pinned_still : (parameters : PassParameters) (at : PinnedVersion) (s t : Seated)
+    (h told : History)
     (n : ℕ) → t.me ≡ (record s.me.0 { seen = h; told = told; asked = n }, s.me.1)
-    → IsPinning numbers at s → IsPinning numbers at t
-pinned_still numbers at s t h told n is p = record {
-  pinned = subst (λ (m : Seat). HasPinned at m.0) (sym is) (still at s.me.0 h told n p.pinned);
-  pin = subst (λ (m : Seat). IsPinned numbers.number at.pinned m) (sym is) p.pin;
-  empty = ap (λ (m : Seat). m.1) is ∙ p.empty;
+    → IsPinning parameters at s → IsPinning parameters at t
+pinned_still parameters at s t h told n is p = record {
+  pinned = subst (λ (m : SeatState). HasPinned at m.0) (sym is) (still at s.me.0 h told n p.pinned);
+  pin = subst (λ (m : SeatState). IsPinned parameters.number at.pinned m) (sym is) p.pin;
+  empty = ap (λ (m : SeatState). m.1) is ∙ p.empty;
   some = p.some;
   low = p.low;
-  passes_is = ap (λ (m : Seat). m.0.passes) is ∙ p.passes_is;
+  passes_is = ap (λ (m : SeatState). m.0.passes) is ∙ p.passes_is;
   few = p.few;
-  rows_is = ap (λ (m : Seat). m.0.rows) is ∙ p.rows_is;
+  rows_is = ap (λ (m : SeatState). m.0.rows) is ∙ p.rows_is;
   few_rows = p.few_rows;
-  own = subst (λ (m : Seat). events_of numbers.number m.0.pinned_history ≡ m.0.mine) (sym is) p.own;
+  own = subst (λ (m : SeatState). events_of parameters.number m.0.pinned_history ≡ m.0.mine)
+      (sym is) p.own;
 }
 
 -- ---- the way back
@@ -113,14 +117,15 @@ pinned_still numbers at s t h told n is p = record {
 -- A pass was told of a history that begins with what it had seen, and sees it now. The whole
 -- history, which was found then, has no event of the pass that was not there before; so the one
 -- between has none either
-pub told_own : (m : Seat) {n o : Seat} (note : View) → n ≡ (having_heard m.0 note, m.1)
+pub told_own : (m : SeatState) {n o : SeatState} (note : View) → n ≡ (having_heard m.0 note, m.1)
     → SeesTold n o → IsPrefix m.0.seen note.seen → events_of m.0.number m.0.seen ≡ m.0.mine
     → events_of m.0.number note.seen ≡ m.0.mine
 told_own m {n} {o} note heard sees later own =
-    let whole : IsPrefix note.seen sees.log = subst (λ (z : Seat). IsPrefix z.0.told sees.log) heard
+    let whole : IsPrefix note.seen sees.log = subst (λ (z : SeatState). IsPrefix z.0.told sees.log)
+    heard
     sees.finds.told in
     let high : events_of m.0.number sees.log ≡ m.0.mine =
-    subst (λ (z : Seat). events_of z.0.number sees.log ≡ z.0.mine) heard sees.finds.own in
+    subst (λ (z : SeatState). events_of z.0.number sees.log ≡ z.0.mine) heard sees.finds.own in
     events_of-between m.0.number m.0.mine m.0.seen note.seen sees.log later whole own high
 
 -- the first elements are changed, and the rest is as it was

@@ -20,8 +20,8 @@ use Rattle.mst_words.specs.Access.{may_read, content_of}
 use Rattle.mst_words.specs.Records.{row}
 use Rattle.mst_words.specs.Stored.{rows_in}
 use Rattle.mst_words.proofs.Accesses.{inside}
-use Rattle.mst_versions.specs.declared.reading.PinnedRoot.{PinnedRoot}
-use Rattle.mst_versions.specs.Pinned.{Pins}
+use Rattle.mst_versions.specs.declared.reading.PinnedVersion.{PinnedVersion}
+use Rattle.mst_versions.specs.Pinned.{PinsVersion}
 
 -- ---- numbers below n, of which none stands twice
 
@@ -90,7 +90,7 @@ readable v x r is = go (may_read v x) refl is
 abbrev Slot : Type 0
 Slot = Option lives.State
 
-pub few_pinned : (m m' : Me Slot View) (at : PinnedRoot) → Pins m at m' → m.0.rows ≤ 65535
+pub few_pinned : (m m' : Me Slot View) (at : PinnedVersion) → PinsVersion m at m' → m.0.rows ≤ 65535
     → length (after m'.0.pinned_history) ≤ 65535
 few_pinned m m' at p few =
     let pairs = few_pairs _ (content_of m'.0) m'.0.rows (readable m'.0) _

@@ -15,7 +15,7 @@ use Rattle.mst_versions.specs.declared.faults.WriteFault.{WriteFault}
 use Rattle.mst_versions.specs.declared.faults.WriteFault.TheVariants.{Busy, VersionsSpent, NoRoom}
 use Rattle.mst_words.specs.Steps.{Misses}
 use Rattle.mst_versions.specs.Known.{Known, known, AtSeat, Looks}
-use Rattle.mst_versions.specs.Turns.{Seat}
+use Rattle.mst_versions.specs.Turns.{SeatState}
 use Rattle.mst_versions.specs.Writes.{Refuses}
 use Rattle.mst_versions.specs.Applying.{RefusesBatch}
 use Rattle.mst_versions.specs.Migrating.{RefusesMigration}
@@ -36,7 +36,7 @@ module _ (number : ℕ) (s z : Seated) (own : events_of number s.me.0.seen ≡ s
       → events_of number z.me.0.seen ≡ z.me.0.mine
   own_counted (Ok x) Counted looks counted busy = (looks x _ _ (counted None)).own
   own_counted (Err e) Counted looks counted busy =
-      subst (λ (m : Seat). events_of number m.0.seen ≡ m.0.mine) (sym busy.is) own
+      subst (λ (m : SeatState). events_of number m.0.seen ≡ m.0.mine) (sym busy.is) own
 
   pub own_refused : (fault : WriteFault) (change : Change)
       → AtSeat (Refuses fault change) number s z → events_of number z.me.0.seen ≡ z.me.0.mine

@@ -22,7 +22,7 @@ use Rattle.mst_versions.specs.Applying.{RefusesBatch}
 use Rattle.mst_versions.specs.declared.faults.WriteFault.TheVariants as write
 use Rattle.mst_store.specs.Passes.{Known, made_by, AreFree, Wrote, Refuses}
 use Rattle.mst_store.specs.Settling.{Met}
-use Rattle.mst_versions.specs.Writes.{rows_kept, rows_needed}
+use Rattle.mst_versions.specs.Writes.{rows_held, rows_needed}
 
 -- each event is of a pass from 1 to n
 abbrev pub IsOf : ℕ → Event → Type 0
@@ -125,11 +125,11 @@ pub enough_free : (free : ℕ) (change : Change) (p q : Known) → AreFree free 
     → rows_needed p.store.format p.seen change ≤ free → q.seen ≡ p.seen → q.found ≡ p.found
     → Refuses write.NoRoom change p q → ⊥
 enough_free free change p q are few seen found refused =
-    let lacks : p.store.rows < rows_kept p.store.format p.seen p.found
+    let lacks : p.store.rows < rows_held p.store.format p.seen p.found
     + rows_needed p.store.format p.seen change =
-    subst (λ (l : History). p.store.rows < rows_kept p.store.format l p.found
+    subst (λ (l : History). p.store.rows < rows_held p.store.format l p.found
     + rows_needed p.store.format l change) seen
-    (subst (λ (l : List ℕ). p.store.rows < rows_kept p.store.format q.seen l
+    (subst (λ (l : List ℕ). p.store.rows < rows_held p.store.format q.seen l
     + rows_needed p.store.format q.seen change) found refused.4.lacks) in
     omega (arith, are, few, lacks)
 
@@ -139,10 +139,10 @@ pub too_few_free : (free : ℕ) (change : Change) (answered : Reply) (p q : Know
 too_few_free free change answered p q are many seen found wrote =
     let before : wrote.log ≡ p.seen =
     append_cancel_right wrote.log p.seen (made_by p change ∷ []) (sym wrote.seen ∙ seen) in
-    let fits : rows_kept p.store.format p.seen p.found
+    let fits : rows_held p.store.format p.seen p.found
     + rows_needed p.store.format p.seen change ≤ p.store.rows =
-    subst (λ (l : History). rows_kept p.store.format l p.found
+    subst (λ (l : History). rows_held p.store.format l p.found
     + rows_needed p.store.format l change ≤ p.store.rows) before
-    (subst (λ (l : List ℕ). rows_kept p.store.format wrote.log l
+    (subst (λ (l : List ℕ). rows_held p.store.format wrote.log l
     + rows_needed p.store.format wrote.log change ≤ p.store.rows) found wrote.beside.fits) in
     omega (arith, are, many, fits)

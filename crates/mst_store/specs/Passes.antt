@@ -6,8 +6,8 @@ use Rattle.mst_key.specs.Map.{Pair}
 use Rattle.mst_words.specs.Access.{Seated}
 use Rattle.mst_words.specs.Steps.{IsPinned}
 use Rattle.mst_words.specs.declared.view.Shape.{Shape}
-use Rattle.mst_versions.specs.declared.reading.PinnedRoot.{PinnedRoot}
-use Rattle.mst_versions.specs.declared.numbers.Numbers.{Numbers}
+use Rattle.mst_versions.specs.declared.reading.PinnedVersion.{PinnedVersion}
+use Rattle.mst_versions.specs.declared.parameters.PassParameters.{PassParameters}
 use Rattle.mst_versions.specs.Pinned.{HasPinned}
 use Rattle.mst_versions.specs.Resting.{IsResting}
 -- the limits of a store
@@ -35,13 +35,13 @@ known_at_pin number made s = record {
 }
 
 -- The pass has no pin and not the turn, and its events in what it has seen are its own
-pub record IsAtRest (n : Numbers) (s : Seated) : Type 0 where
+pub record IsAtRest (n : PassParameters) (s : Seated) : Type 0 where
   pub rest : IsResting n s.me
   pub low : n.number ≤ n.passes
   pub own : events_of n.number s.me.0.seen ≡ s.me.0.mine
 
--- The pass pins the version at this root, and its events in the history at the pin are its own
-pub record IsPinning (n : Numbers) (at : PinnedRoot) (s : Seated) : Type 0 where
+-- The pass pins this version, and its events in the history at the pin are its own
+pub record IsPinning (n : PassParameters) (at : PinnedVersion) (s : Seated) : Type 0 where
   pub pinned : HasPinned at s.me.0
   pub pin : IsPinned n.number at.pinned s.me
   pub empty : s.me.1 ≡ []

@@ -5,7 +5,7 @@ use Rattle.mst_key.specs.declared.history.Event.{Event}
 use Rattle.mst_key.specs.History.{History, events_of, IsPrefix}
 use Rattle.mst_words.specs.Notes.{IsOfPasses}
 use Rattle.mst_store.specs.Passes.{StoreId, Known, having_asked}
-use Rattle.mst_versions.specs.Turns.{Seat}
+use Rattle.mst_versions.specs.Turns.{SeatState}
 
 -- the pass, when it has heard of this history and seen it: two steps whose answer depends on others
 abbrev pub having_seen : History → Known → Known
@@ -49,7 +49,7 @@ pub record Settled (free held free' held' : List Known) : Type 0 where
   pub alone : All (IsOfOne (free ++ held)) log
 
 -- a seat that goes from pass to pass: the history that it has seen is of passes of the store
-pub record IsCourier (m : Seat) : Type 0 where
+pub record IsCourier (m : SeatState) : Type 0 where
   pub off : m.0.turn ≡ false
   pub alone : IsOfPasses m.0.passes m.0.seen
 
@@ -60,7 +60,7 @@ pub record IsBeside (table : TableId) (passes : ℕ) (p : Known) : Type 0 where
   pub passes_is : p.store.passes ≡ passes
 
 -- the courier has now seen a history that begins with what it had seen
-pub record GoesOn (m m' : Seat) : Type 0 where
+pub record GoesOn (m m' : SeatState) : Type 0 where
   pub courier : IsCourier m'
   pub passes_is : m'.0.passes ≡ m.0.passes
   pub later : IsPrefix m.0.seen m'.0.seen

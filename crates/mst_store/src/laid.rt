@@ -5,8 +5,8 @@ ghost use Rattle.std.specs.Prelude.{◌≡◌};
 use crate::pass::Pass;
 use crate::pinned::Pinned;
 use crate::store::Store;
-use mst_versions::Numbers;
-use mst_versions::reading::PinnedRoot;
+use mst_versions::PassParameters;
+use mst_versions::reading::PinnedVersion;
 use mst_words::Token;
 use std::alloc::Allocator;
 use std::marker::Model;
@@ -15,7 +15,7 @@ use std::marker::Model;
 #[derive(Drop)]
 pub struct Laid<A: Allocator + Copy> {
     token: Token<A>,
-    numbers: Numbers,
+    parameters: PassParameters,
     made: Option<u64>,
 }
 
@@ -27,10 +27,10 @@ impl<A: Allocator + Copy> Model for Laid<A> {
 
     ghost Value = { Known };
 
-    ghost view = { λ p. known p.numbers.number p.made
+    ghost view = { λ p. known p.parameters.number p.made
         (record { table = p.token.table_id; id = p.token.id; me = p.token.me }) };
 
-    ghost invariant = { λ p. IsAtRest p.numbers
+    ghost invariant = { λ p. IsAtRest p.parameters
         (record { table = p.token.table_id; id = p.token.id; me = p.token.me })
         × (p.token.table_id.words ≡ table_words p.token.me.0.rows) };
 }
@@ -39,8 +39,8 @@ impl<A: Allocator + Copy> Model for Laid<A> {
 #[derive(Drop)]
 pub struct LaidPinned<A: Allocator + Copy> {
     token: Token<A>,
-    at: PinnedRoot,
-    numbers: Numbers,
+    at: PinnedVersion,
+    parameters: PassParameters,
     made: Option<u64>,
 }
 
@@ -52,10 +52,10 @@ impl<A: Allocator + Copy> Model for LaidPinned<A> {
 
     ghost Value = { Known };
 
-    ghost view = { λ p. known_at_pin p.numbers.number p.made
+    ghost view = { λ p. known_at_pin p.parameters.number p.made
         (record { table = p.token.table_id; id = p.token.id; me = p.token.me }) };
 
-    ghost invariant = { λ p. IsPinning p.numbers p.at
+    ghost invariant = { λ p. IsPinning p.parameters p.at
         (record { table = p.token.table_id; id = p.token.id; me = p.token.me })
         × (p.token.table_id.words ≡ table_words p.token.me.0.rows) };
 }
@@ -67,13 +67,13 @@ impl<'a, A: Allocator + Copy> Pass<'a, A> {
     {
         let Pass {
             seat,
-            numbers,
+            parameters,
             made,
         } = self;
         let token = seat.into_token();
         Laid {
             token,
-            numbers,
+            parameters,
             made,
         }
     }
@@ -87,14 +87,14 @@ impl<'a, A: Allocator + Copy> Pinned<'a, A> {
         let Pinned {
             seat,
             at,
-            numbers,
+            parameters,
             made,
         } = self;
         let token = seat.into_token();
         LaidPinned {
             token,
             at,
-            numbers,
+            parameters,
             made,
         }
     }
@@ -108,13 +108,13 @@ impl<A: Allocator + Copy> Store<A> {
     {
         let Laid {
             token,
-            numbers,
+            parameters,
             made,
         } = laid;
         let seat = self.board.seat(token);
         Pass {
             seat,
-            numbers,
+            parameters,
             made,
         }
     }
@@ -127,14 +127,14 @@ impl<A: Allocator + Copy> Store<A> {
         let LaidPinned {
             token,
             at,
-            numbers,
+            parameters,
             made,
         } = laid;
         let seat = self.board.seat(token);
         Pinned {
             seat,
             at,
-            numbers,
+            parameters,
             made,
         }
     }

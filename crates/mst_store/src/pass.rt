@@ -14,8 +14,8 @@ ghost use Rattle.mst_versions.specs.Applying.{RefusesBatch};
 
 use mst_key::{Change, Edit, Event, Format, Key, Memory, Value};
 use mst_versions::{
-    ApplyFault, Busy, MigrateFault, Numbers, WriteFault, applying, counting, migrating, reading,
-    writing,
+    ApplyFault, Busy, MigrateFault, PassParameters, WriteFault, applying, counting, migrating,
+    reading, writing,
 };
 use mst_words::PassSeat;
 use std::alloc::Allocator;
@@ -29,7 +29,7 @@ use std::marker::Model;
 #[derive(Drop)]
 pub struct Pass<'a, A: Allocator + Copy> {
     pub(crate) seat: PassSeat<'a, A>,
-    pub(crate) numbers: Numbers,
+    pub(crate) parameters: PassParameters,
     /// The version that the last write of the pass made.
     pub(crate) made: Option<u64>,
 }
@@ -41,9 +41,9 @@ impl<'a, A: Allocator + Copy> Model for Pass<'a, A> {
 
     ghost Value = { Known };
 
-    ghost view = { λ p. known p.numbers.number p.made p.seat };
+    ghost view = { λ p. known p.parameters.number p.made p.seat };
 
-    ghost invariant = { λ p. IsAtRest p.numbers p.seat };
+    ghost invariant = { λ p. IsAtRest p.parameters p.seat };
 }
 
 impl<'a, A: Allocator + Copy> Pass<'a, A> {
@@ -51,7 +51,7 @@ impl<'a, A: Allocator + Copy> Pass<'a, A> {
     pub fn number(&self) -> u32
         ensures number { result ≡ self.now.number }
     {
-        self.numbers.number
+        self.parameters.number
     }
 
     /// Returns the value of the key in the current version, or `None` if the key has no value. It
@@ -61,9 +61,9 @@ impl<'a, A: Allocator + Copy> Pass<'a, A> {
         ensures answers { Answers (λ _ m. map_get m key.now) self.old result self.new }
         ensures once { self.new.asked ≡ self.old.asked + 1 }
     {
-        let at = reading::pin(&mut self.seat, self.numbers);
+        let at = reading::pin(&mut self.seat, self.parameters);
         let value = reading::get(&mut self.seat, &at, key);
-        self.seat.unpin(self.numbers.number, at.pinned);
+        self.seat.unpin(self.parameters.number, at.pinned);
         value
     }
 
@@ -74,9 +74,9 @@ impl<'a, A: Allocator + Copy> Pass<'a, A> {
             self.new }
         ensures once { self.new.asked ≡ self.old.asked + 1 }
     {
-        let at = reading::pin(&mut self.seat, self.numbers);
+        let at = reading::pin(&mut self.seat, self.parameters);
         let pair = reading::next(&mut self.seat, &at, after);
-        self.seat.unpin(self.numbers.number, at.pinned);
+        self.seat.unpin(self.parameters.number, at.pinned);
         pair
     }
 
@@ -99,15 +99,15 @@ impl<'a, A: Allocator + Copy> Pass<'a, A> {
         ensures memory { OnErr result (self.new ≡ having_asked 1 self.old) }
         ensures once { self.new.asked ≡ self.old.asked + 1 }
     {
-        let at = reading::pin(&mut self.seat, self.numbers);
+        let at = reading::pin(&mut self.seat, self.parameters);
         match reading::range(&mut self.seat, alloc, &at, from, to, limit) {
             Ok(found) => {
-                self.seat.unpin(self.numbers.number, at.pinned);
+                self.seat.unpin(self.parameters.number, at.pinned);
                 Ok(found)
             }
             Err(refused) => {
                 // no pairs are answered, so none were seen
-                self.seat.forget(self.numbers.number, at.pinned);
+                self.seat.forget(self.parameters.number, at.pinned);
                 Err(refused)
             }
         }
@@ -119,9 +119,9 @@ impl<'a, A: Allocator + Copy> Pass<'a, A> {
         ensures answers { Answers (λ f _. f) self.old result self.new }
         ensures once { self.new.asked ≡ self.old.asked + 1 }
     {
-        let at = reading::pin(&mut self.seat, self.numbers);
+        let at = reading::pin(&mut self.seat, self.parameters);
         let format = reading::format(&mut self.seat, &at);
-        self.seat.unpin(self.numbers.number, at.pinned);
+        self.seat.unpin(self.parameters.number, at.pinned);
         format
     }
 
@@ -132,9 +132,9 @@ impl<'a, A: Allocator + Copy> Pass<'a, A> {
         ensures answers { Answers root self.old result self.new }
         ensures once { self.new.asked ≡ self.old.asked + 1 }
     {
-        let at = reading::pin(&mut self.seat, self.numbers);
+        let at = reading::pin(&mut self.seat, self.parameters);
         let digest = reading::root(&mut self.seat, &at);
-        self.seat.unpin(self.numbers.number, at.pinned);
+        self.seat.unpin(self.parameters.number, at.pinned);
         digest
     }
 
@@ -152,15 +152,15 @@ impl<'a, A: Allocator + Copy> Pass<'a, A> {
         ensures memory { OnErr result (self.new ≡ having_asked 1 self.old) }
         ensures once { self.new.asked ≡ self.old.asked + 1 }
     {
-        let at = reading::pin(&mut self.seat, self.numbers);
+        let at = reading::pin(&mut self.seat, self.parameters);
         match reading::prove(&mut self.seat, alloc, &at, key) {
             Ok(proof) => {
-                self.seat.unpin(self.numbers.number, at.pinned);
+                self.seat.unpin(self.parameters.number, at.pinned);
                 Ok(proof)
             }
             Err(refused) => {
                 // no proof is answered, so no map was seen
-                self.seat.forget(self.numbers.number, at.pinned);
+                self.seat.forget(self.parameters.number, at.pinned);
                 Err(refused)
             }
         }
@@ -183,7 +183,7 @@ impl<'a, A: Allocator + Copy> Pass<'a, A> {
         ensures steps { OnOk result (self.new.asked ≡ self.old.asked + self.old.store.passes + 4) }
         ensures busy { OnErr result (FindsBusy self.old self.new) }
     {
-        counting::rows(&mut self.seat, self.numbers)
+        counting::rows(&mut self.seat, self.parameters)
     }
 
     /// Returns how many rows are free to the next write: all rows but those that the current
@@ -206,7 +206,7 @@ impl<'a, A: Allocator + Copy> Pass<'a, A> {
         ensures steps { OnOk result (self.new.asked ≡ self.old.asked + self.old.store.passes + 2) }
         ensures busy { OnErr result (FindsBusy self.old self.new) }
     {
-        counting::free_rows(&mut self.seat, self.numbers)
+        counting::free_rows(&mut self.seat, self.parameters)
     }
 
     /// Returns the number of the current version: how many events led to it. It takes no memory.
@@ -215,8 +215,8 @@ impl<'a, A: Allocator + Copy> Pass<'a, A> {
         ensures version { result ≡ length self.new.seen }
         ensures once { self.new.asked ≡ self.old.asked + 1 }
     {
-        let at = reading::pin(&mut self.seat, self.numbers);
-        self.seat.unpin(self.numbers.number, at.pinned);
+        let at = reading::pin(&mut self.seat, self.parameters);
+        self.seat.unpin(self.parameters.number, at.pinned);
         at.version
     }
 
@@ -238,10 +238,10 @@ impl<'a, A: Allocator + Copy> Pass<'a, A> {
         ensures err { IfErr result (λ fault. Refuses fault change.entry self.old self.new) }
     {
         let event = Event {
-            pass: self.numbers.number,
+            pass: self.parameters.number,
             change,
         };
-        let (old, version) = writing::write(&mut self.seat, self.numbers, &event)?;
+        let (old, version) = writing::write(&mut self.seat, self.parameters, &event)?;
         self.made = Some(version);
         Ok(old)
     }
@@ -254,7 +254,7 @@ impl<'a, A: Allocator + Copy> Pass<'a, A> {
     /// the nodes that the write makes new.
     ///
     /// A write copies whole nodes along its path. It costs a row for each entry and one for each
-    /// node that it makes new. All rows are free but those that the kept versions hold: the current
+    /// node that it makes new. All rows are free but those that the live versions hold: the current
     /// one, and those that were found pinned, at most one for each other pass. A node that several
     /// of them share counts once. In a store of one pass these are the rows of the map. A put of
     /// the value that the key has costs nothing.
@@ -301,7 +301,7 @@ impl<'a, A: Allocator + Copy> Pass<'a, A> {
             (λ format. Wrote (made_by self.old (Migrate to)) self.old (was format) self.new) }
         ensures err { IfErr result (λ fault. RefusesMigration fault to self.old self.new) }
     {
-        let (was, made) = migrating::migrate(&mut self.seat, alloc, self.numbers, to)?;
+        let (was, made) = migrating::migrate(&mut self.seat, alloc, self.parameters, to)?;
         self.made = Some(made);
         Ok(was)
     }
@@ -327,7 +327,7 @@ impl<'a, A: Allocator + Copy> Pass<'a, A> {
             (Wrote (made_by self.old (change.Batch edits.now)) self.old done self.new) }
         ensures err { IfErr result (λ fault. RefusesBatch fault edits.now self.old self.new) }
     {
-        let version = applying::apply(&mut self.seat, alloc, self.numbers, edits)?;
+        let version = applying::apply(&mut self.seat, alloc, self.parameters, edits)?;
         self.made = Some(version);
         Ok(())
     }

@@ -10,8 +10,8 @@ ghost use Rattle.mst_key.specs.History.{after as after_events};
 
 use crate::pass::Pass;
 use mst_key::{Format, Key, Memory, Value};
-use mst_versions::Numbers;
-use mst_versions::reading::{self, PinnedRoot};
+use mst_versions::PassParameters;
+use mst_versions::reading::{self, PinnedVersion};
 use mst_words::PassSeat;
 use std::alloc::Allocator;
 use std::marker::Model;
@@ -24,8 +24,8 @@ use std::marker::Model;
 #[derive(Drop)]
 pub struct Pinned<'a, A: Allocator + Copy> {
     pub(crate) seat: PassSeat<'a, A>,
-    pub(crate) at: PinnedRoot,
-    pub(crate) numbers: Numbers,
+    pub(crate) at: PinnedVersion,
+    pub(crate) parameters: PassParameters,
     pub(crate) made: Option<u64>,
 }
 
@@ -35,9 +35,9 @@ impl<'a, A: Allocator + Copy> Model for Pinned<'a, A> {
 
     ghost Value = { Known };
 
-    ghost view = { λ p. known_at_pin p.numbers.number p.made p.seat };
+    ghost view = { λ p. known_at_pin p.parameters.number p.made p.seat };
 
-    ghost invariant = { λ p. IsPinning p.numbers p.at p.seat };
+    ghost invariant = { λ p. IsPinning p.parameters p.at p.seat };
 }
 
 impl<'a, A: Allocator + Copy> Pass<'a, A> {
@@ -54,14 +54,14 @@ impl<'a, A: Allocator + Copy> Pass<'a, A> {
     {
         let Pass {
             mut seat,
-            numbers,
+            parameters,
             made,
         } = self;
-        let at = reading::pin(&mut seat, numbers);
+        let at = reading::pin(&mut seat, parameters);
         Pinned {
             seat,
             at,
-            numbers,
+            parameters,
             made,
         }
     }
@@ -72,7 +72,7 @@ impl<'a, A: Allocator + Copy> Pinned<'a, A> {
     pub fn number(&self) -> u32
         ensures number { result ≡ self.now.number }
     {
-        self.numbers.number
+        self.parameters.number
     }
 
     /// Returns the version that the last write of the pass made, as [`Pass::made`] does.
@@ -165,13 +165,13 @@ impl<'a, A: Allocator + Copy> Pinned<'a, A> {
         let Pinned {
             mut seat,
             at,
-            numbers,
+            parameters,
             made,
         } = self;
-        seat.unpin(numbers.number, at.pinned);
+        seat.unpin(parameters.number, at.pinned);
         Pass {
             seat,
-            numbers,
+            parameters,
             made,
         }
     }

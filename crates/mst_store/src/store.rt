@@ -6,7 +6,7 @@ use crate::faults::OpenFault;
 use crate::pass::Pass;
 use mst_arena::{Desk, MOST_ROWS};
 use mst_key::Memory;
-use mst_versions::Numbers;
+use mst_versions::PassParameters;
 use mst_words::layout::MOST_PASSES;
 use mst_words::{Board, Shape, Token};
 use std::alloc::Allocator;
@@ -128,7 +128,7 @@ impl<A: Allocator + Copy> Store<A> {
             let seat = self.board.deal(&mut token);
             passes.push_reserved(Pass {
                 seat,
-                numbers: Numbers {
+                parameters: PassParameters {
                     number: index + 1,
                     passes: count,
                     rows: self.shape.rows,

@@ -3,19 +3,19 @@ use Rattle.std.specs.Prelude.{◌≡◌, ◌<◌, ◌≤◌, []}
 use Rattle.mst_words.specs.Access.{Seated}
 use Rattle.mst_words.specs.Layout.{most_passes}
 use Rattle.mst_words.specs.Steps.{IsPinned}
-use Rattle.mst_versions.specs.declared.reading.PinnedRoot.{PinnedRoot}
-use Rattle.mst_versions.specs.declared.numbers.Numbers.{Numbers}
+use Rattle.mst_versions.specs.declared.reading.PinnedVersion.{PinnedVersion}
+use Rattle.mst_versions.specs.declared.parameters.PassParameters.{PassParameters}
 use Rattle.mst_versions.specs.Pinned.{HasPinned}
 use Rattle.mst_versions.specs.Known.{most_rows}
 use Rattle.mst_versions.specs.Resting.{IsResting}
 
 -- the pass has no pin and not the turn
-pub record IsFreeSeat (n : Numbers) (s : Seated) : Type 0 where
+pub record IsFreeSeat (n : PassParameters) (s : Seated) : Type 0 where
   pub rest : IsResting n s.me
   pub low : n.number ≤ n.passes
 
 -- the pass pins the version at this root
-pub record IsHeldSeat (n : Numbers) (at : PinnedRoot) (s : Seated) : Type 0 where
+pub record IsHeldSeat (n : PassParameters) (at : PinnedVersion) (s : Seated) : Type 0 where
   pub pinned : HasPinned at s.me.0
   pub pin : IsPinned n.number at.pinned s.me
   pub empty : s.me.1 ≡ []

@@ -10,7 +10,7 @@ use Rattle.mst_arena.specs.Lists.{In}
 use Rattle.mst_arena.proofs.ListLemmas.{in_either, one_row}
 use Rattle.mst_words.specs.Steps.{Drained, Blocked}
 use Rattle.mst_words.specs.Stored.{stored}
-use Rattle.mst_versions.specs.Turns.{Seat, StoodAtAsk}
+use Rattle.mst_versions.specs.Turns.{SeatState, StoodAtAsk}
 use Rattle.mst_versions.specs.Asking.{KnowsRecords, HasAsked, AsksEach}
 use Rattle.mst_versions.specs.declared.turn.Asked.{Asked}
 use Rattle.mst_words.proofs.Members.{in_nothing, in_first, in_later, in_cases}
@@ -26,7 +26,7 @@ length-snoc (y ∷ ys) x = let more = length-snoc ys x in omega (arith, more)
 pub in_front : (x : ℕ) (xs ys : List ℕ) → In x xs → In x (xs ++ ys)
 in_front x xs ys i = omega (arith, times-append x xs ys, i)
 
-pub asked_none : (desk : State) (a : Asked) (m : Seat) → KnowsRecords desk m → m.0.drained ≡ []
+pub asked_none : (desk : State) (a : Asked) (m : SeatState) → KnowsRecords desk m → m.0.drained ≡ []
     → m.0.blocked ≡ [] → m.0.found ≡ [] → a.live.items ≡ version desk ∷ [] → HasAsked 0 desk a m
 asked_none desk a m k d b f is =
     let no_drained : length m.0.drained ≡ 0 = ap (λ (z : List ℕ). length z) d in
@@ -51,7 +51,7 @@ asked_none desk a m k d b f is =
     }
 
 -- the current record is passed over
-pub asked_current : (n : ℕ) (desk : State) (a : Asked) (m : Seat) → HasAsked n desk a m
+pub asked_current : (n : ℕ) (desk : State) (a : Asked) (m : SeatState) → HasAsked n desk a m
     → n ≡ desk.current → HasAsked (n + 1) desk a m
 asked_current n desk a m h is = record {
   knows = h.knows;
@@ -72,10 +72,11 @@ asked_current n desk a m h is = record {
 }
 
 -- a record is drained
-pub asked_drained : (n : ℕ) (desk : State) (a b : Asked) (m m' : Seat) → HasAsked n desk a m
+pub asked_drained : (n : ℕ) (desk : State) (a b : Asked) (m m' : SeatState) → HasAsked n desk a m
     → (n ≡ desk.current → ⊥) → Drained n m m' → b.live ≡ a.live → b.into ≡ n → HasAsked (n + 1) desk
     b m'
-asked_drained n desk a b m m' h other is live into = subst (λ (z : Seat). HasAsked (n + 1) desk b z)
+asked_drained n desk a b m m' h other is live into =
+    subst (λ (z : SeatState). HasAsked (n + 1) desk b z)
     (sym is) known
   where
     known : HasAsked (n + 1) desk b
@@ -131,11 +132,12 @@ asked_drained n desk a b m m' h other is live into = subst (λ (z : Seat). HasAs
         }
 
 -- a record is pinned, and its version live
-pub asked_blocked : (n : ℕ) (desk : State) (a b : Asked) (m m' : Seat) → HasAsked n desk a m
+pub asked_blocked : (n : ℕ) (desk : State) (a b : Asked) (m m' : SeatState) → HasAsked n desk a m
     → (n ≡ desk.current → ⊥) → Blocked (stored m.0.format) n m m'
     → b.live.items ≡ a.live.items ++ slice_index desk.versions n ∷ [] → b.into ≡ a.into
     → HasAsked (n + 1) desk b m'
-asked_blocked n desk a b m m' h other is live into = subst (λ (z : Seat). HasAsked (n + 1) desk b z)
+asked_blocked n desk a b m m' h other is live into =
+    subst (λ (z : SeatState). HasAsked (n + 1) desk b z)
     (sym is.is) known
   where
     known : HasAsked (n + 1) desk b (
@@ -216,26 +218,31 @@ asked_blocked n desk a b m m' h other is live into = subst (λ (z : Seat). HasAs
             omega (arith, l, not)) o out)
 
 -- when all are asked, one of them is drained
-pub some_drained : (desk : State) (a : Asked) (m : Seat) → HasAsked (m.0.passes + 2) desk a m
+pub some_drained : (desk : State) (a : Asked) (m : SeatState) → HasAsked (m.0.passes + 2) desk a m
     → 0 < length m.0.drained
 some_drained desk a m h = let there = h.knows.there in let e = h.behind there in let f =
     h.fewer in omega (arith, e, f)
 
 -- a record is not asked twice
-pub not_asked : (n : ℕ) (desk : State) (a : Asked) (m : Seat) → HasAsked n desk a m
+pub not_asked : (n : ℕ) (desk : State) (a : Asked) (m : SeatState) → HasAsked n desk a m
     → In n m.0.blocked → ⊥
 not_asked n desk a m h within = let l = h.blocked n within in omega (arith, l)
 
 -- each question is counted
-pub asks_drained : (n : ℕ) (m m' : Seat) → Drained n m m' → AsksEach m m'
-asks_drained n m m' is = let a : m'.0.asked ≡ m.0.asked + 1 = ap (λ (z : Seat). z.0.asked) is in
-    let b : length m'.0.blocked ≡ length m.0.blocked = ap (λ (z : Seat). length z.0.blocked) is in
-    let d : length m'.0.drained ≡ length (n ∷ m.0.drained) = ap (λ (z : Seat). length z.0.drained)
+pub asks_drained : (n : ℕ) (m m' : SeatState) → Drained n m m' → AsksEach m m'
+asks_drained n m m' is = let a : m'.0.asked ≡ m.0.asked + 1 =
+    ap (λ (z : SeatState). z.0.asked) is in
+    let b : length m'.0.blocked ≡ length m.0.blocked = ap (λ (z : SeatState). length z.0.blocked) is
+    in
+    let d : length m'.0.drained ≡ length (n ∷ m.0.drained) =
+    ap (λ (z : SeatState). length z.0.drained)
     is in omega (arith, a, b, d)
 
-pub asks_blocked : (n : ℕ) (m m' : Seat) → Blocked (stored m.0.format) n m m' → AsksEach m m'
-asks_blocked n m m' is = let a : m'.0.asked ≡ m.0.asked + 1 = ap (λ (z : Seat). z.0.asked) is.is in
+pub asks_blocked : (n : ℕ) (m m' : SeatState) → Blocked (stored m.0.format) n m m' → AsksEach m m'
+asks_blocked n m m' is = let a : m'.0.asked ≡ m.0.asked + 1 =
+    ap (λ (z : SeatState). z.0.asked) is.is in
     let b : length m'.0.blocked ≡ length (n ∷ m.0.blocked) =
-    ap (λ (z : Seat). length z.0.blocked) is.is in
-    let d : length m'.0.drained ≡ length m.0.drained = ap (λ (z : Seat). length z.0.drained) is.is
+    ap (λ (z : SeatState). length z.0.blocked) is.is in
+    let d : length m'.0.drained ≡ length m.0.drained =
+    ap (λ (z : SeatState). length z.0.drained) is.is
     in omega (arith, a, b, d)

@@ -20,7 +20,7 @@ use Rattle.mst_versions.specs.declared.turn.Turn.{Turn}
 use Rattle.mst_key.specs.declared.memory.Memory.{Memory}
 use Rattle.mst_versions.specs.declared.faults.ApplyFault.TheVariants as fault
 use Rattle.mst_versions.specs.Known.{AtSeat}
-use Rattle.mst_versions.specs.Turns.{Seat, HasTurn, Begun}
+use Rattle.mst_versions.specs.Turns.{SeatState, HasTurn, Begun}
 use Rattle.mst_versions.specs.Writes.{Made}
 use Rattle.mst_versions.specs.Applying.{LacksEdits, RefusesBatch}
 use Rattle.mst_versions.proofs.Made.{key_aged, change_made}
@@ -55,13 +55,13 @@ module _ {A : Type 0} (t : Turn A) (s z : Seated) (h : HasTurn t s.me) (es : Lis
 
 -- ---- they are not made
 
-lacks_edits : {A : Type 0} (t : Turn A) (m : Seat) → HasTurn t m → (es : List Edit)
+lacks_edits : {A : Type 0} (t : Turn A) (m : SeatState) → HasTurn t m → (es : List Edit)
     (why : NotApplied)
     → LacksBatch why t.format (content_of m.0) t.desk t.root es → LacksEdits why es t m
 lacks_edits t m h es (applied.Memory refused) lacks = lacks
 lacks_edits t m h es applied.NoRoom lacks = lacks (after m.0.seen) h.stands
 
-pub batch_lacks : {A : Type 0} (t : Turn A) (m : Seat) → HasTurn t m → (es : List Edit)
+pub batch_lacks : {A : Type 0} (t : Turn A) (m : SeatState) → HasTurn t m → (es : List Edit)
     (r : Result Root NotApplied)
     → IfErr r (λ why. LacksBatch why t.format (content_of m.0) t.desk t.root es)
     → IfErr r (λ why. LacksEdits why es t m)
@@ -69,8 +69,8 @@ batch_lacks t m h es (Ok root) lacks = tt
 batch_lacks t m h es (Err why) lacks = lacks_edits t m h es why lacks
 
 -- memory was refused, and the turn given back
-pub batch_memory : {A : Type 0} (s : Seated) (m1 : Seat) (t : Turn A) (b : Begun s.me t m1)
-    (number : ℕ) (mine : s.me.0.number ≡ number) (m2 : Seat) (z : Seated) → IsSameSeat s z
+pub batch_memory : {A : Type 0} (s : Seated) (m1 : SeatState) (t : Turn A) (b : Begun s.me t m1)
+    (number : ℕ) (mine : s.me.0.number ≡ number) (m2 : SeatState) (z : Seated) → IsSameSeat s z
     → m2 ≡ m1 → z.me ≡ (record m2.0 { turn = false }, []) → (es : List Edit) (refused : Memory)
     → length m1.0.seen < last_version → LacksEdits (applied.Memory refused) es t m1
     → AtSeat (RefusesBatch (fault.Memory refused) es) number s z

@@ -31,7 +31,7 @@ use Rattle.mst_words.proofs.AgeFrames.{SameAges}
 use Rattle.mst_versions.specs.declared.turn.Asked.{Asked}
 use Rattle.mst_versions.specs.declared.turn.Turn.{Turn}
 use Rattle.mst_versions.specs.Asking.{HasAsked}
-use Rattle.mst_versions.specs.Turns.{Seat, StoodAtAsk, IsKept, AreKept, LeavesFree, HoldsDesk, HasTurn}
+use Rattle.mst_versions.specs.Turns.{SeatState, StoodAtAsk, IsLiveVersion, AreLiveVersions, LeavesFree, HoldsDesk, HasTurn}
 use Rattle.mst_versions.proofs.Asked.{some_drained}
 use Rattle.mst_words.proofs.Members.{each, in_later}
 use Rattle.mst_versions.proofs.Places.{reached_inside, place_of}
@@ -41,16 +41,16 @@ use Rattle.mst_versions.proofs.Slots.{desk_there}
 
 -- what the turn is made of
 abbrev pub of_turn : {A : Type 0} → State → Root → Format → ℕ → ℕ → Turn A
-of_turn {A} desk root format into kept =
-    record { desk = desk; root = root; format = format; into = into; kept = kept }
+of_turn {A} desk root format into live =
+    record { desk = desk; root = root; format = format; into = into; live = live }
 
-module _ (before taken : Seat) (p : Takes (stored before.0.format) before taken) where
+module _ (before taken : SeatState) (p : Takes (stored before.0.format) before taken) where
   -- the format of the current version
   abbrev pub format_there : Format
   format_there = format_after before.0.format p.log
 
   -- only what was asked has changed, and the desk is out of the slot
-  abbrev pub IsAskedOf : Seat → Type 0
+  abbrev pub IsAskedOf : SeatState → Type 0
   IsAskedOf m =
       m ≡ (
         record taken.0 {
@@ -82,7 +82,7 @@ module _ (before taken : Seat) (p : Takes (stored before.0.format) before taken)
             asked;
       }
 
-  abbrev asked_seat : List ℕ → List ℕ → List ℕ → ℕ → Seat
+  abbrev asked_seat : List ℕ → List ℕ → List ℕ → ℕ → SeatState
   asked_seat drained blocked found asked = (asked_view drained blocked found asked, (0, None) ∷ [])
 
   abbrev turn_of : {A : Type 0} → State → Asked → Root → Turn A
@@ -93,7 +93,7 @@ module _ (before taken : Seat) (p : Takes (stored before.0.format) before taken)
         format = format_there;
         into =
             a.into;
-        kept = length a.live.items;
+        live = length a.live.items;
       }
 
   blank_free : (drained blocked found : List ℕ) (asked : ℕ) (a : Asked)
@@ -122,7 +122,7 @@ module _ (before taken : Seat) (p : Takes (stored before.0.format) before taken)
   -- pinned
   kept_of : (drained blocked found : List ℕ) (asked : ℕ) (a : Asked)
       → HasAsked (before.0.passes + 2) (state_of p.desk) a (asked_seat drained blocked found asked)
-      → (v : ℕ) → In v a.live.items → IsKept (state_of p.desk)
+      → (v : ℕ) → In v a.live.items → IsLiveVersion (state_of p.desk)
       (asked_view drained blocked found asked) v
   kept_of drained blocked found asked a h v i = ⊎_elim
       (λ (e : v ≡ version (state_of p.desk)).
@@ -132,7 +132,7 @@ module _ (before taken : Seat) (p : Takes (stored before.0.format) before taken)
 
   live_kept : (drained blocked found : List ℕ) (asked : ℕ) (a : Asked)
       → HasAsked (before.0.passes + 2) (state_of p.desk) a (asked_seat drained blocked found asked)
-      → (v : ℕ) → IsKept (state_of p.desk) (asked_view drained blocked found asked) v
+      → (v : ℕ) → IsLiveVersion (state_of p.desk) (asked_view drained blocked found asked) v
       → In v a.live.items
   live_kept drained blocked found asked a h v (r, l, out, is) =
       subst (λ (n : ℕ). In n a.live.items) (sym is)
@@ -157,7 +157,7 @@ module _ (before taken : Seat) (p : Takes (stored before.0.format) before taken)
 
   counted_rows : (drained blocked found : List ℕ) (asked : ℕ) (a : Asked)
       → HasAsked (before.0.passes + 2) (state_of p.desk) a (asked_seat drained blocked found asked)
-      → (live rows : List ℕ) → AreKept (swept_by a.live.items (state_of p.desk))
+      → (live rows : List ℕ) → AreLiveVersions (swept_by a.live.items (state_of p.desk))
       (asked_view drained blocked found asked) live
       → IsDistinct rows → TogetherReach (map (swept_life a.live.items) p.desk.lives) live rows
       → free_count (map (swept_life a.live.items) p.desk.lives) + length rows ≡ before.0.rows
@@ -303,7 +303,7 @@ module _ (before taken : Seat) (p : Takes (stored before.0.format) before taken)
         aged = t.2;
         blank = λ x free. blank_free drained blocked found asked a h x free;
         free = λ x blank. free_blank drained blocked found asked a h x blank;
-        kept = λ r l out other. h.found r l other out;
+        live = λ r l out other. h.found r l other out;
         stood = h.stood;
         now = (
           p.desk.current,
@@ -320,9 +320,9 @@ module _ (before taken : Seat) (p : Takes (stored before.0.format) before taken)
       }
 
   -- what was asked is all that has changed since
-  whole : (m : Seat) → IsAskedOf m → m ≡ asked_seat m.0.drained m.0.blocked m.0.found m.0.asked
+  whole : (m : SeatState) → IsAskedOf m → m ≡ asked_seat m.0.drained m.0.blocked m.0.found m.0.asked
   whole m is =
-      is ∙ ap (λ (z : Seat). (
+      is ∙ ap (λ (z : SeatState). (
         record z.0 {
           drained = m.0.drained;
           blocked = m.0.blocked;
@@ -334,62 +334,63 @@ module _ (before taken : Seat) (p : Takes (stored before.0.format) before taken)
       )) p.is
 
   -- the link that the current record has
-  pub link_there : (desk : State) (m : Seat) (which : ℕ) → taken.1 ≡ (0, Some desk) ∷ []
+  pub link_there : (desk : State) (m : SeatState) (which : ℕ) → taken.1 ≡ (0, Some desk) ∷ []
       → IsAskedOf m → which ≡ desk.current → taken.0.rows ≤ 65535 → field m.0.known_words which 1
       ≤ 65535
   link_there desk m which slot is current few =
-      let few_rows : before.0.rows ≤ 65535 = subst (λ (z : Seat). z.0.rows ≤ 65535) p.is few in
+      let few_rows : before.0.rows ≤ 65535 = subst (λ (z : SeatState). z.0.rows ≤ 65535) p.is few in
       let at : which ≡ p.desk.current =
       current ∙ ap (λ (d : State). d.current) (desk_there before taken p desk slot) in
       let link = link_of_root (row p.words) (field p.words p.desk.current)
       (contents_after before.0.format p.log) p.used before.0.rows p.stands.stands
       p.stands.inside in
       let same : field m.0.known_words which 1 ≡ field p.words p.desk.current 1 =
-      ap (λ (z : Seat). field z.0.known_words which 1) (whole m is)
+      ap (λ (z : SeatState). field z.0.known_words which 1) (whole m is)
       ∙ ap (λ (r : ℕ). field p.words r 1) at in
       omega (arith, few_rows, link, same)
 
   -- the number of the format that the current record has
-  pub number_there : (desk : State) (m : Seat) (which : ℕ) → taken.1 ≡ (0, Some desk) ∷ []
+  pub number_there : (desk : State) (m : SeatState) (which : ℕ) → taken.1 ≡ (0, Some desk) ∷ []
       → IsAskedOf m → which ≡ desk.current → field m.0.known_words which 6 ≡ format_number
       format_there
   number_there desk m which slot is current =
       let at : which ≡ p.desk.current =
       current ∙ ap (λ (d : State). d.current) (desk_there before taken p desk slot) in
-      ap (λ (z : Seat). field z.0.known_words which 6) (whole m is)
+      ap (λ (z : SeatState). field z.0.known_words which 6) (whole m is)
       ∙ ap (λ (r : ℕ). field p.words r 6) at ∙ p.stands.aged.0.2
 
   pub ready : {A : Type 0} (desk swept_life : State) (a : Asked) (live : List ℕ) (root : Root)
-      (format : Format) (m : Seat) (which passes kept : ℕ) → kept ≡ length a.live.items
+      (format : Format) (m : SeatState) (which passes count : ℕ) → count ≡ length a.live.items
       → taken.1 ≡ (0, Some desk) ∷ [] → IsAskedOf m → passes ≡ taken.0.passes
       → HasAsked (passes + 2) desk a m → which ≡ desk.current
       → root ≡ root_in (field m.0.known_words which) → format ≡ format_there
       → live ≡ a.live.items → swept_life ≡ swept_by live desk
-      → HasTurn (of_turn {A = A} swept_life root format a.into kept) m
-  ready {A} desk swept_life a live root format m which passes kept number slot is few h current here
+      → HasTurn (of_turn {A = A} swept_life root format a.into count) m
+  ready {A} desk swept_life a live root format m which passes count number slot is few h current
+      here
       in_format all by =
       let d : desk ≡ state_of p.desk = desk_there before taken p desk slot in
       let w : m ≡ asked_seat m.0.drained m.0.blocked m.0.found m.0.asked = whole m is in
-      let n : passes ≡ before.0.passes = few ∙ ap (λ (z : Seat). z.0.passes) p.is in
+      let n : passes ≡ before.0.passes = few ∙ ap (λ (z : SeatState). z.0.passes) p.is in
       let known_asked : HasAsked (before.0.passes + 2) (state_of p.desk) a
       (asked_seat m.0.drained m.0.blocked m.0.found m.0.asked) =
-      subst (λ (z : Seat). HasAsked (before.0.passes + 2) (state_of p.desk) a z) w
+      subst (λ (z : SeatState). HasAsked (before.0.passes + 2) (state_of p.desk) a z) w
       (subst (λ (s : State). HasAsked (before.0.passes + 2) s a m) d
       (subst (λ (k : ℕ). HasAsked (k + 2) desk a m) n h)) in
       let root_is : root ≡ root_in (field p.words p.desk.current) =
-      here ∙ ap (λ (z : Seat). root_in (field z.0.known_words which)) w
+      here ∙ ap (λ (z : SeatState). root_in (field z.0.known_words which)) w
       ∙ ap (λ (r : ℕ). root_in (field p.words r)) (current ∙ ap (λ (s : State). s.current) d) in
       let swept_is : swept_life ≡ swept_by a.live.items (state_of p.desk) =
       by ∙ ap (λ (l : List ℕ). swept_by l desk) all
       ∙ ap (λ (s : State). swept_by a.live.items s) d in
-      subst (λ (s : State). HasTurn (of_turn {A = A} s root format a.into kept) m) (sym swept_is)
+      subst (λ (s : State). HasTurn (of_turn {A = A} s root format a.into count) m) (sym swept_is)
       (subst (λ (k : ℕ). HasTurn
       (of_turn {A = A} (swept_by a.live.items (state_of p.desk)) root format a.into k) m)
       (sym number)
       (subst (λ (f : Format). HasTurn
       (of_turn {A = A} (swept_by a.live.items (state_of p.desk)) root f a.into
       (length a.live.items)) m) (sym in_format)
-      (subst (λ (z : Seat). HasTurn
+      (subst (λ (z : SeatState). HasTurn
       (of_turn {A = A} (swept_by a.live.items (state_of p.desk)) root format_there a.into
       (length a.live.items)) z) (sym w)
       (known {A = A} m.0.drained m.0.blocked m.0.found m.0.asked a root known_asked root_is))))

@@ -14,7 +14,7 @@ use Rattle.mst_words.specs.Access.{Seated, IsSameSeat}
 use Rattle.mst_words.specs.Steps.{NotesCurrent, AsksCurrent, found_now}
 use Rattle.mst_words.proofs.Members.{in_nothing, contained, within}
 use Rattle.mst_versions.specs.declared.turn.Turn.{Turn}
-use Rattle.mst_versions.specs.Turns.{Seat, HoldsDesk, HasTurn, Begun}
+use Rattle.mst_versions.specs.Turns.{SeatState, HoldsDesk, HasTurn, Begun}
 use Rattle.mst_versions.specs.Counting.{Counts, CountsFree}
 use Rattle.mst_versions.specs.Known.{known, AtSeat}
 use Rattle.mst_versions.specs.Writes.{rows_of}
@@ -22,7 +22,7 @@ use Rattle.mst_versions.proofs.Shown.{at_seat}
 use Rattle.mst_versions.proofs.Written.{room_left, room_alone_left, are_found, gave, looks, looks_back, given_back}
 
 -- what the holder of the turn has at hand does not depend on what it noted and found of pins
-still : {A : Type 0} (t : Turn A) (m : Seat) (noted : Option ℕ) (found : List ℕ) (asked : ℕ)
+still : {A : Type 0} (t : Turn A) (m : SeatState) (noted : Option ℕ) (found : List ℕ) (asked : ℕ)
     → HoldsDesk t m → HoldsDesk t (record m.0 { noted = noted; found = found; asked = asked }, m.1)
 still t m noted found asked k =
     record {
@@ -84,7 +84,8 @@ module _ (noted done version : ℕ) where
       go true i = absurd (in_nothing v i)
       go false i = let e = one_row v version i in omega (arith, e)
 
-module _ {A : Type 0} (t : Turn A) (m1 m2 m3 : Seat) (noted done : ℕ) (n : NotesCurrent m1 noted m2)
+module _ {A : Type 0} (t : Turn A) (m1 m2 m3 : SeatState) (noted done : ℕ)
+    (n : NotesCurrent m1 noted m2)
     (a : AsksCurrent m2 done m3) where
   -- the versions that were found pinned
   abbrev all_found : List ℕ
@@ -94,7 +95,7 @@ module _ {A : Type 0} (t : Turn A) (m1 m2 m3 : Seat) (noted done : ℕ) (n : Not
   asked_both : m3
       ≡ (record m1.0 { noted = Some noted; found = all_found; asked = m1.0.asked + 1 + 1 }, m1.1)
   asked_both =
-      a.is ∙ ap (λ (z : Seat). (
+      a.is ∙ ap (λ (z : SeatState). (
         record z.0 {
           found = z.0.found ++ found_now z.0.noted done (length z.0.seen);
           asked =
@@ -112,22 +113,22 @@ module _ {A : Type 0} (t : Turn A) (m1 m2 m3 : Seat) (noted done : ℕ) (n : Not
   same_mask : m1.0.passes ≡ 1 → noted % masks ≡ done
   same_mask one =
       let word : m2.0.noted ≡ Some (m2.0.desk.current * masks + n.mask) =
-      ap (λ (z : Seat). z.0.noted) n.is ∙ ap Some n.found
-      ∙ ap (λ (z : Seat). Some (z.0.desk.current * masks + n.mask)) (sym n.is) in
+      ap (λ (z : SeatState). z.0.noted) n.is ∙ ap Some n.found
+      ∙ ap (λ (z : SeatState). Some (z.0.desk.current * masks + n.mask)) (sym n.is) in
       ap (λ (z : ℕ). z % masks) n.found ∙ mod-mul-add m1.0.desk.current masks n.mask n.small
-      ∙ sym (a.alone (ap (λ (z : Seat). z.0.passes) n.is ∙ one) n.mask n.small word)
+      ∙ sym (a.alone (ap (λ (z : SeatState). z.0.passes) n.is ∙ one) n.mask n.small word)
 
   pub counted : (s z : Seated) (b : Begun s.me t m1) (number : ℕ) → s.me.0.number ≡ number
       → IsSameSeat s z → z.me ≡ (record m3.0 { turn = false }, [])
       → (found : Option ℕ) (used : ℕ) → used + free_count t.desk.lives ≡ s.me.0.rows
-      → (t.kept ≡ 1 → noted % masks ≡ done → found ≡ Some used)
-      → IfSome found (λ k. (k ≡ used) × (t.kept ≡ 1) × (noted % masks ≡ done))
+      → (t.live ≡ 1 → noted % masks ≡ done → found ≡ Some used)
+      → IfSome found (λ k. (k ≡ used) × (t.live ≡ 1) × (noted % masks ≡ done))
       → AtSeat (Counts found) number s z
   counted s z b number mine same back found used all lone only made =
       let m = s.me in
       let w = gave s m1 t b number mine (Some noted) all_found (m1.0.asked + 1 + 1) in
       let z_is : z ≡ w = at_seat s z w.me same
-      (back ∙ ap (λ (x : Seat). (record x.0 { turn = false }, [])) asked_both) in
+      (back ∙ ap (λ (x : SeatState). (record x.0 { turn = false }, [])) asked_both) in
       let as_many = b.has.leaves.as_many in
       let lengths = length-append m1.0.found (found_now (Some noted) done (length m1.0.seen)) in
       subst (λ (x : Seated). Counts found (known number made s) (known number made x)) (sym z_is)
@@ -136,7 +137,7 @@ module _ {A : Type 0} (t : Turn A) (m1 m2 m3 : Seat) (noted done : ℕ) (n : Not
         number =
             λ k is. (let o =
             subst (λ (z : Option ℕ). IfSome z
-            (λ i. (i ≡ used) × (t.kept ≡ 1) × (noted % masks ≡ done))) is only in let f =
+            (λ i. (i ≡ used) × (t.live ≡ 1) × (noted % masks ≡ done))) is only in let f =
             b.has.number in let r = ap (λ (v : View). v.rows) b.rest in
             let map_is = room_alone_left t m1 b.has (omega (arith, f, o.1)) in
             let here : k ≡ rows_of t.format (after m1.0.seen) =
@@ -150,7 +151,7 @@ module _ {A : Type 0} (t : Turn A) (m1 m2 m3 : Seat) (noted done : ℕ) (n : Not
         exact = (
           (λ is. let some = some_of found is in let o =
               subst (λ (z : Option ℕ). IfSome z
-              (λ i. (i ≡ used) × (t.kept ≡ 1) × (noted % masks ≡ done))) some.1 only in let kept =
+              (λ i. (i ≡ used) × (t.live ≡ 1) × (noted % masks ≡ done))) some.1 only in let kept =
               o.1 in
               ap (λ (z : List ℕ). z ++ found_now (Some noted) done (length m1.0.seen))
               (no_members m1.0.found (omega (arith, as_many, kept))) ∙ unpinned noted done
@@ -173,13 +174,13 @@ module _ {A : Type 0} (t : Turn A) (m1 m2 m3 : Seat) (noted done : ℕ) (n : Not
       }
 
 -- the rows that are not free, and those that are, are all rows
-pub all_rows : {A : Type 0} (m m1 : Seat) (t : Turn A) → Begun m t m1 → (all free : ℕ)
+pub all_rows : {A : Type 0} (m m1 : SeatState) (t : Turn A) → Begun m t m1 → (all free : ℕ)
     → all ≡ m.0.rows → free ≡ free_count t.desk.lives → all - free + free_count t.desk.lives
     ≡ m.0.rows
 all_rows m m1 t b all free is counted = let l = room_left t m1 b.has in let r =
     ap (λ (v : View). v.rows) b.rest in omega (arith, l, r, is, counted)
 
-module _ {A : Type 0} (s : Seated) (m1 : Seat) (t : Turn A) (b : Begun s.me t m1) (number : ℕ)
+module _ {A : Type 0} (s : Seated) (m1 : SeatState) (t : Turn A) (b : Begun s.me t m1) (number : ℕ)
     (mine : s.me.0.number ≡ number) (free : ℕ) (is : free ≡ free_count t.desk.lives) where
   -- if no version was found pinned, the map alone holds rows
   all_mapped : m1.0.found ≡ []
@@ -191,7 +192,7 @@ module _ {A : Type 0} (s : Seated) (m1 : Seat) (t : Turn A) (b : Begun s.me t m1
       let map_is = room_alone_left t m1 b.has (omega (arith, as_many, number, no_length)) in
       omega (arith, map_is, is))
 
-  -- the rows that are free, and those that the kept versions hold, are all rows
+  -- the rows that are free, and those that the live versions hold, are all rows
   pub counted_free : (z : Seated) → IsSameSeat s z → z.me ≡ (record m1.0 { turn = false }, [])
       → AtSeat (CountsFree free) number s z
   counted_free z same back =

@@ -1,3 +1,4 @@
+pub mod Fields
 pub mod Asked
 mod SweptLives
 pub mod Slots

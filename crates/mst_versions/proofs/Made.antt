@@ -27,11 +27,11 @@ use Rattle.mst_words.specs.Access.{Seated, Beside, beside, with_words, content_o
 use Rattle.mst_words.specs.Records.{Agrees}
 use Rattle.mst_words.specs.Stored.{stored, desk_state, version_of}
 use Rattle.mst_versions.specs.declared.turn.Turn.{Turn}
-use Rattle.mst_versions.specs.Turns.{Seat, HoldsDesk, HasTurn, HasMade}
+use Rattle.mst_versions.specs.Turns.{SeatState, HoldsDesk, HasTurn, HasMade}
 use Rattle.mst_versions.specs.Writes.{made_at_seat, rows_taken, Made}
 
 -- the map that stands may be changed
-pub map_stands : {A : Type 0} (t : Turn A) (m : Seat) → HasTurn t m → MapStands t.format
+pub map_stands : {A : Type 0} (t : Turn A) (m : SeatState) → HasTurn t m → MapStands t.format
     (content_of m.0) t.desk t.root
 map_stands t m h =
     (after m.0.seen, h.stands, reached_old t.desk (numbers h.stands) h.settled h.reached)
@@ -59,7 +59,8 @@ next_ages first old new before now root at f g h e stood stands f_is g_is settle
     (subst (λ (x : Format). AllByRecursion (IsAged f x new o) (placed_nodes w)) g_is aged))
 
 -- the nodes after a change of a key, which stays in the format
-pub key_aged : {A : Type 0} (t : Turn A) (m : Seat) (h : HasTurn t m) (now : Content) (root : Root)
+pub key_aged : {A : Type 0} (t : Turn A) (m : SeatState) (h : HasTurn t m) (now : Content)
+    (root : Root)
     (d : State) (n : List Pair) (stands : Stands t.format now root n) → Changes t.desk d
     (numbers h.stands) (numbers stands)
     → OnlyFreeWritten t.desk (content_of m.0) now → IsMade d stands.tree.placed → free_count d.lives
@@ -89,7 +90,7 @@ module _ {A : Type 0} (t : Turn A) (s z : Seated) (h : HasTurn t s.me) (root : R
   abbrev made_turn : Turn A
   made_turn = record t { desk = d }
 
-  abbrev now : Seat
+  abbrev now : SeatState
   now = (record s.me.0 { known_words = z.me.0.known_words }, s.me.1)
 
   is_now : z.me ≡ now
@@ -147,8 +148,8 @@ module _ {A : Type 0} (t : Turn A) (s z : Seated) (h : HasTurn t s.me) (root : R
       stands.tree.placed → HasMade made_turn root g e z.me
   made mine room leaves ages = record {
     holds = subst (HoldsDesk made_turn) (sym is_now) holds;
-    mine = mine ∙ sym (ap (λ (m : Seat). m.0.number) is_now);
-    room = subst (λ (m : Seat). length m.0.seen < last_version) (sym is_now) room;
+    mine = mine ∙ sym (ap (λ (m : SeatState). m.0.number) is_now);
+    room = subst (λ (m : SeatState). length m.0.seen < last_version) (sym is_now) room;
     format_is = leaves;
     stands = stands;
     reached = subst (λ (v : ℕ). ReachesExactly d.lives v (numbers stands))
@@ -160,7 +161,7 @@ module _ {A : Type 0} (t : Turn A) (s z : Seated) (h : HasTurn t s.me) (root : R
   }
 
 -- the format that a change leaves is that after the history with its event
-leaves_format : {A : Type 0} (t : Turn A) (m : Seat) → HasTurn t m → (g : Format) (e : Event)
+leaves_format : {A : Type 0} (t : Turn A) (m : SeatState) → HasTurn t m → (g : Format) (e : Event)
     → g ≡ changed_format t.format e.change → g ≡ format_after m.0.format (m.0.seen ++ e ∷ [])
 leaves_format t m h g e is = is ∙ ap (λ (f : Format). changed_format f e.change) h.format
     ∙ sym (format_after-push m.0.format m.0.seen e)
@@ -174,7 +175,8 @@ with_event s z root g e same stands = subst (Stands g (content_of z.me.0) root)
     stands
 
 -- the ages of its rows: the same history has been seen before and after
-made_ages : {A : Type 0} (t : Turn A) (m : Seat) (h : HasTurn t m) (now : Content) (root : Root)
+made_ages : {A : Type 0} (t : Turn A) (m : SeatState) (h : HasTurn t m) (now : Content)
+    (root : Root)
     (g : Format) (d : State) (e : Event) (first : Format) (seen : History)
     (stands : Stands g now root (after (seen ++ e ∷ []))) → m.0.format ≡ first → m.0.seen ≡ seen
     → g ≡ changed_format t.format e.change

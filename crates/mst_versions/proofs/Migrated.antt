@@ -31,7 +31,7 @@ use Rattle.mst_words.proofs.Members.{each}
 use Rattle.mst_versions.specs.declared.turn.Turn.{Turn}
 use Rattle.mst_key.specs.declared.memory.Memory.{Memory}
 use Rattle.mst_versions.specs.declared.faults.MigrateFault.TheVariants as fault
-use Rattle.mst_versions.specs.Turns.{Seat, HasTurn, Begun}
+use Rattle.mst_versions.specs.Turns.{SeatState, HasTurn, Begun}
 use Rattle.mst_versions.specs.Writes.{rows_taken, Made, LacksRows}
 use Rattle.mst_versions.specs.Known.{AtSeat}
 use Rattle.mst_versions.specs.Migrating.{RefusesMigration}
@@ -41,7 +41,7 @@ use Rattle.mst_versions.proofs.Written.{room_left, looks_back, lacks_room, given
 -- ---- the map in memory
 
 -- a map that stands has no more pairs than there are rows
-pub few_pairs : {A : Type 0} (t : Turn A) (m : Seat) → HasTurn t m → m.0.rows ≤ 65535
+pub few_pairs : {A : Type 0} (t : Turn A) (m : SeatState) → HasTurn t m → m.0.rows ≤ 65535
     → length (after m.0.seen) ≤ 65535
 few_pairs t m h few = let all = room_left t m h in omega (arith, all, few)
 
@@ -67,7 +67,7 @@ taken_is : (f to : Format) (m : List Pair) → f ≢ to → rows_taken f m (Migr
 taken_is f to m other = formats.moved f to (differ f to other) m ∙ ap (λ (n : ℕ). length m + n)
     (sym (count_nodes (tree to m)))
 
-pub lacks_rows : {A : Type 0} (t : Turn A) (m : Seat) (to : Format) → t.format ≢ to
+pub lacks_rows : {A : Type 0} (t : Turn A) (m : SeatState) (to : Format) → t.format ≢ to
     → free_count t.desk.lives < length (after m.0.seen) + node_count (tree to (after m.0.seen))
     → LacksRows (Migrate to) t m
 lacks_rows t m to other few = let is = taken_is t.format to (after m.0.seen) other in
@@ -148,8 +148,8 @@ stays_made t s h to is early =
 
 -- ---- a migration that is refused
 
-module _ {A : Type 0} (s : Seated) (m1 : Seat) (t : Turn A) (b : Begun s.me t m1) (number : ℕ)
-    (mine : s.me.0.number ≡ number) (m2 : Seat) (z : Seated) (same : IsSameSeat s z)
+module _ {A : Type 0} (s : Seated) (m1 : SeatState) (t : Turn A) (b : Begun s.me t m1) (number : ℕ)
+    (mine : s.me.0.number ≡ number) (m2 : SeatState) (z : Seated) (same : IsSameSeat s z)
     (still : m2 ≡ m1) (back : z.me ≡ (record m2.0 { turn = false }, [])) (to : Format)
     (other : t.format ≢ to) (early : length m1.0.seen < last_version) where
   other_now : format_after m1.0.format m1.0.seen ≢ to

@@ -17,8 +17,8 @@ use Rattle.mst_words.specs.Stored.{Contents, contents_after, rows_in, root_in, S
 use Rattle.mst_words.specs.Access.{content_of}
 use Rattle.mst_words.proofs.Framed.{stands_frame}
 use Rattle.mst_words.proofs.Members.{in_nothing, in_first, in_cases, each}
-use Rattle.mst_versions.specs.declared.reading.PinnedRoot.{PinnedRoot}
-use Rattle.mst_versions.specs.Pinned.{Pins}
+use Rattle.mst_versions.specs.declared.reading.PinnedVersion.{PinnedVersion}
+use Rattle.mst_versions.specs.Pinned.{PinsVersion}
 
 -- a tree stands at no link beyond the rows
 link_inside : (p : Placed) (n : ℕ) → ((x : ℕ) → In x (used p) → x < n) → link_of p ≤ n
@@ -66,11 +66,12 @@ pinned_link m m' found which p is few = let l = link_of_root (row p.words) (fiel
 
 -- what the pass then knows
 pub pinned_root : (m m' : Me Slot View) (found : ℕ) (p : PinsNow (stored m.0.format) m found m')
-    (at : PinnedRoot) → m.0.passes ≤ 32 → p.cur ≡ at.pinned → at.version ≡ field m'.0.known_words
-    at.pinned 0 → at.link ≡ field m'.0.known_words at.pinned 1 → Pins m at m'
+    (at : PinnedVersion) → m.0.passes ≤ 32 → p.cur ≡ at.pinned → at.version ≡ field m'.0.known_words
+    at.pinned 0 → at.link ≡ field m'.0.known_words at.pinned 1 → PinsVersion m at m'
 pinned_root m m' found p at few is version link =
     subst (λ (z : Me Slot View). at.version ≡ field z.0.known_words at.pinned 0
-    → at.link ≡ field z.0.known_words at.pinned 1 → Pins m at z) (sym p.is) known version link
+    → at.link ≡ field z.0.known_words at.pinned 1 → PinsVersion m at z) (sym p.is) known version
+    link
   where
     w : View
     w = record m.0 {
@@ -97,7 +98,7 @@ pinned_root m m' found p at few is version link =
         (root_in (field p.words p.cur)) (after p.log) p.stands.0 content refl).0
 
     known : at.version ≡ field p.words at.pinned 0 → at.link ≡ field p.words at.pinned 1
-        → Pins m at (w, m.1)
+        → PinsVersion m at (w, m.1)
     known number here = record {
       later = p.later;
       own = p.own;

@@ -24,7 +24,7 @@ use Rattle.mst_words.specs.Steps.{IsReady, IsGiving}
 use Rattle.mst_words.specs.Stored.{AgedOn, stored, desk_state, rows_in, root_in, format_number, version_of}
 use Rattle.mst_words.proofs.Framed.{aged_frame, same_row}
 use Rattle.mst_versions.specs.declared.turn.Turn.{Turn}
-use Rattle.mst_versions.specs.Turns.{Seat, HoldsDesk, HasMade}
+use Rattle.mst_versions.specs.Turns.{SeatState, HoldsDesk, HasMade}
 use Rattle.mst_versions.specs.Filing.{OthersKept}
 use Rattle.mst_words.proofs.Members.{each}
 use Rattle.mst_versions.proofs.Pinning.{reads_all}
@@ -38,7 +38,7 @@ length_more : (l : History) (e : Event) → length (l ++ e ∷ []) ≡ length l 
 length_more [] e = refl
 length_more (x ∷ l) e = let h = length_more l e in omega arith
 
-module _ {A : Type 0} (t : Turn A) (root : Root) (format : Format) (e : Event) (m : Seat)
+module _ {A : Type 0} (t : Turn A) (root : Root) (format : Format) (e : Event) (m : SeatState)
     (made : HasMade t root format e m) (held : List ℕ)
     (kept : OthersKept t.into m.0.known_words held)
     (filed : field held t.into 0 ≡ version t.desk + 1) (spelt : root_in (field held t.into) ≡ root)
@@ -139,7 +139,7 @@ module _ {A : Type 0} (t : Turn A) (root : Root) (format : Format) (e : Event) (
   )
 
   -- what the pass holds when the version is published, the mask is moved and the desk is back
-  abbrev given : State → ℕ → Seat
+  abbrev given : State → ℕ → SeatState
   given s mask = (
     record now {
       seen = m.0.seen ++ e ∷ [];
@@ -194,12 +194,13 @@ module _ {A : Type 0} (t : Turn A) (root : Root) (format : Format) (e : Event) (
     };
   }
 
-  pub giving : (s : State) (mask : ℕ) (m' : Seat) → s ≡ advanced t.into t.desk → m' ≡ given s mask
+  pub giving : (s : State) (mask : ℕ) (m' : SeatState) → s ≡ advanced t.into t.desk
+      → m' ≡ given s mask
       → (x : Option State) × (d : DeskState) × IsGiving (stored m'.0.format) x d m'
   giving s mask m' is same = (
     Some s,
     desk_state s,
-    subst (λ (z : Seat). IsGiving (stored z.0.format) (Some s) (desk_state s) z) (sym same)
+    subst (λ (z : SeatState). IsGiving (stored z.0.format) (Some s) (desk_state s) z) (sym same)
         (subst (λ (d : State). IsGiving (stored m.0.format) (Some d) (desk_state d) (given d mask))
         (sym is) (given_back mask)),
   )

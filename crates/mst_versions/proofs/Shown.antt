@@ -8,14 +8,14 @@ use Rattle.mst_words.specs.Access.{Seated, IsSameSeat}
 use Rattle.mst_words.specs.Steps.{Misses}
 use Rattle.mst_versions.specs.declared.faults.WriteFault.TheVariants.{VersionsSpent}
 use Rattle.mst_versions.specs.Known.{StoreId, store_of, known, AtSeat, FindsBusy}
-use Rattle.mst_versions.specs.Turns.{Seat, Spent}
+use Rattle.mst_versions.specs.Turns.{SeatState, Spent}
 use Rattle.mst_versions.specs.Writes.{Refuses}
 
-abbrev seat_at : TableId → ℕ → Seat → Seated
+abbrev seat_at : TableId → ℕ → SeatState → Seated
 seat_at table id m = record { table = table; id = id; me = m }
 
 -- the seat that is known by its place and by what it knows
-pub at_seat : (s z : Seated) (m : Seat) → IsSameSeat s z → z.me ≡ m → z ≡ record s { me = m }
+pub at_seat : (s z : Seated) (m : SeatState) → IsSameSeat s z → z.me ≡ m → z ≡ record s { me = m }
 at_seat s z m same is = ap (λ (t : TableId). seat_at t z.id z.me) same.0
     ∙ ap (λ (i : ℕ). seat_at s.table i z.me) same.1 ∙ ap (seat_at s.table s.id) is
 

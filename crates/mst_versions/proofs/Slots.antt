@@ -4,7 +4,7 @@ use Rattle.mst_arena.specs.Lives.{State, IsSettled}
 use Rattle.mst_words.specs.Steps.{Takes, IsGiving}
 use Rattle.mst_words.specs.Stored.{stored, state_of, desk_state}
 use Rattle.mst_versions.specs.declared.turn.Turn.{Turn}
-use Rattle.mst_versions.specs.Turns.{Seat, HoldsDesk}
+use Rattle.mst_versions.specs.Turns.{SeatState, HoldsDesk}
 
 -- the desk in the slot
 abbrev or_else : State → Option State → State
@@ -15,9 +15,10 @@ abbrev desk_in : List (ℕ × Option State) → State → State
 desk_in [] d = d
 desk_in (s ∷ rest) d = or_else d s.1
 
-module _ (before taken : Seat) (p : Takes (stored before.0.format) before taken) where
+module _ (before taken : SeatState) (p : Takes (stored before.0.format) before taken) where
   pub slot_there : taken.1 ≡ (0, Some (state_of p.desk)) ∷ []
-  slot_there = ap (λ (z : Seat). z.1) p.is ∙ ap (λ (o : Option State). (0, o) ∷ []) p.is_desk.there
+  slot_there = ap (λ (z : SeatState). z.1) p.is ∙ ap (λ (o : Option State). (0, o) ∷ [])
+      p.is_desk.there
 
   -- the desk that lies in the slot
   pub desk_there : (desk : State) → taken.1 ≡ (0, Some desk) ∷ [] → desk ≡ state_of p.desk
@@ -25,11 +26,12 @@ module _ (before taken : Seat) (p : Takes (stored before.0.format) before taken)
       (sym slot ∙ slot_there)
 
 -- the turn may be given back once the desk lies in the slot again
-pub giving : {A : Type 0} (t : Turn A) (m m' : Seat) → HoldsDesk t m → IsSettled t.desk
+pub giving : {A : Type 0} (t : Turn A) (m m' : SeatState) → HoldsDesk t m → IsSettled t.desk
     → m' ≡ (m.0, (0, Some t.desk) ∷ []) → IsGiving (stored m'.0.format) (Some t.desk)
     (desk_state t.desk) m'
 giving t m m' k settled is =
-    subst (λ (z : Seat). IsGiving (stored z.0.format) (Some t.desk) (desk_state t.desk) z) (sym is)
+    subst (λ (z : SeatState). IsGiving (stored z.0.format) (Some t.desk) (desk_state t.desk) z)
+    (sym is)
     record {
       on = k.holder.0;
       settled = k.holder.2;

@@ -13,7 +13,7 @@ use Rattle.mst_path.proofs.lemmas.versions.Reached.{same_swept, free_swept, some
 use Rattle.mst_words.specs.Access.{all_below}
 use Rattle.mst_versions.specs.declared.turn.Asked.{Asked}
 use Rattle.mst_versions.specs.Asking.{HasAsked}
-use Rattle.mst_versions.specs.Turns.{Seat}
+use Rattle.mst_versions.specs.Turns.{SeatState}
 use Rattle.mst_versions.proofs.Pinning.{in_list}
 
 pub all_below_true : (n : ℕ) (p : ℕ → Bool) → ((r : ℕ) → r < n → p r ≡ true) → all_below n p ≡ true
@@ -40,7 +40,7 @@ pub is_not : (t : Bool) → (t ≡ true → ⊥) → t ≡ false
 is_not true other = absurd (other refl)
 is_not false other = refl
 
-module _ (n : ℕ) (desk : State) (a : Asked) (m : Seat) (h : HasAsked n desk a m) where
+module _ (n : ℕ) (desk : State) (a : Asked) (m : SeatState) (h : HasAsked n desk a m) where
   -- the version of a record that was not found drained is live
   pub live_of : (r : ℕ) → r < n → (In r m.0.drained → ⊥)
       → In (slice_index desk.versions r) a.live.items

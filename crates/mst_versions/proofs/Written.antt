@@ -25,9 +25,9 @@ use Rattle.mst_words.specs.Notes.{IsOfPasses}
 use Rattle.mst_words.proofs.Members.{in_nothing, within}
 use Rattle.mst_versions.specs.declared.turn.Turn.{Turn}
 use Rattle.mst_versions.specs.declared.faults.WriteFault.TheVariants.{NoRoom}
-use Rattle.mst_versions.specs.Turns.{Seat, IsKept, AreKept, LeavesFree, HasTurn, Begun, Added}
+use Rattle.mst_versions.specs.Turns.{SeatState, IsLiveVersion, AreLiveVersions, LeavesFree, HasTurn, Begun, Added}
 use Rattle.mst_versions.specs.Known.{Known, known, AtSeat, Looks}
-use Rattle.mst_versions.specs.Writes.{made_at_seat, rows_of, rows_taken, Made, LacksRows, AreFound, FindsRoom, LacksKept, WroteAtSeat, Refuses}
+use Rattle.mst_versions.specs.Writes.{made_at_seat, rows_of, rows_taken, Made, LacksRows, AreFound, FindsRoom, LacksRoomBeside, WroteAtSeat, Refuses}
 use Rattle.mst_versions.proofs.Asked.{in_last}
 use Rattle.mst_versions.proofs.Shown.{at_seat, store_at, store_is}
 
@@ -48,7 +48,7 @@ free_more live (Dead b d ∷ lives) = dead_more b d (swept_life live (Dead b d))
     (map (swept_life live) lives) (free_more live lives)
 
 -- the free rows and those of the map are at most all rows
-pub room_left : {A : Type 0} (t : Turn A) (m : Seat) → HasTurn t m → free_count t.desk.lives
+pub room_left : {A : Type 0} (t : Turn A) (m : SeatState) → HasTurn t m → free_count t.desk.lives
     + rows_of t.format (after m.0.seen) ≤ m.0.rows
 room_left t m h =
     let has : HasMap t.format (content_of m.0) t.desk.lives (version t.desk) t.root
@@ -69,24 +69,25 @@ none_of : (r : ℕ) (xs : List ℕ) → length xs < 1 → In r xs → ⊥
 none_of r [] few within = in_nothing r within
 none_of r (x ∷ xs) few within = omega (arith, few)
 
--- if no other record was found pinned, only the current version is kept
-alone_kept : {A : Type 0} (t : Turn A) (m : Seat) → HasTurn t m → length m.0.blocked < 1
-    → AreKept t.desk m.0 (version t.desk ∷ [])
-alone_kept t m h none v = (
-  (λ i. subst (IsKept t.desk m.0) (sym (one_row v (version t.desk) i)) h.now),
+-- if no other record was found pinned, only the current version is live
+alone_live : {A : Type 0} (t : Turn A) (m : SeatState) → HasTurn t m → length m.0.blocked < 1
+    → AreLiveVersions t.desk m.0 (version t.desk ∷ [])
+alone_live t m h none v = (
+  (λ i. subst (IsLiveVersion t.desk m.0) (sym (one_row v (version t.desk) i)) h.now),
   (λ (r, l, out, is). dite (ℕ_discrete r t.desk.current)
       (λ e. subst (λ (n : ℕ). In n (version t.desk ∷ []))
       (sym (is ∙ ap (λ (k : ℕ). slice_index t.desk.versions k) e))
       (in_last (version t.desk) []))
-      (λ other. absurd (none_of r m.0.blocked none (h.kept r l out other)))),
+      (λ other. absurd (none_of r m.0.blocked none (h.live r l out other)))),
 )
 
 -- so all rows but those of the map are free
-pub room_alone_left : {A : Type 0} (t : Turn A) (m : Seat) → HasTurn t m → length m.0.blocked < 1
+pub room_alone_left : {A : Type 0} (t : Turn A) (m : SeatState) → HasTurn t m → length m.0.blocked
+    < 1
     → free_count t.desk.lives + rows_of t.format (after m.0.seen) ≡ m.0.rows
 room_alone_left t m h none =
     let v = version t.desk in
-    let all = h.count (v ∷ []) (numbers h.stands) (alone_kept t m h none) h.stands.tree.once
+    let all = h.count (v ∷ []) (numbers h.stands) (alone_live t m h none) h.stands.tree.once
     (λ x. (
       (λ (w, i, is). (h.reached x).0
           (subst (λ (n : ℕ). reaches t.desk.lives n x ≡ true) (one_row w v i) is)),
@@ -102,7 +103,7 @@ one_longer passes log e alone pos low = All-append (λ (d : Event). (0 < d.pass)
     (λ k d l. absurd (omega arith)))
 
 -- the event is the pass's own
-pub own_event : (m m' : Seat) (e : Event) → e.pass ≡ m.0.number → m'.0.number ≡ m.0.number
+pub own_event : (m m' : SeatState) (e : Event) → e.pass ≡ m.0.number → m'.0.number ≡ m.0.number
     → made_at_seat m' e.change ≡ e
 own_event m m' e mine same = ap (λ (p : ℕ). record { pass = p; change = e.change })
     (same ∙ sym mine)
@@ -114,13 +115,13 @@ one_event number change =
     let e : Event = record { pass = number; change = change } in
     ap (λ (own : Bool). cond own (e ∷ []) []) (eq-eqb number number refl)
 
-module _ {A : Type 0} (m m1 : Seat) (t : Turn A) (b : Begun m t m1) where
+module _ {A : Type 0} (m m1 : SeatState) (t : Turn A) (b : Begun m t m1) where
   -- the format of the current version
   pub format_now : t.format ≡ format_after m.0.format m1.0.seen
   format_now = b.has.format ∙ ap (λ (v : View). format_after v.format m1.0.seen) b.rest
 
-  leaves : LeavesFree m.0.format t.desk.lives m1.0.seen m1.0.found t.kept m1.0.rows
-  leaves = subst (λ (f : Format). LeavesFree f t.desk.lives m1.0.seen m1.0.found t.kept m1.0.rows)
+  leaves : LeavesFree m.0.format t.desk.lives m1.0.seen m1.0.found t.live m1.0.rows
+  leaves = subst (λ (f : Format). LeavesFree f t.desk.lives m1.0.seen m1.0.found t.live m1.0.rows)
       (ap (λ (v : View). v.format) b.rest) b.has.leaves
 
   -- the versions that were found pinned
@@ -132,10 +133,11 @@ module _ {A : Type 0} (m m1 : Seat) (t : Turn A) (b : Begun m t m1) where
     below = λ v has. leaves.below v (within v m1.0.found has);
   }
 
-  -- the versions that are kept leave too few rows free
-  lacks_kept : (change : Change) → LacksRows change t m1 → LacksKept m.0.format m.0.rows m.0.passes
+  -- the versions that are live leave too few rows free
+  lacks_beside : (change : Change) → LacksRows change t m1 → LacksRoomBeside m.0.format m.0.rows
+      m.0.passes
       m1.0.seen m1.0.found change
-  lacks_kept change lacks =
+  lacks_beside change lacks =
       let left = leaves.left in let n = ap (λ (v : View). v.rows) b.rest in
       let taken =
       subst (λ (f : Format). free_count t.desk.lives < rows_taken f (after m1.0.seen) change)
@@ -160,7 +162,7 @@ module _ {A : Type 0} (m m1 : Seat) (t : Turn A) (b : Begun m t m1) where
 
 -- a seat that has made this version shows its pass, once the turn was given back or the version
 -- published
-module _ {A : Type 0} (s : Seated) (m1 : Seat) (t : Turn A) (b : Begun s.me t m1) (number : ℕ)
+module _ {A : Type 0} (s : Seated) (m1 : SeatState) (t : Turn A) (b : Begun s.me t m1) (number : ℕ)
     (mine : s.me.0.number ≡ number) where
   passes_kept : m1.0.passes ≡ s.me.0.passes
   passes_kept = ap (λ (v : View). v.passes) b.rest
@@ -206,25 +208,25 @@ module _ {A : Type 0} (s : Seated) (m1 : Seat) (t : Turn A) (b : Begun s.me t m1
         let all = room_alone_left t m1 b.has (omega (arith, fewer, passes_kept, one)) in
         omega (arith, all, lacks))),
     b.asked,
-    lacks_kept s.me m1 t b change lacks,
+    lacks_beside s.me m1 t b change lacks,
   )
 
   -- the turn was given back with the history as it was
-  module _ (m2 : Seat) (z : Seated) (same : IsSameSeat s z) (still : m2 ≡ m1)
+  module _ (m2 : SeatState) (z : Seated) (same : IsSameSeat s z) (still : m2 ≡ m1)
       (back : z.me ≡ (record m2.0 { turn = false }, [])) where
     pub given_back : (Holds : Known → Known → Type 0) → AtSeat Holds number s gave_back
         → AtSeat Holds number s z
     given_back Holds holds made =
         subst (λ (x : Seated). Holds (known number made s) (known number made x))
         (sym (at_seat s z gave_back.me same
-        (back ∙ ap (λ (m : Seat). (record m.0 { turn = false }, [])) still))) (holds made)
+        (back ∙ ap (λ (m : SeatState). (record m.0 { turn = false }, [])) still))) (holds made)
 
     pub refused : (change : Change) → length m1.0.seen < last_version → LacksRows change t m1
         → AtSeat (Refuses NoRoom change) number s z
     refused change early lacks = given_back (Refuses NoRoom change) (lacks_room change early lacks)
 
   -- the version that was made is published
-  pub wrote : (change : Change) (root : Root) (answered : Reply) (t' : Turn A) (m2 : Seat)
+  pub wrote : (change : Change) (root : Root) (answered : Reply) (t' : Turn A) (m2 : SeatState)
       (z : Seated) (v : ℕ) → IsSameSeat s z → Made change t m1 root answered t' m2
       → Added (record { pass = number; change = change }) m2 z.me → v ≡ length z.me.0.seen
       → length m1.0.seen < last_version → WroteAtSeat number change s answered v z
@@ -233,19 +235,19 @@ module _ {A : Type 0} (s : Seated) (m1 : Seat) (t : Turn A) (b : Begun s.me t m1
       let room = room_left t m1 b.has in
       let rows_kept = ap (λ (v : View). v.rows) b.rest in
       let now : z.me.0.seen ≡ m1.0.seen ++ e ∷ [] =
-      added.seen ∙ ap (λ (m : Seat). m.0.seen ++ e ∷ []) made.kept in
+      added.seen ∙ ap (λ (m : SeatState). m.0.seen ++ e ∷ []) made.kept in
       let longer : z.me.0.mine ≡ s.me.0.mine ++ e ∷ [] =
-      added.mine ∙ ap (λ (m : Seat). m.0.mine ++ e ∷ []) made.kept
+      added.mine ∙ ap (λ (m : SeatState). m.0.mine ++ e ∷ []) made.kept
       ∙ ap (λ (log : History). log ++ e ∷ []) mine_kept in
       let passes_is : z.me.0.passes ≡ s.me.0.passes =
-      added.free.5 ∙ ap (λ (m : Seat). m.0.passes) made.kept ∙ passes_kept in
+      added.free.5 ∙ ap (λ (m : SeatState). m.0.passes) made.kept ∙ passes_kept in
       let dealt = b.dealt in
       record {
         log = m1.0.seen;
         same = (
           store_is s z same.0
-              (added.free.4 ∙ ap (λ (m : Seat). m.0.rows) made.kept ∙ rows_kept) passes_is
-              (added.free.6 ∙ ap (λ (m : Seat). m.0.format) made.kept
+              (added.free.4 ∙ ap (λ (m : SeatState). m.0.rows) made.kept ∙ rows_kept) passes_is
+              (added.free.6 ∙ ap (λ (m : SeatState). m.0.format) made.kept
               ∙ ap (λ (v : View). v.format) b.rest),
           refl,
         );
@@ -268,11 +270,12 @@ module _ {A : Type 0} (s : Seated) (m1 : Seat) (t : Turn A) (b : Begun s.me t m1
             (let taken = made.rows in omega (arith, room, taken, rows_kept));
         beside = subst (λ (found : List ℕ). FindsRoom s.me.0.format s.me.0.rows s.me.0.passes
             m1.0.seen found change)
-            (sym (added.found ∙ ap (λ (m : Seat). m.0.found) made.kept))
+            (sym (added.found ∙ ap (λ (m : SeatState). m.0.found) made.kept))
             (finds_room s.me m1 t b change (let taken = made.rows in omega (arith, taken)));
-        asked = (let last = added.asked in let same_asked = ap (λ (m : Seat). m.0.asked) made.kept
+        asked =
+            (let last = added.asked in let same_asked = ap (λ (m : SeatState). m.0.asked) made.kept
             in let first = b.asked in omega (arith, last, same_asked, first));
-        missed = added.missed ∙ ap (λ (m : Seat). m.0.missed) made.kept
+        missed = added.missed ∙ ap (λ (m : SeatState). m.0.missed) made.kept
             ∙ ap (λ (v : View). v.missed) b.rest;
         made = ap Some v_is;
       }

@@ -10,11 +10,11 @@ use Rattle.mst_versions.specs.declared.faults.ApplyFault.TheVariants.{Busy, Vers
 use Rattle.mst_versions.specs.declared.faults.WriteFault.TheVariants as write
 use Rattle.mst_versions.specs.declared.turn.Turn.{Turn}
 use Rattle.mst_versions.specs.Known.{Known, Looks}
-use Rattle.mst_versions.specs.Turns.{Seat}
+use Rattle.mst_versions.specs.Turns.{SeatState}
 use Rattle.mst_versions.specs.Writes.{LacksRows, Refuses}
 
 -- why the holder of the turn does not make the edits
-abbrev pub LacksEdits : {A : Type 0} → NotApplied → List Edit → Turn A → Seat → Type 0
+abbrev pub LacksEdits : {A : Type 0} → NotApplied → List Edit → Turn A → SeatState → Type 0
 LacksEdits (applied.Memory refused) edits t m = 1 < length edits
 LacksEdits applied.NoRoom edits t m = LacksRows (Batch edits) t m
 

@@ -5,11 +5,11 @@ use Rattle.mst_arena.specs.Lives.{State, version}
 use Rattle.mst_arena.specs.Lists.{In}
 use Rattle.mst_words.specs.Layout.{most_passes}
 use Rattle.mst_words.specs.Steps.{IsHolder}
-use Rattle.mst_versions.specs.Turns.{Seat, StoodAtAsk}
+use Rattle.mst_versions.specs.Turns.{SeatState, StoodAtAsk}
 use Rattle.mst_versions.specs.declared.turn.Asked.{Asked}
 
 -- the desk is that of the table, with a version for each of its records, and the table has a pass
-pub record KnowsRecords (desk : State) (m : Seat) : Type 0 where
+pub record KnowsRecords (desk : State) (m : SeatState) : Type 0 where
   pub holder : IsHolder m
   pub some : 0 < m.0.passes
   pub few : m.0.passes ≤ most_passes
@@ -22,7 +22,7 @@ pub record KnowsRecords (desk : State) (m : Seat) : Type 0 where
 -- stood for a map, and its version is live; the current version is live too, and no other: they are
 -- in the order in which they were found. Fewer are pinned than there are passes. The record to come
 -- is drained, as soon as one is
-pub record HasAsked (n : ℕ) (desk : State) (a : Asked) (m : Seat) : Type 0 where
+pub record HasAsked (n : ℕ) (desk : State) (a : Asked) (m : SeatState) : Type 0 where
   pub knows : KnowsRecords desk m
   pub before : n ≤ desk.current → length m.0.drained + length m.0.blocked ≡ n
   pub behind : desk.current < n → length m.0.drained + length m.0.blocked + 1 ≡ n
@@ -41,7 +41,7 @@ pub record HasAsked (n : ℕ) (desk : State) (a : Asked) (m : Seat) : Type 0 whe
   pub into : 0 < length m.0.drained → In a.into m.0.drained
 
 -- only what was asked has changed
-abbrev pub AsksOnly : Seat → Seat → Type 0
+abbrev pub AsksOnly : SeatState → SeatState → Type 0
 AsksOnly m m' =
     m' ≡ (
       record m.0 {
@@ -54,6 +54,6 @@ AsksOnly m m' =
     )
 
 -- one question was counted for each record that was asked
-abbrev pub AsksEach : Seat → Seat → Type 0
+abbrev pub AsksEach : SeatState → SeatState → Type 0
 AsksEach m m' = m'.0.asked + length m.0.drained + length m.0.blocked
     ≡ m.0.asked + length m'.0.drained + length m'.0.blocked

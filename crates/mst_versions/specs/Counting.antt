@@ -2,7 +2,7 @@
 use Rattle.std.specs.Prelude.{◌≡◌, ◌↔◌, ℕ, ◌+◌, [], IsSome, Option, Some}
 use Rattle.mst_key.specs.History.{after}
 use Rattle.mst_versions.specs.Known.{Known, Looks, format_seen}
-use Rattle.mst_versions.specs.Writes.{rows_of, rows_kept, AreFound}
+use Rattle.mst_versions.specs.Writes.{rows_of, rows_held, AreFound}
 
 -- The pass has looked. A number that was found is that of the rows that the map of the history that
 -- it has seen takes; one is found exactly if no version was found pinned, and so in a store of one
@@ -19,7 +19,7 @@ pub record Counts (found : Option ℕ) (p q : Known) : Type 0 where
 -- This many rows are free to a write: all but those that the version which the pass has seen last
 -- and the versions that it found pinned hold together
 abbrev pub AreFree : ℕ → Known → Type 0
-AreFree free q = free + rows_kept q.store.format q.seen q.found ≡ q.store.rows
+AreFree free q = free + rows_held q.store.format q.seen q.found ≡ q.store.rows
 
 -- The pass has looked, and this many rows are free. If no version was found pinned, these are all
 -- but those of the map. The turn was tried once and taken, and each record but the current one

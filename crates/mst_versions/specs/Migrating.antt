@@ -6,15 +6,15 @@ use Rattle.mst_arena.specs.Lives.{last_version}
 use Rattle.mst_versions.specs.declared.faults.MigrateFault.{MigrateFault}
 use Rattle.mst_versions.specs.declared.faults.MigrateFault.TheVariants.{Busy, VersionsSpent, Memory, NoRoom}
 use Rattle.mst_versions.specs.declared.faults.WriteFault.TheVariants as write
-use Rattle.mst_versions.specs.declared.migrating.NotMoved.{NotMoved}
-use Rattle.mst_versions.specs.declared.migrating.NotMoved.TheVariants as moved
+use Rattle.mst_versions.specs.declared.migrating.TreeFault.{TreeFault}
+use Rattle.mst_versions.specs.declared.migrating.TreeFault.TheVariants as moved
 use Rattle.mst_versions.specs.declared.turn.Turn.{Turn}
 use Rattle.mst_versions.specs.Known.{Known, Looks, format_seen}
-use Rattle.mst_versions.specs.Turns.{Seat}
+use Rattle.mst_versions.specs.Turns.{SeatState}
 use Rattle.mst_versions.specs.Writes.{LacksRows, Refuses}
 
 -- why the holder of the turn makes no tree of another format
-abbrev pub LacksTree : {A : Type 0} → NotMoved → Format → Turn A → Seat → Type 0
+abbrev pub LacksTree : {A : Type 0} → TreeFault → Format → Turn A → SeatState → Type 0
 LacksTree (moved.Memory refused) to t m = t.format ≢ to
 LacksTree moved.NoRoom to t m = (t.format ≢ to) × LacksRows (Migrate to) t m
 

@@ -11,7 +11,7 @@ use Rattle.mst_words.specs.Layout.{most_records}
 use Rattle.mst_words.specs.Notes.{IsOfPasses}
 use Rattle.mst_words.specs.Records.{field}
 use Rattle.mst_words.specs.Stored.{root_in, format_number}
-use Rattle.mst_versions.specs.declared.reading.PinnedRoot.{PinnedRoot}
+use Rattle.mst_versions.specs.declared.reading.PinnedVersion.{PinnedVersion}
 
 -- the format of the version that is pinned
 abbrev pub format_pinned : View → Format
@@ -20,7 +20,7 @@ format_pinned v = format_after v.format v.pinned_history
 -- The record is pinned. The map of the history at the pin stands at the link, on rows that the pass
 -- may read, its root digest and the number of its format stand in the record, and the version is
 -- the number of events.
-pub record HasPinned (at : PinnedRoot) (v : View) : Type 0 where
+pub record HasPinned (at : PinnedVersion) (v : View) : Type 0 where
   pub pin : v.pin ≡ Some at.pinned
   pub there : at.pinned < v.passes + 2
   pub low : at.pinned < most_records
@@ -33,18 +33,19 @@ pub record HasPinned (at : PinnedRoot) (v : View) : Type 0 where
 -- The current version was pinned. The history at the pin begins with all that the pass had seen,
 -- its events there are its own, and each event is of a pass of the store. One step was counted, the
 -- pin. Nothing else changed
-pub record Pins {S : Type 0} (m : Me S View) (at : PinnedRoot) (m' : Me S View) : Type 0 where
-  pub later : IsPrefix m.0.seen m'.0.pinned_history
-  pub own : events_of m.0.number m'.0.pinned_history ≡ m.0.mine
-  pub alone : IsOfPasses m.0.passes m'.0.pinned_history
-  pub has : HasPinned at m'.0
-  pub rest : m' ≡ (
-    record m.0 {
-      pin = m'.0.pin;
-      pinned_history = m'.0.pinned_history;
-      pinned_rows = m'.0.pinned_rows;
-      known_words = m'.0.known_words;
-      asked = m.0.asked + 1;
-    },
-    m.1,
-  )
+pub record PinsVersion {S : Type 0} (m : Me S View) (at : PinnedVersion) (m' : Me S View) : Type 0
+  where
+    pub later : IsPrefix m.0.seen m'.0.pinned_history
+    pub own : events_of m.0.number m'.0.pinned_history ≡ m.0.mine
+    pub alone : IsOfPasses m.0.passes m'.0.pinned_history
+    pub has : HasPinned at m'.0
+    pub rest : m' ≡ (
+      record m.0 {
+        pin = m'.0.pin;
+        pinned_history = m'.0.pinned_history;
+        pinned_rows = m'.0.pinned_rows;
+        known_words = m'.0.known_words;
+        asked = m.0.asked + 1;
+      },
+      m.1,
+    )

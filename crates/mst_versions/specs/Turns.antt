@@ -23,17 +23,17 @@ use Rattle.mst_words.specs.Records.{Standing, Agrees}
 use Rattle.mst_words.specs.Steps.{IsHolder, Misses, Takes}
 use Rattle.mst_words.specs.Stored.{stored, desk_state}
 use Rattle.mst_versions.specs.declared.turn.Turn.{Turn}
-use Rattle.mst_versions.specs.declared.turn.NotBegun.{NotBegun}
-use Rattle.mst_versions.specs.declared.turn.NotBegun.TheVariants.{Busy, VersionsSpent}
+use Rattle.mst_versions.specs.declared.turn.BeginFault.{BeginFault}
+use Rattle.mst_versions.specs.declared.turn.BeginFault.TheVariants.{Busy, VersionsSpent}
 
 -- what a seat knows, and what it has of the slot
-abbrev pub Seat : Type 0
-Seat = Me (Option State) View
+abbrev pub SeatState : Type 0
+SeatState = Me (Option State) View
 
 -- The desk is out of the slot. It says of each record that was not found drained, that its version
 -- reaches the same rows as when the turn was taken. No record has a later version than the current
 -- one. The record to come is one that was found drained
-pub record HoldsDesk {A : Type 0} (t : Turn A) (m : Seat) : Type 0 where
+pub record HoldsDesk {A : Type 0} (t : Turn A) (m : SeatState) : Type 0 where
   pub holder : IsHolder m
   pub slot : m.1 ≡ (0, None) ∷ []
   pub known : length m.0.known_words ≡ table_words m.0.rows
@@ -56,29 +56,29 @@ StoodAtAsk r v = (place : History) × (used : List ℕ)
     × Standing (stored v.format) v.rows v.passes v.known_words v.seen v.desk r place used
 
 -- the version is that of a record that was not found drained
-abbrev pub IsKept : State → View → ℕ → Type 0
-IsKept desk v n =
+abbrev pub IsLiveVersion : State → View → ℕ → Type 0
+IsLiveVersion desk v n =
     (r : ℕ) × (r < v.passes + 2) × (In r v.drained → ⊥) × (n ≡ slice_index desk.versions r)
 
--- these are all versions that are kept, in any order
-abbrev pub AreKept : State → View → List ℕ → Type 0
-AreKept desk v live = (n : ℕ) → In n live ↔ IsKept desk v n
+-- these are all versions that are live, in any order
+abbrev pub AreLiveVersions : State → View → List ℕ → Type 0
+AreLiveVersions desk v live = (n : ℕ) → In n live ↔ IsLiveVersion desk v n
 
--- Of the history this many versions are kept: the last one, and those that were found pinned, none
+-- Of the history this many versions are live: the last one, and those that were found pinned, none
 -- of them above it. All rows are free but those that they hold. The format is that of version 0
 pub record LeavesFree (first : Format) (lives : List Life)
-    (log : History) (found : List ℕ) (kept rows : ℕ) : Type 0 where
+    (log : History) (found : List ℕ) (live rows : ℕ) : Type 0 where
   pub below : (v : ℕ) → In v found → v ≤ length log
-  pub as_many : length found + 1 ≡ kept
+  pub as_many : length found + 1 ≡ live
   pub left : free_count lives + held first log (length log ∷ found) ≡ rows
 
 -- The map of the whole history stands at the root, in the format that the history leaves, on
 -- exactly the rows that the current version reaches, and no write is under way. The rows that may
 -- be written are free, and no others: all rows but those that the versions together reach that are
--- kept: the current one and those of the records that were found pinned, each of which stood for a
+-- live: the current one and those of the records that were found pinned, each of which stood for a
 -- map. These are fewer than the passes, and their number is known; what they hold is not free, and
 -- all else is. The age of each row of the map is known
-pub record HasTurn {A : Type 0} (t : Turn A) (m : Seat) : Type 0 where
+pub record HasTurn {A : Type 0} (t : Turn A) (m : SeatState) : Type 0 where
   pub holds : HoldsDesk t m
   pub settled : IsSettled t.desk
   pub format : t.format ≡ format_after m.0.format m.0.seen
@@ -87,27 +87,27 @@ pub record HasTurn {A : Type 0} (t : Turn A) (m : Seat) : Type 0 where
   pub aged : HasAges m.0.format t.desk.lives m.0.seen stands.tree.placed
   pub blank : FreeIsBlank t.desk.lives (may_write m.0)
   pub free : (x : ℕ) → IsTrue (may_write m.0 x) → slice_get t.desk.lives x ≡ Some Free
-  pub kept : (r : ℕ) → r < m.0.passes + 2 → (In r m.0.drained → ⊥) → r ≢ t.desk.current
+  pub live : (r : ℕ) → r < m.0.passes + 2 → (In r m.0.drained → ⊥) → r ≢ t.desk.current
       → In r m.0.blocked
   pub stood : (r : ℕ) → In r m.0.blocked → StoodAtAsk r m.0
-  pub now : IsKept t.desk m.0 (version t.desk)
+  pub now : IsLiveVersion t.desk m.0 (version t.desk)
   pub fewer : length m.0.blocked < m.0.passes
-  pub number : t.kept ≡ length m.0.blocked + 1
+  pub number : t.live ≡ length m.0.blocked + 1
   pub there : t.desk.current < m.0.passes + 2
-  pub count : (live rows : List ℕ) → AreKept t.desk m.0 live → IsDistinct rows
+  pub count : (live rows : List ℕ) → AreLiveVersions t.desk m.0 live → IsDistinct rows
       → TogetherReach t.desk.lives live rows
       → free_count t.desk.lives + length rows ≡ m.0.rows
-  pub leaves : LeavesFree m.0.format t.desk.lives m.0.seen m.0.found t.kept m.0.rows
+  pub leaves : LeavesFree m.0.format t.desk.lives m.0.seen m.0.found t.live m.0.rows
 
 -- the turn was taken, and the desk out of the slot
-abbrev pub TakesDesk : Seat → State → Seat → Type 0
-TakesDesk before desk m = (taken : Seat) × Takes (stored before.0.format) before taken
+abbrev pub TakesDesk : SeatState → State → SeatState → Type 0
+TakesDesk before desk m = (taken : SeatState) × Takes (stored before.0.format) before taken
     × (taken.1 ≡ (0, Some desk) ∷ []) × (m ≡ (taken.0, (0, None) ∷ []))
 
 -- The turn was taken, by one try of a pass of the store, and each record but the current one was
 -- asked once. The whole history begins with all that the pass had seen, its events there are its
 -- own, and each event is of a pass of the store. Nothing else changed
-pub record Begun {A : Type 0} (m : Seat) (t : Turn A) (m' : Seat) : Type 0 where
+pub record Begun {A : Type 0} (m : SeatState) (t : Turn A) (m' : SeatState) : Type 0 where
   pub later : IsPrefix m.0.seen m'.0.seen
   pub own : events_of m.0.number m'.0.seen ≡ m.0.mine
   pub alone : IsOfPasses m.0.passes m'.0.seen
@@ -130,7 +130,7 @@ pub record Begun {A : Type 0} (m : Seat) (t : Turn A) (m' : Seat) : Type 0 where
 
 -- The turn was taken, by one try, and given back, since the last version number is spent; no record
 -- was asked. The pass has seen the whole history, in which each event is of a pass of the store
-pub record Spent (m m' : Seat) : Type 0 where
+pub record Spent (m m' : SeatState) : Type 0 where
   pub later : IsPrefix m.0.seen m'.0.seen
   pub own : events_of m.0.number m'.0.seen ≡ m.0.mine
   pub alone : IsOfPasses m.0.passes m'.0.seen
@@ -153,15 +153,15 @@ pub record Spent (m m' : Seat) : Type 0 where
   )
 
 -- what holds if no write is begun
-abbrev pub IsNotBegun : NotBegun → Seat → Seat → Type 0
-IsNotBegun Busy m m' = Misses m m'
-IsNotBegun VersionsSpent m m' = Spent m m'
+abbrev pub FailsToBegin : BeginFault → SeatState → SeatState → Type 0
+FailsToBegin Busy m m' = Misses m m'
+FailsToBegin VersionsSpent m m' = Spent m m'
 
 -- A change is made, and not yet published: the map of the history with the event stands at a root,
 -- in the format that the event leaves, on exactly the rows that the version to come reaches, and
 -- the age of each is known
 pub record HasMade {A : Type 0} (t : Turn A) (root : Root) (format : Format)
-    (e : Event) (m : Seat) : Type 0 where
+    (e : Event) (m : SeatState) : Type 0 where
   pub holds : HoldsDesk t m
   pub mine : e.pass ≡ m.0.number
   pub room : length m.0.seen < last_version
@@ -173,7 +173,7 @@ pub record HasMade {A : Type 0} (t : Turn A) (root : Root) (format : Format)
 
 -- The turn was given back, and the history has the event after what the pass had seen. One step was
 -- counted, the publication
-pub record Added (e : Event) (m m' : Seat) : Type 0 where
+pub record Added (e : Event) (m m' : SeatState) : Type 0 where
   pub seen : m'.0.seen ≡ m.0.seen ++ e ∷ []
   pub mine : m'.0.mine ≡ m.0.mine ++ e ∷ []
   pub found : m'.0.found ≡ m.0.found

@@ -18,10 +18,10 @@ use Rattle.mst_versions.specs.declared.turn.Turn.{Turn}
 use Rattle.mst_versions.specs.declared.faults.WriteFault.{WriteFault}
 use Rattle.mst_versions.specs.declared.faults.WriteFault.TheVariants.{Busy, VersionsSpent, NoRoom}
 use Rattle.mst_versions.specs.Known.{Known, known, IsSamePass, Looks, FindsBusy, format_seen, made_by}
-use Rattle.mst_versions.specs.Turns.{Seat, HasMade}
+use Rattle.mst_versions.specs.Turns.{SeatState, HasMade}
 
 -- the event of a change that the pass at this seat makes
-abbrev pub made_at_seat : Seat → Change → Event
+abbrev pub made_at_seat : SeatState → Change → Event
 made_at_seat m change = record { pass = m.0.number; change = change }
 
 -- how many rows a map takes in a format: one for each key and one for each node of its tree
@@ -36,8 +36,8 @@ rows_taken format m change =
 
 -- The change is made in free rows, as many as it takes, and can be published. Of what the seat
 -- knows only the words of those rows have changed. The answer is what the history replies
-pub record Made {A : Type 0} (change : Change) (t : Turn A) (m : Seat)
-    (root : Root) (answered : Reply) (t' : Turn A) (m' : Seat) : Type 0 where
+pub record Made {A : Type 0} (change : Change) (t : Turn A) (m : SeatState)
+    (root : Root) (answered : Reply) (t' : Turn A) (m' : SeatState) : Type 0 where
   pub has : HasMade t' root (changed_format t.format change) (made_at_seat m change) m'
   pub answer : answered ≡ reply m.0.format m.0.seen (made_at_seat m change)
   pub rows : free_count t'.desk.lives + rows_taken t.format (after m.0.seen) change
@@ -51,33 +51,34 @@ pub record AreFound (n : ℕ) (log : History) (found : List ℕ) : Type 0 where
 
 -- what the last version holds in rows together with those that were found pinned. The format is
 -- that of version 0, here and below
-abbrev pub rows_kept : Format → History → List ℕ → ℕ
-rows_kept first log found = held first log (length log ∷ found)
+abbrev pub rows_held : Format → History → List ℕ → ℕ
+rows_held first log found = held first log (length log ∷ found)
 
 -- how many rows a change takes after a history
 abbrev pub rows_needed : Format → History → Change → ℕ
 rows_needed first log change = rows_taken (format_after first log) (after log) change
 
--- the change finds room among the rows next to what is kept
+-- the change finds room among the rows next to what the live versions hold
 pub record FindsRoom (first : Format) (rows passes : ℕ)
     (log : History) (found : List ℕ) (change : Change) : Type 0 where
   pub are : AreFound passes log found
-  pub fits : rows_kept first log found + rows_needed first log change ≤ rows
+  pub fits : rows_held first log found + rows_needed first log change ≤ rows
 
--- What is kept holds too many of the rows for the change, which takes some; what it holds is there
-pub record LacksKept (first : Format) (rows passes : ℕ)
+-- The live versions hold too many of the rows for the change, which takes some; what they hold is
+-- there
+pub record LacksRoomBeside (first : Format) (rows passes : ℕ)
     (log : History) (found : List ℕ) (change : Change) : Type 0 where
   pub are : AreFound passes log found
-  pub fits : rows_kept first log found ≤ rows
+  pub fits : rows_held first log found ≤ rows
   pub costs : 0 < rows_needed first log change
-  pub lacks : rows < rows_kept first log found + rows_needed first log change
+  pub lacks : rows < rows_held first log found + rows_needed first log change
 
 -- fewer rows are free than the change takes
-abbrev pub LacksRows : {A : Type 0} → Change → Turn A → Seat → Type 0
+abbrev pub LacksRows : {A : Type 0} → Change → Turn A → SeatState → Type 0
 LacksRows change t m = free_count t.desk.lives < rows_taken t.format (after m.0.seen) change
 
 -- at the seat is the same pass of the same store, which was told the same
-abbrev pub KeepsPass : Seat → Seat → Type 0
+abbrev pub KeepsPass : SeatState → SeatState → Type 0
 KeepsPass m m' = (m'.0.number ≡ m.0.number) × (m'.0.rows ≡ m.0.rows)
     × (m'.0.passes ≡ m.0.passes) × (m'.0.format ≡ m.0.format) × (m'.0.told ≡ m.0.told)
 
@@ -126,4 +127,4 @@ Refuses VersionsSpent change p q =
 Refuses NoRoom change p q = Looks p q × (length q.seen < last_version)
     × (p.store.passes ≡ 1 → LacksRoom q.store.rows (format_seen q) (after q.seen) change)
     × (q.asked ≡ p.asked + p.store.passes + 2)
-    × LacksKept p.store.format p.store.rows p.store.passes q.seen q.found change
+    × LacksRoomBeside p.store.format p.store.rows p.store.passes q.seen q.found change

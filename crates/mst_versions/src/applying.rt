@@ -13,8 +13,8 @@ ghost use Rattle.mst_versions.specs.Applying.{LacksEdits, RefusesBatch};
 
 use crate::faults::ApplyFault;
 use crate::finishing::publish;
-use crate::numbers::Numbers;
-use crate::turn::{NotBegun, Turn, begin_write, give_back};
+use crate::parameters::PassParameters;
+use crate::turn::{BeginFault, Turn, begin_write, give_back};
 use mst_arena::Root;
 use mst_batch::NotApplied;
 use mst_key::{Batch, Change, Edit, Event};
@@ -53,32 +53,32 @@ fn make_batch<A: Allocator + Copy, B: Allocator + Copy>(
 pub fn apply<A: Allocator + Copy, B: Allocator + Copy>(
     seat: &mut PassSeat<'_, A>,
     alloc: B,
-    numbers: Numbers,
+    parameters: PassParameters,
     edits: &[Edit],
 ) -> Result<u64, ApplyFault>
-    requires rest { IsResting numbers seat.old.me }
+    requires rest { IsResting parameters seat.old.me }
     ensures same { IsSameSeat seat.old seat.new }
     ensures pass { KeepsPass seat.old.me seat.new.me }
-    ensures free { IsFree numbers.number seat.new.me }
+    ensures free { IsFree parameters.number seat.new.me }
     ensures wrote { IfOk result
-        (λ version. WroteAtSeat numbers.number (change.Batch edits.now) seat.old done version
+        (λ version. WroteAtSeat parameters.number (change.Batch edits.now) seat.old done version
         seat.new) }
     ensures version { IfOk result (λ version. version ≡ length seat.new.me.0.seen) }
     ensures refused { IfErr result
-        (λ fault. AtSeat (RefusesBatch fault edits.now) numbers.number seat.old seat.new) }
+        (λ fault. AtSeat (RefusesBatch fault edits.now) parameters.number seat.old seat.new) }
     ensures missed { IsErrOf result ApplyFault.Busy → Misses seat.old.me seat.new.me }
     ensures spent { IsErrOf result ApplyFault.VersionsSpent → Spent seat.old.me seat.new.me }
 {
-    let mut turn = match begin_write(seat, numbers) {
+    let mut turn = match begin_write(seat, parameters) {
         Ok(turn) => turn,
-        Err(NotBegun::Busy) => return Err(ApplyFault::Busy),
-        Err(NotBegun::VersionsSpent) => return Err(ApplyFault::VersionsSpent),
+        Err(BeginFault::Busy) => return Err(ApplyFault::Busy),
+        Err(BeginFault::VersionsSpent) => return Err(ApplyFault::VersionsSpent),
     };
     let format = turn.format;
     match make_batch(seat, alloc, &mut turn, edits) {
         Ok(root) => {
             let event = Event {
-                pass: numbers.number,
+                pass: parameters.number,
                 change: Change::Batch(Batch::new(edits)),
             };
             Ok(publish(seat, turn, &root, format, &event))

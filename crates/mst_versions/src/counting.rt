@@ -8,20 +8,20 @@ ghost use Rattle.mst_versions.specs.Known.{AtSeat};
 ghost use Rattle.mst_versions.specs.Writes.{KeepsPass};
 
 use crate::faults::Busy;
-use crate::numbers::Numbers;
+use crate::parameters::PassParameters;
 use crate::turn::{begin, give_back};
 use mst_words::PassSeat;
 use mst_words::layout::MASKS;
 use std::alloc::Allocator;
 
-// The number, if one version is kept and no pass was found to pin it: the mask of the current
+// The number, if one version is live and no pass was found to pin it: the mask of the current
 // record, as it was noted, is then what its own word says.
-fn where_alone(used: u32, kept: u32, noted: u64, done: u64) -> Option<u32>
-    ensures alone { kept ≡ 1 → noted % MASKS ≡ done → result ≡ Some used }
+fn where_alone(used: u32, live: u32, noted: u64, done: u64) -> Option<u32>
+    ensures alone { live ≡ 1 → noted % MASKS ≡ done → result ≡ Some used }
     ensures only { IfSome result
-        (λ n. (n ≡ used) × (kept ≡ 1) × (noted % MASKS ≡ done)) }
+        (λ n. (n ≡ used) × (live ≡ 1) × (noted % MASKS ≡ done)) }
 {
-    if kept == 1 && noted % MASKS == done {
+    if live == 1 && noted % MASKS == done {
         Some(used)
     } else {
         None
@@ -29,32 +29,32 @@ fn where_alone(used: u32, kept: u32, noted: u64, done: u64) -> Option<u32>
 }
 
 /// Returns how many rows the map of the current version takes: all rows but those that are free
-/// once no other version is kept. It returns `None` exactly if a version was found pinned; in a
+/// once no other version is live. It returns `None` exactly if a version was found pinned; in a
 /// store of one pass it never does.
 ///
 /// The turn is taken, each record is asked, the rows that no version reaches are freed, and the
 /// turn is given back. Returns `Busy` only if another pass has the turn. It takes no memory.
 pub fn rows<A: Allocator + Copy>(
     seat: &mut PassSeat<'_, A>,
-    numbers: Numbers,
+    parameters: PassParameters,
 ) -> Result<Option<u32>, Busy>
-    requires rest { IsResting numbers seat.old.me }
+    requires rest { IsResting parameters seat.old.me }
     ensures same { IsSameSeat seat.old seat.new }
     ensures pass { KeepsPass seat.old.me seat.new.me }
-    ensures free { IsFree numbers.number seat.new.me }
+    ensures free { IsFree parameters.number seat.new.me }
     ensures counted { IfOk result
-        (λ found. AtSeat (Counts found) numbers.number seat.old seat.new) }
+        (λ found. AtSeat (Counts found) parameters.number seat.old seat.new) }
     ensures busy { OnErr result (Misses seat.old.me seat.new.me) }
 {
-    let Some(turn) = begin(seat, numbers) else {
+    let Some(turn) = begin(seat, parameters) else {
         return Err(Busy);
     };
     let (current, _) = turn.desk.current();
     let noted = seat.note_current();
     let done = seat.ask_current(current);
-    let (kept, used) = (turn.kept, numbers.rows - turn.desk.free());
+    let (live, used) = (turn.live, parameters.rows - turn.desk.free());
     give_back(seat, turn);
-    Ok(where_alone(used, kept, noted, done))
+    Ok(where_alone(used, live, noted, done))
 }
 
 /// Returns how many rows are free to the next write: all rows but those that the current version
@@ -65,17 +65,17 @@ pub fn rows<A: Allocator + Copy>(
 /// takes no memory.
 pub fn free_rows<A: Allocator + Copy>(
     seat: &mut PassSeat<'_, A>,
-    numbers: Numbers,
+    parameters: PassParameters,
 ) -> Result<u32, Busy>
-    requires rest { IsResting numbers seat.old.me }
+    requires rest { IsResting parameters seat.old.me }
     ensures same { IsSameSeat seat.old seat.new }
     ensures pass { KeepsPass seat.old.me seat.new.me }
-    ensures free { IsFree numbers.number seat.new.me }
+    ensures free { IsFree parameters.number seat.new.me }
     ensures counted { IfOk result
-        (λ rows. AtSeat (CountsFree rows) numbers.number seat.old seat.new) }
+        (λ rows. AtSeat (CountsFree rows) parameters.number seat.old seat.new) }
     ensures busy { OnErr result (Misses seat.old.me seat.new.me) }
 {
-    let Some(turn) = begin(seat, numbers) else {
+    let Some(turn) = begin(seat, parameters) else {
         return Err(Busy);
     };
     let free = turn.desk.free();

@@ -2,7 +2,7 @@
 //! next version, made in the pass's turn.
 //!
 //! ```
-//! let first = Numbers { number: 1, passes: 2, rows: 16 };
+//! let first = PassParameters { number: 1, passes: 2, rows: 16 };
 //! let at = reading::pin(&mut reader, first);        // the seat of pass 1: one xor and two loads
 //! let (old, version) = writing::write(&mut writer, second, &event)?;
 //! reading::get(&mut reader, &at, &apple)            // as it was at the pin
@@ -10,7 +10,7 @@
 //! ```
 //!
 //! A write takes the turn and the desk, asks each record but the current one who pins it, frees the
-//! rows that no version reaches which is kept, makes its change in free rows, and publishes. Here
+//! rows that no live version reaches, makes its change in free rows, and publishes. Here
 //! nothing waits: a turn that another pass has is `Busy`.
 //!
 //! Seats come from outside: `mst_store` deals them, and keeps each in a pass, whose contracts speak
@@ -23,11 +23,11 @@ pub mod counting;
 mod faults;
 mod finishing;
 pub mod migrating;
-mod numbers;
+mod parameters;
 pub mod reading;
 pub mod roots;
 pub mod turn;
 pub mod writing;
 
 pub use faults::{ApplyFault, Busy, MigrateFault, WriteFault};
-pub use numbers::Numbers;
+pub use parameters::PassParameters;

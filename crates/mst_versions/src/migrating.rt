@@ -19,8 +19,8 @@ ghost use Rattle.mst_versions.specs.Migrating.{LacksTree, RefusesMigration};
 
 use crate::faults::MigrateFault;
 use crate::finishing::publish;
-use crate::numbers::Numbers;
-use crate::turn::{NotBegun, Turn, begin_write, give_back};
+use crate::parameters::PassParameters;
+use crate::turn::{BeginFault, Turn, begin_write, give_back};
 use mst_arena::{MOST_ROWS, Root};
 use mst_key::{Change, Event, Format, Memory};
 use mst_node::{Node, build_in, release};
@@ -30,7 +30,7 @@ use std::alloc::Allocator;
 
 /// Why no tree of the other format was made.
 #[derive(Clone, Copy, Debug, PartialEq, Eq)]
-pub(crate) enum NotMoved {
+pub(crate) enum TreeFault {
     /// A growth of the list of the pairs or of their tree was refused.
     Memory(Memory),
     /// Fewer rows are free than the tree takes.
@@ -86,7 +86,7 @@ fn make_move<A: Allocator + Copy, B: Allocator + Copy>(
     alloc: B,
     turn: &mut Turn<A>,
     to: Format,
-) -> Result<Root, NotMoved>
+) -> Result<Root, TreeFault>
     requires turn { HasTurn turn.old seat.old.me }
     requires open { length seat.old.me.0.seen < last_version }
     requires few_rows { seat.old.me.0.rows ≤ most_rows }
@@ -101,13 +101,13 @@ fn make_move<A: Allocator + Copy, B: Allocator + Copy>(
     }
     let tree = match tree_in(seat, alloc, turn, to) {
         Ok(tree) => tree,
-        Err(refused) => return Err(NotMoved::Memory(refused)),
+        Err(refused) => return Err(TreeFault::Memory(refused)),
     };
     let moved = move_tree(seat, turn, tree.as_deref(), to);
     release(tree);
     match moved {
         Ok(root) => Ok(root),
-        Err(NoRoom) => Err(NotMoved::NoRoom),
+        Err(NoRoom) => Err(TreeFault::NoRoom),
     }
 }
 
@@ -124,41 +124,41 @@ fn make_move<A: Allocator + Copy, B: Allocator + Copy>(
 pub fn migrate<A: Allocator + Copy, B: Allocator + Copy>(
     seat: &mut PassSeat<'_, A>,
     alloc: B,
-    numbers: Numbers,
+    parameters: PassParameters,
     to: Format,
 ) -> Result<(Format, u64), MigrateFault>
-    requires rest { IsResting numbers seat.old.me }
+    requires rest { IsResting parameters seat.old.me }
     ensures same { IsSameSeat seat.old seat.new }
     ensures pass { KeepsPass seat.old.me seat.new.me }
-    ensures free { IsFree numbers.number seat.new.me }
-    ensures wrote { IfOk result (λ done. WroteAtSeat numbers.number (Migrate to) seat.old
+    ensures free { IsFree parameters.number seat.new.me }
+    ensures wrote { IfOk result (λ done. WroteAtSeat parameters.number (Migrate to) seat.old
         (was done.0) done.1 seat.new) }
     ensures version { IfOk result (λ done. done.1 ≡ length seat.new.me.0.seen) }
     ensures refused { IfErr result
-        (λ fault. AtSeat (RefusesMigration fault to) numbers.number seat.old seat.new) }
+        (λ fault. AtSeat (RefusesMigration fault to) parameters.number seat.old seat.new) }
     ensures missed { IsErrOf result MigrateFault.Busy → Misses seat.old.me seat.new.me }
     ensures spent { IsErrOf result MigrateFault.VersionsSpent → Spent seat.old.me seat.new.me }
 {
-    let mut turn = match begin_write(seat, numbers) {
+    let mut turn = match begin_write(seat, parameters) {
         Ok(turn) => turn,
-        Err(NotBegun::Busy) => return Err(MigrateFault::Busy),
-        Err(NotBegun::VersionsSpent) => return Err(MigrateFault::VersionsSpent),
+        Err(BeginFault::Busy) => return Err(MigrateFault::Busy),
+        Err(BeginFault::VersionsSpent) => return Err(MigrateFault::VersionsSpent),
     };
     let format = turn.format;
     match make_move(seat, alloc, &mut turn, to) {
         Ok(root) => {
             let event = Event {
-                pass: numbers.number,
+                pass: parameters.number,
                 change: Change::Migrate(to),
             };
             let version = publish(seat, turn, &root, to, &event);
             Ok((format, version))
         }
-        Err(NotMoved::Memory(refused)) => {
+        Err(TreeFault::Memory(refused)) => {
             give_back(seat, turn);
             Err(MigrateFault::Memory(refused))
         }
-        Err(NotMoved::NoRoom) => {
+        Err(TreeFault::NoRoom) => {
             give_back(seat, turn);
             Err(MigrateFault::NoRoom)
         }

@@ -8,9 +8,9 @@ ghost use Rattle.mst_node.specs.Trail.{proof_text};
 ghost use Rattle.mst_words.specs.Access.{IsSameSeat};
 ghost use Rattle.mst_words.specs.Layout.{most_passes};
 ghost use Rattle.mst_versions.specs.Resting.{IsResting};
-ghost use Rattle.mst_versions.specs.Pinned.{format_pinned, HasPinned, Pins};
+ghost use Rattle.mst_versions.specs.Pinned.{format_pinned, HasPinned, PinsVersion};
 
-use crate::numbers::Numbers;
+use crate::parameters::PassParameters;
 use crate::roots::{read_digest, read_format, read_link};
 use mst_key::{Format, Key, Memory, Value};
 use mst_words::PassSeat;
@@ -18,7 +18,7 @@ use std::alloc::Allocator;
 
 /// Where the map of a pinned version stands.
 #[derive(Clone, Copy, Debug, PartialEq, Eq)]
-pub struct PinnedRoot {
+pub struct PinnedVersion {
     /// The record that is pinned.
     pub pinned: u32,
     /// The number of the version: how many events led to it.
@@ -28,15 +28,18 @@ pub struct PinnedRoot {
 }
 
 /// Pins the current version and reads where its map stands: one xor and two loads.
-pub fn pin<A: Allocator + Copy>(seat: &mut PassSeat<'_, A>, numbers: Numbers) -> PinnedRoot
-    requires rest { IsResting numbers seat.old.me }
-    requires few { numbers.number ≤ most_passes }
+pub fn pin<A: Allocator + Copy>(
+    seat: &mut PassSeat<'_, A>,
+    parameters: PassParameters,
+) -> PinnedVersion
+    requires rest { IsResting parameters seat.old.me }
+    requires few { parameters.number ≤ most_passes }
     ensures same { IsSameSeat seat.old seat.new }
-    ensures pinned { Pins seat.old.me result seat.new.me }
+    ensures pinned { PinsVersion seat.old.me result seat.new.me }
 {
-    let pinned = seat.pin(numbers.number);
+    let pinned = seat.pin(parameters.number);
     let (version, link) = read_link(seat, pinned);
-    PinnedRoot {
+    PinnedVersion {
         pinned,
         version,
         link,
@@ -46,7 +49,7 @@ pub fn pin<A: Allocator + Copy>(seat: &mut PassSeat<'_, A>, numbers: Numbers) ->
 /// The value of the key in the pinned version.
 pub fn get<A: Allocator + Copy>(
     seat: &mut PassSeat<'_, A>,
-    at: &PinnedRoot,
+    at: &PinnedVersion,
     key: &Key,
 ) -> Option<Value>
     requires pinned { HasPinned at.now seat.old.me.0 }
@@ -60,7 +63,7 @@ pub fn get<A: Allocator + Copy>(
 /// no bound.
 pub fn next<A: Allocator + Copy>(
     seat: &mut PassSeat<'_, A>,
-    at: &PinnedRoot,
+    at: &PinnedVersion,
     bound: Option<&Key>,
 ) -> Option<(Key, Value)>
     requires pinned { HasPinned at.now seat.old.me.0 }
@@ -72,7 +75,7 @@ pub fn next<A: Allocator + Copy>(
 }
 
 /// The format of the pinned version: one load.
-pub fn format<A: Allocator + Copy>(seat: &mut PassSeat<'_, A>, at: &PinnedRoot) -> Format
+pub fn format<A: Allocator + Copy>(seat: &mut PassSeat<'_, A>, at: &PinnedVersion) -> Format
     requires pinned { HasPinned at.now seat.old.me.0 }
     ensures found { result ≡ format_pinned seat.old.me.0 }
     ensures same { seat.new ≡ seat.old }
@@ -81,7 +84,7 @@ pub fn format<A: Allocator + Copy>(seat: &mut PassSeat<'_, A>, at: &PinnedRoot) 
 }
 
 /// The root digest of the pinned version's map: four loads.
-pub fn root<A: Allocator + Copy>(seat: &mut PassSeat<'_, A>, at: &PinnedRoot) -> [u8; 32]
+pub fn root<A: Allocator + Copy>(seat: &mut PassSeat<'_, A>, at: &PinnedVersion) -> [u8; 32]
     requires pinned { HasPinned at.now seat.old.me.0 }
     ensures found { result
         ≡ text.root (format_pinned seat.old.me.0) (after seat.old.me.0.pinned_history) }
@@ -97,7 +100,7 @@ pub fn root<A: Allocator + Copy>(seat: &mut PassSeat<'_, A>, at: &PinnedRoot) ->
 pub fn range<A: Allocator + Copy, B: Allocator>(
     seat: &mut PassSeat<'_, A>,
     alloc: B,
-    at: &PinnedRoot,
+    at: &PinnedVersion,
     from: Option<&Key>,
     to: Option<&Key>,
     limit: usize,
@@ -118,7 +121,7 @@ pub fn range<A: Allocator + Copy, B: Allocator>(
 pub fn prove<A: Allocator + Copy, B: Allocator + Copy>(
     seat: &mut PassSeat<'_, A>,
     alloc: B,
-    at: &PinnedRoot,
+    at: &PinnedVersion,
     key: &Key,
 ) -> Result<Vec<u8, B>, Memory>
     requires pinned { HasPinned at.now seat.old.me.0 }

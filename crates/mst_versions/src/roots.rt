@@ -12,7 +12,9 @@ ghost use Rattle.mst_versions.specs.Filing.{IsFiled, OthersKept};
 
 use mst_arena::Root;
 use mst_key::Format;
-use mst_words::layout::{RECORD_WORDS, record_word};
+use mst_words::layout::{
+    FIRST_ROOT_DIGEST_WORD, FORMAT_WORD, RECORD_WORDS, ROOT_LINK_WORD, VERSION_WORD, record_word,
+};
 use mst_words::{PassSeat, format_number, format_of};
 use std::alloc::Allocator;
 
@@ -37,13 +39,13 @@ pub(crate) fn read_root<A: Allocator + Copy>(seat: &mut PassSeat<'_, A>, which: 
     ensures root { result.1 ≡ root_in (field seat.old.me.0.known_words which) }
     ensures same { seat.new ≡ seat.old }
 {
-    let version = field(seat, which, 0);
+    let version = field(seat, which, VERSION_WORD);
     let words = [
-        field(seat, which, 1),
-        field(seat, which, 2),
-        field(seat, which, 3),
-        field(seat, which, 4),
-        field(seat, which, 5),
+        field(seat, which, ROOT_LINK_WORD),
+        field(seat, which, FIRST_ROOT_DIGEST_WORD),
+        field(seat, which, FIRST_ROOT_DIGEST_WORD + 1),
+        field(seat, which, FIRST_ROOT_DIGEST_WORD + 2),
+        field(seat, which, FIRST_ROOT_DIGEST_WORD + 3),
     ];
     (version, Root::read(&words))
 }
@@ -58,8 +60,8 @@ pub(crate) fn read_link<A: Allocator + Copy>(seat: &mut PassSeat<'_, A>, which: 
     ensures link { result.1 ≡ field seat.old.me.0.known_words which 1 }
     ensures same { seat.new ≡ seat.old }
 {
-    let version = field(seat, which, 0);
-    let link = field(seat, which, 1);
+    let version = field(seat, which, VERSION_WORD);
+    let link = field(seat, which, ROOT_LINK_WORD);
     (version, link as u32)
 }
 
@@ -71,10 +73,10 @@ pub(crate) fn read_digest<A: Allocator + Copy>(seat: &mut PassSeat<'_, A>, which
     ensures digest { result ≡ (root_in (field seat.old.me.0.known_words which)).digest }
     ensures same { seat.new ≡ seat.old }
 {
-    let first = field(seat, which, 2);
-    let second = field(seat, which, 3);
-    let third = field(seat, which, 4);
-    let last = field(seat, which, 5);
+    let first = field(seat, which, FIRST_ROOT_DIGEST_WORD);
+    let second = field(seat, which, FIRST_ROOT_DIGEST_WORD + 1);
+    let third = field(seat, which, FIRST_ROOT_DIGEST_WORD + 2);
+    let last = field(seat, which, FIRST_ROOT_DIGEST_WORD + 3);
     Root::read(&[0, first, second, third, last]).digest
 }
 
@@ -87,7 +89,7 @@ pub(crate) fn read_format<A: Allocator + Copy>(seat: &mut PassSeat<'_, A>, which
         → result ≡ f }
     ensures same { seat.new ≡ seat.old }
 {
-    format_of(field(seat, which, 6))
+    format_of(field(seat, which, FORMAT_WORD))
 }
 
 // Stores the seven words of a drained record.

@@ -8,9 +8,9 @@ ghost use Rattle.mst_versions.specs.Asking.{KnowsRecords, HasAsked, AsksOnly, As
 ghost use Rattle.mst_words.specs.Layout.{most_passes};
 ghost use Rattle.mst_versions.specs.Known.{most_rows};
 ghost use Rattle.mst_versions.specs.Resting.{IsResting};
-ghost use Rattle.mst_versions.specs.Turns.{Seat, TakesDesk, HoldsDesk, HasTurn, Begun, IsNotBegun};
+ghost use Rattle.mst_versions.specs.Turns.{SeatState, TakesDesk, HoldsDesk, HasTurn, Begun, FailsToBegin};
 
-use crate::numbers::Numbers;
+use crate::parameters::PassParameters;
 use crate::roots::{read_format, read_root};
 use arrayvec::ArrayVec;
 use mst_arena::{Desk, Root};
@@ -30,14 +30,14 @@ pub struct Turn<A: Allocator> {
     pub format: Format,
     /// A record that nobody pins, for the version to come.
     pub into: u32,
-    /// How many versions are kept: the current one, and those of the records that were found
+    /// How many versions are live: the current one, and those of the records that were found
     /// pinned.
-    pub kept: u32,
+    pub live: u32,
 }
 
 /// Why no write was begun.
 #[derive(Clone, Copy, Debug, PartialEq, Eq)]
-pub enum NotBegun {
+pub enum BeginFault {
     /// Another pass has the turn.
     Busy,
     /// The current version has the last number, 2^63 - 1.
@@ -133,7 +133,7 @@ fn ready_turn<A: Allocator + Copy>(
     mut desk: Desk<A>,
     passes: u32,
 ) -> Turn<A>
-    requires taken { (before : Seat) × TakesDesk before desk seat.old.me }
+    requires taken { (before : SeatState) × TakesDesk before desk seat.old.me }
     requires holder { IsHolder seat.old.me }
     requires passes { passes ≡ seat.old.me.0.passes }
     requires few { passes ≤ most_passes }
@@ -153,45 +153,48 @@ fn ready_turn<A: Allocator + Copy>(
         root,
         format,
         into: asked.into,
-        kept: asked.live.len() as u32,
+        live: asked.live.len() as u32,
     }
 }
 
 /// Takes the turn, finds a record for a version to come, and frees the rows that no version
 /// reaches: one compare-exchange, one exchange, one load for each record but the current one, and
 /// seven loads more. Returns `None` if another pass has the turn.
-pub fn begin<A: Allocator + Copy>(seat: &mut PassSeat<'_, A>, numbers: Numbers) -> Option<Turn<A>>
-    requires rest { IsResting numbers seat.old.me }
+pub fn begin<A: Allocator + Copy>(
+    seat: &mut PassSeat<'_, A>,
+    parameters: PassParameters,
+) -> Option<Turn<A>>
+    requires rest { IsResting parameters seat.old.me }
     ensures same { IsSameSeat seat.old seat.new }
     ensures missed { IfNone result (Misses seat.old.me seat.new.me) }
     ensures begun { IfSome result (λ t. Begun seat.old.me t seat.new.me) }
 {
-    let Some(desk) = take(seat, numbers.number) else {
+    let Some(desk) = take(seat, parameters.number) else {
         return None;
     };
-    Some(ready_turn(seat, desk, numbers.passes))
+    Some(ready_turn(seat, desk, parameters.passes))
 }
 
 /// Begins a write as [`begin`] does. But if the current version has the last number, the turn is
 /// given back before any record is asked.
 pub fn begin_write<A: Allocator + Copy>(
     seat: &mut PassSeat<'_, A>,
-    numbers: Numbers,
-) -> Result<Turn<A>, NotBegun>
-    requires rest { IsResting numbers seat.old.me }
+    parameters: PassParameters,
+) -> Result<Turn<A>, BeginFault>
+    requires rest { IsResting parameters seat.old.me }
     ensures same { IsSameSeat seat.old seat.new }
-    ensures refused { IfErr result (λ why. IsNotBegun why seat.old.me seat.new.me) }
+    ensures refused { IfErr result (λ why. FailsToBegin why seat.old.me seat.new.me) }
     ensures begun { IfOk result (λ t. Begun seat.old.me t seat.new.me) }
     ensures room { OnOk result (length seat.new.me.0.seen < last_version) }
 {
-    let Some(desk) = take(seat, numbers.number) else {
-        return Err(NotBegun::Busy);
+    let Some(desk) = take(seat, parameters.number) else {
+        return Err(BeginFault::Busy);
     };
     if let Err(_) = desk.next_version() {
         lay_back(seat, desk);
-        return Err(NotBegun::VersionsSpent);
+        return Err(BeginFault::VersionsSpent);
     }
-    Ok(ready_turn(seat, desk, numbers.passes))
+    Ok(ready_turn(seat, desk, parameters.passes))
 }
 
 /// Gives the turn back with the history as it was: one exchange and one store.

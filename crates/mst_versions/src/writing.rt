@@ -12,8 +12,8 @@ ghost use Rattle.mst_versions.specs.Writes.{Made, LacksRows, KeepsPass, WroteAtS
 
 use crate::faults::WriteFault;
 use crate::finishing::publish;
-use crate::numbers::Numbers;
-use crate::turn::{NotBegun, Turn, begin_write, give_back};
+use crate::parameters::PassParameters;
+use crate::turn::{BeginFault, Turn, begin_write, give_back};
 use mst_arena::Root;
 use mst_key::{Change, Event, Key, Value};
 use mst_path::NoRoom;
@@ -98,39 +98,39 @@ pub fn make<A: Allocator + Copy>(
 /// to. It returns the value that the change's key had, and the number of the version.
 ///
 /// The steps, in this order: the turn is taken, the desk is taken, each record but the current one
-/// is asked, and the dead rows are freed that no version reaches which is kept; the nodes along the
+/// is asked, and the dead rows are freed that no live version reaches; the nodes along the
 /// change's path are copied into free rows; then the version is published, the mask of the old
 /// record's pins is moved, and desk and turn go back. It takes no memory.
 ///
 /// Returns `Busy` only if another pass has the turn; otherwise `VersionsSpent` exactly if the
 /// current version has the last number; otherwise `NoRoom` exactly if fewer rows are free than the
 /// change takes: a row for each entry and one for each node that it makes new. All rows are free
-/// then but those that the kept versions hold: the current one and those that other passes pin. In
+/// then but those that the live versions hold: the current one and those that other passes pin. In
 /// a store of one pass these are the rows of the map.
 pub fn write<A: Allocator + Copy>(
     seat: &mut PassSeat<'_, A>,
-    numbers: Numbers,
+    parameters: PassParameters,
     event: &Event,
 ) -> Result<(Option<Value>, u64), WriteFault>
-    requires rest { IsResting numbers seat.old.me }
+    requires rest { IsResting parameters seat.old.me }
     requires keyed { IsMigration event.now.change → ⊥ }
     requires single { IsBatch event.now.change → ⊥ }
-    requires mine { event.now.pass ≡ numbers.number }
+    requires mine { event.now.pass ≡ parameters.number }
     ensures same { IsSameSeat seat.old seat.new }
     ensures pass { KeepsPass seat.old.me seat.new.me }
-    ensures free { IsFree numbers.number seat.new.me }
-    ensures wrote { IfOk result (λ done. WroteAtSeat numbers.number event.now.change seat.old
+    ensures free { IsFree parameters.number seat.new.me }
+    ensures wrote { IfOk result (λ done. WroteAtSeat parameters.number event.now.change seat.old
         (had done.0) done.1 seat.new) }
     ensures version { IfOk result (λ done. done.1 ≡ length seat.new.me.0.seen) }
     ensures refused { IfErr result
-        (λ fault. AtSeat (Refuses fault event.now.change) numbers.number seat.old seat.new) }
+        (λ fault. AtSeat (Refuses fault event.now.change) parameters.number seat.old seat.new) }
     ensures missed { IsErrOf result WriteFault.Busy → Misses seat.old.me seat.new.me }
     ensures spent { IsErrOf result WriteFault.VersionsSpent → Spent seat.old.me seat.new.me }
 {
-    let mut turn = match begin_write(seat, numbers) {
+    let mut turn = match begin_write(seat, parameters) {
         Ok(turn) => turn,
-        Err(NotBegun::Busy) => return Err(WriteFault::Busy),
-        Err(NotBegun::VersionsSpent) => return Err(WriteFault::VersionsSpent),
+        Err(BeginFault::Busy) => return Err(WriteFault::Busy),
+        Err(BeginFault::VersionsSpent) => return Err(WriteFault::VersionsSpent),
     };
     let format = turn.format;
     match make(seat, &mut turn, &event.change) {

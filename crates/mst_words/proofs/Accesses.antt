@@ -122,8 +122,7 @@ pub stored_none : (x : ℕ) (words old : List ℕ) → RowStored x 0 words old o
 stored_none x words old = record {
   long = refl;
   so_far = λ k l. absurd (omega arith);
-  others =
-      λ i _. refl;
+  others = λ i _. refl;
 }
 
 pub stored_more : (x n : ℕ) (words old new : List ℕ) → RowStored x n words old new → n < row_words

@@ -38,13 +38,11 @@ module _ (z : Shape) (s : Table) (a : IsRuled z s) (id : ℕ) (me : Mine)
           makes = record {
             id = id;
             step = step (length s.homes) i 0 0 none;
-            found =
-                get_or s.words i 0;
+            found = get_or s.words i 0;
             before = me;
             after = (r.0, carried_after me.1 r.1);
             at = at;
-            views =
-                refl;
+            views = refl;
             tells = r.4;
           };
           may = may;
@@ -70,13 +68,11 @@ module _ (z : Shape) (s : Table) (a : IsRuled z s) (id : ℕ) (me : Mine)
             made = record {
               id = id;
               step = step (length s.homes) 1 (into * masks) 0 none;
-              found =
-                  get_or s.words 1 0;
+              found = get_or s.words 1 0;
               before = me;
               after = (r.0, carried_after me.1 r.1);
               at = at;
-              views =
-                  refl;
+              views = refl;
               tells = r.4;
             };
             on = ready.on;

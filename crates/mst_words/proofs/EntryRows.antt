@@ -1,5 +1,5 @@
 -- The lengths and the pair of an entry in the words of its row.
-use Rattle.std.proofs.Common.{◌≡◌, ℕ, ◌+◌, ◌*◌, ◌≤◌, ◌/◌, ◌%◌, List, length, take, Bool, true, false, Option, Some, None, map, refl, sym, ap, arith, if◌then◌else◌}
+use Rattle.std.proofs.Common.{◌≡◌, ℕ, ◌+◌, ◌*◌, ◌≤◌, ◌/◌, ◌%◌, List, length, take, Bool, true, false, Some, None, map, refl, sym, ap, arith, if◌then◌else◌}
 use Rattle.std.specs.Prelude.{slice_index, option_and_then, IsSome}
 use Rattle.std.specs.List.{range_with_len}
 use Rattle.mst_key.specs.Bytes.{IsKey, IsValue}

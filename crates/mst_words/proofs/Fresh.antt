@@ -141,8 +141,7 @@ pub fresh_is_desk : (R N : ℕ) → IsDesk (Some (fresh_desk R N)) R N (desk_sta
 fresh_is_desk R N = record {
   there = refl;
   rows_is = length-replicate R Free;
-  records =
-      length-replicate (N + 2) 0;
+  records = length-replicate (N + 2) 0;
   settled = at_free (IsPast (version (fresh_desk R N))) tt tt R;
   earlier = λ r l. none_below _ _ (get_or-replicate (N + 2) r 0 0 l);
 }

@@ -136,8 +136,7 @@ module _ {S : Type 0} (T : Meaning S) (framed : IsFramed T) (R N : ℕ) where
       (subst (λ (l : List View). Parts T R N record {
         words = s.words;
         homes = s.homes;
-        views =
-            l ++ n ∷ [];
+        views = l ++ n ∷ [];
       }) (sym (set_again s.views id v at)) record {
         log = q.log;
         next = q.next;
@@ -179,8 +178,7 @@ module _ {S : Type 0} (T : Meaning S) (framed : IsFramed T) (R N : ℕ) where
       (subst (λ (l : List View). Parts T R N record {
         words = s.words;
         homes = s.homes;
-        views =
-            l;
+        views = l;
       }) (sym (set_again (set s.views id w) other n there))
       (view_set T framed R N s q id v w at refl refl refl refl refl refl refl refl refl refl
       (λ on. ((q.turn.holder id v at on).2, refl))
@@ -188,8 +186,7 @@ module _ {S : Type 0} (T : Meaning S) (framed : IsFramed T) (R N : ℕ) where
         seen = f.seen;
         told = (q.world.fits other n there').seen;
         own = f.own;
-        mine =
-            f.mine;
+        mine = f.mine;
         pinned = f.pinned;
       })
       (drains_same N q.cur q.mask q.due q.beside s.words s.words s.views id v w q.pins at refl refl

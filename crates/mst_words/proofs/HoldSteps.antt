@@ -44,14 +44,12 @@ module _ {S : Type 0} (T : Meaning S) (framed : IsFramed T) (R N : ℕ) where
       let w : View = record v {
         seen = v.seen ++ e ∷ [];
         mine = v.mine ++ e ∷ [];
-        due =
-            Some v.desk.current;
+        due = Some v.desk.current;
         mask = q.mask;
         drained = [];
         blocked = [];
         noted = None;
-        desk =
-            d;
+        desk = d;
         asked = v.asked + 1;
       } in let ws : List ℕ = set s.words 1 b in let longer : History =
       q.log ++ e ∷ [] in
@@ -125,8 +123,7 @@ module _ {S : Type 0} (T : Meaning S) (framed : IsFramed T) (R N : ℕ) where
           record {
             mask = q.mask;
             small = q.pins.small;
-            returned =
-                q.pins.current ∙ ap (λ (z : ℕ). z * masks + q.mask) cur_now;
+            returned = q.pins.current ∙ ap (λ (z : ℕ). z * masks + q.mask) cur_now;
             is = refl;
           },
         ),
@@ -185,8 +182,7 @@ module _ {S : Type 0} (T : Meaning S) (framed : IsFramed T) (R N : ℕ) where
                 told = f.told;
                 own = f.own;
                 mine = f.mine;
-                pinned =
-                    f.pinned;
+                pinned = f.pinned;
               });
           clear = clear_same N q.beside (cleared q.beside o) s.words ws s.views id v w q.clear at
               (λ r k l. transfer_bits q.beside s.words ws o
@@ -273,7 +269,7 @@ module _ {S : Type 0} (T : Meaning S) (framed : IsFramed T) (R N : ℕ) where
       whole.parts in let v : View = me.0 in let on = holder.0 in let free =
       holder.1 in let settled = holder.2 in let h = q.turn.holder id v at on in
       let inside : r < N + 2 = subst (λ (n : ℕ). r < n + 2) (q.world.placed id v at).passes_is there
-      in let fits = q.world.fits id v at in
+      in let f = q.world.fits id v at in
       let not_cur : r ≢ q.cur =
       λ f. other (f ∙ sym q.rows.desk_at ∙ ap (λ (z : DeskState). z.current) (sym h.3)) in
       dite (ℕ_discrete (get_or s.words (r + 2) 0) 0)
@@ -284,14 +280,7 @@ module _ {S : Type 0} (T : Meaning S) (framed : IsFramed T) (R N : ℕ) where
         ruled T framed R N _
             (looked T framed R N s q id (r + 2) me.1 v w at refl refl refl refl refl refl refl refl
             refl refl (λ _. (h.2, refl))
-            (record {
-              seen = fits.seen;
-              told = fits.told;
-              own = fits.own;
-              mine = fits.mine;
-              pinned =
-                  fits.pinned;
-            })
+            (record { seen = f.seen; told = f.told; own = f.own; mine = f.mine; pinned = f.pinned })
             (λ _. drains_ask N q.cur q.mask q.due q.beside s.words s.words s.views id v w q.pins at
             r zero_there not_cur inside on settled refl refl refl refl)
             (counts_same N q.cur s.views id v w q.counts at refl (inl refl) refl refl)
@@ -303,8 +292,7 @@ module _ {S : Type 0} (T : Meaning S) (framed : IsFramed T) (R N : ℕ) where
       record v {
         blocked = r ∷ v.blocked;
         found = v.found ++ T.version v.desk r ∷ [];
-        asked =
-            v.asked + 1;
+        asked = v.asked + 1;
       } in let not_due : q.due ≢ Some r =
       (λ e. let f : None ≡ Some r = sym settled ∙ (q.pins.holder id v at on).due_is ∙ e in
       absurd (let c = f in cc)) in
@@ -322,14 +310,7 @@ module _ {S : Type 0} (T : Meaning S) (framed : IsFramed T) (R N : ℕ) where
         ruled T framed R N _
             (looked T framed R N s q id (r + 2) me.1 v w at refl refl refl refl refl refl refl refl
             refl refl (λ _. (h.2, refl))
-            (record {
-              seen = fits.seen;
-              told = fits.told;
-              own = fits.own;
-              mine = fits.mine;
-              pinned =
-                  fits.pinned;
-            })
+            (record { seen = f.seen; told = f.told; own = f.own; mine = f.mine; pinned = f.pinned })
             (drains_same N q.cur q.mask q.due q.beside s.words s.words s.views id v w q.pins at refl
             refl refl refl refl)
             (counts_set N q.cur s.views id v w q.counts at refl (inl refl)
@@ -347,11 +328,9 @@ module _ {S : Type 0} (T : Meaning S) (framed : IsFramed T) (R N : ℕ) where
           (λ _. record {
             fewer = subst (λ (z : ℕ). length v.blocked + 1 < z)
                 (sym (q.world.placed id v at).passes_is) (left s q id v t.1 r b.0 at on more);
-            place =
-                q.place r;
+            place = q.place r;
             used = q.used r;
-            stands =
-                known_standing s q id v at on r (inr (t.0, t.1, t.2, t.3));
+            stands = known_standing s q id v at on r (inr (t.0, t.1, t.2, t.3));
             is = refl;
           }),
         ),
@@ -362,7 +341,7 @@ module _ {S : Type 0} (T : Meaning S) (framed : IsFramed T) (R N : ℕ) where
       me 1 (λ n. n) (notes_current (step slots 1 0 0 none) me)
   notes_allows slots id me holder s whole _ at _ = let q = whole.parts in let v : View =
       me.0 in let on = holder.0 in let w : View =
-      record v { noted = Some (get_or s.words 1 0); asked = v.asked + 1 } in let fits =
+      record v { noted = Some (get_or s.words 1 0); asked = v.asked + 1 } in let f =
       q.world.fits id v at in let h = q.turn.holder id v at on in
       let cur_now : q.cur ≡ v.desk.current = sym q.rows.desk_at ∙ ap (λ (z : DeskState). z.current)
       (sym h.3) in (
@@ -371,14 +350,7 @@ module _ {S : Type 0} (T : Meaning S) (framed : IsFramed T) (R N : ℕ) where
         tt,
         ruled T framed R N _ (looked T framed R N s q id 1 me.1 v w at refl refl refl refl refl refl
             refl refl refl refl (λ _. (h.2, refl))
-            (record {
-              seen = fits.seen;
-              told = fits.told;
-              own = fits.own;
-              mine = fits.mine;
-              pinned =
-                  fits.pinned;
-            })
+            (record { seen = f.seen; told = f.told; own = f.own; mine = f.mine; pinned = f.pinned })
             (drains_same N q.cur q.mask q.due q.beside s.words s.words s.views id v w q.pins at refl
             refl refl refl refl)
             (counts_same N q.cur s.views id v w q.counts at refl (inl refl) refl refl)
@@ -390,8 +362,7 @@ module _ {S : Type 0} (T : Meaning S) (framed : IsFramed T) (R N : ℕ) where
           record {
             mask = q.mask;
             small = q.pins.small;
-            found =
-                q.pins.current ∙ ap (λ (z : ℕ). z * masks + q.mask) cur_now;
+            found = q.pins.current ∙ ap (λ (z : ℕ). z * masks + q.mask) cur_now;
             is = refl;
           },
         ),

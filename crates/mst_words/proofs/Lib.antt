@@ -33,6 +33,7 @@ pub mod Ruling
 pub mod Deeds
 pub mod CountLaws
 pub mod Moves
+pub mod Led
 pub mod Doable
 pub mod Worked
 pub mod WorkedMoves

@@ -56,8 +56,7 @@ module _ {S : Type 0} (T : Meaning S) (framed : IsFramed T) (R N : ℕ) where
               deals = deals;
               rows = rows;
               passes = passes;
-              format =
-                  format;
+              format = format;
             })
             fits;
         clear = clear_same N q.beside q.beside s.words s.words s.views id v w q.clear at
@@ -88,8 +87,7 @@ module _ {S : Type 0} (T : Meaning S) (framed : IsFramed T) (R N : ℕ) where
       subst (λ (z : List ℕ). Parts T R N record {
         words = z;
         homes = s.homes;
-        views =
-            set s.views id w;
+        views = set s.views id w;
       }) (sym (set-get_or s.words i 0))
       (view_set s q id v w at rows passes format number deals pin pinned_history pinned_rows
       known_words turn kept fits drains counts still)

@@ -7,7 +7,6 @@ use Rattle.atomic_table.specs.Table.{Me}
 use Rattle.atomic_table.proofs.Lists.{set_here, set_else, set_again, at_longer}
 use Rattle.mst_pin.specs.declared.event.Event as core
 use Rattle.mst_pin.specs.declared.event.Event.TheVariants.{Pin, Unpin, Publish, Transfer}
-use Rattle.mst_pin.specs.State.{State}
 use Rattle.mst_arena.specs.Lists.{In}
 use Rattle.mst_arena.specs.Lives as lives
 use Rattle.mst_pin.specs.WordParts.{masks}
@@ -15,7 +14,7 @@ use Rattle.mst_words.specs.Layout.{first_record, record_word, record_words, row_
 use Rattle.mst_words.specs.declared.view.View.{View}
 use Rattle.mst_words.specs.declared.view.Shape.{Shape}
 use Rattle.mst_words.specs.declared.view.DeskState.{DeskState}
-use Rattle.mst_words.specs.World.{SeatAt, dealer, having_dealt, newcomer}
+use Rattle.mst_words.specs.World.{SeatAt, having_dealt, newcomer}
 use Rattle.mst_words.specs.Records.{IsBlank}
 use Rattle.mst_words.specs.Notes.{note_of, having_heard}
 use Rattle.mst_words.specs.Path.{IsPathOf}
@@ -23,7 +22,7 @@ use Rattle.mst_words.specs.Steps.{IsFree, IsWritable}
 use Rattle.mst_words.specs.Stored.{stored}
 use Rattle.mst_words.specs.Deeds.{Told, Deed, told_by, trying, giving, pinning, unpinning, forgetting, reading, writing, transferring, asking, noting, asking_current, seeing_all, seeing_told, glancing}
 use Rattle.mst_words.specs.Laws.{Table, IsRuled, Makes, Adds, Hears}
-use Rattle.mst_words.specs.Moves.{IsReachedBy, IsOpened, moves_of, Does, MakesCurrent, ChangesSeats, GoesBy, IsLedTo}
+use Rattle.mst_words.specs.Moves.{IsReachedBy, moves_of, Does, MakesCurrent, ChangesSeats}
 use Rattle.mst_pin.proofs.Bits.{xor_low, xor_small}
 use Rattle.mst_words.proofs.Seats.{each_seat, same_view}
 use Rattle.mst_words.proofs.Worlds.{within}
@@ -32,7 +31,7 @@ use Rattle.mst_words.proofs.Framed.{stored_framed}
 use Rattle.mst_words.proofs.Seated.{path_more}
 use Rattle.mst_words.proofs.PinSteps.{apart_from, dealt}
 use Rattle.mst_words.proofs.Opens.{unseated}
-use Rattle.mst_words.proofs.Paths.{path_same, path_pin, path_unpin, path_publish, path_transfer, path_opening, no_pin, comes_one}
+use Rattle.mst_words.proofs.Paths.{path_same, path_pin, path_unpin, path_publish, path_transfer, no_pin}
 
 -- what a pass has and what it holds
 abbrev Mine : Type 0
@@ -55,7 +54,8 @@ current_stays z s t a b word = current_by z t b a.parts.cur a.parts.mask a.parts
     (word ∙ a.parts.pins.current)
 
 -- while the turn is free no transfer waits, otherwise the one of which its holder knows
-due_free : (z : Shape) (t : Table) (b : IsRuled z t) → get_or t.words 0 0 ≡ 0 → b.parts.due ≡ None
+pub due_free : (z : Shape) (t : Table) (b : IsRuled z t) → get_or t.words 0 0 ≡ 0
+    → b.parts.due ≡ None
 due_free z t b free = (b.parts.turn.free free).3
 
 pub due_held : (z : Shape) (t : Table) (b : IsRuled z t) (i : ℕ) (v : View) → SeatAt t.views i v
@@ -357,54 +357,3 @@ module _ (z : Shape) (s t : Table) (a : IsRuled z s) (b : IsRuled z t) (moves : 
         (still m.before m.after _ m.tells.1.is refl refl refl refl) q
     goes_on glancing d q = let m = d.makes in loads (told_by glancing) m d.words d.finds
         (still m.before m.after _ m.tells.1 refl refl refl refl) q
-
--- ---- from the opening on
-
-pub opened : (z : Shape) (s : Table) (a : IsRuled z s) → IsOpened z s → IsReachedBy z [] s a
-opened z s a o = arrives z s a [] 0 None (dealer z.rows z.passes z.format 1 ∷ [])
-    (path_opening z.rows z.passes z.format) (current_by z s a 0 0 (lit< tt) (o.current))
-    (due_free z s a o.turn) o.seats
-
-one_step : (z : Shape) (s t : Table) (a : IsRuled z s) (b : IsRuled z t)
-    (moves added : List core.Event) → GoesBy added s t → IsReachedBy z moves s a
-    → IsReachedBy z (added ++ moves) t b
-one_step z s t a b moves added goes q = ⊎_elim
-    (λ (d : (deed : Deed) × (d : Does deed s t) × (added ≡ moves_of deed d.makes.before.0)). subst
-    (λ (l : List core.Event). IsReachedBy z (l ++ moves) t b) (sym d.2)
-    (goes_on z s t a b moves d.0 d.1 q))
-    (λ (o : ((into : ℕ) × MakesCurrent into s t × (added ≡ Publish into 0 ∷ []))
-    ⊎ (ChangesSeats s t × (added ≡ []))). ⊎_elim
-    (λ (p : (into : ℕ) × MakesCurrent into s t × (added ≡ Publish into 0 ∷ [])). subst
-    (λ (l : List core.Event). IsReachedBy z (l ++ moves) t b) (sym p.2)
-    (publication z s t a b moves p.0 p.1 q))
-    (λ (c : ChangesSeats s t × (added ≡ [])). subst
-    (λ (l : List core.Event). IsReachedBy z (l ++ moves) t b) (sym c.1)
-    (seats_change z s t a b moves c.0 q)) o) goes
-
-pub led : (z : Shape) (tables : List Table) (moves : List core.Event) (t : Table) (b : IsRuled z t)
-    → IsLedTo z tables moves t → IsReachedBy z moves t b
-led z [] moves t b (o, none) = subst (λ (l : List core.Event). IsReachedBy z l t b) (sym none)
-    (opened z t b o)
-led z (s ∷ tables) moves t b (before, added, rest, a, goes, is) =
-    subst (λ (l : List core.Event). IsReachedBy z l t b) (sym is)
-    (one_step z s t a b before added goes (led z tables before s a rest))
-
--- ---- by one list
-
-module _ (z : Shape) (moves : List core.Event) (s t : Table) (a : IsRuled z s) (b : IsRuled z t)
-    (p : IsReachedBy z moves s a) (q : IsReachedBy z moves t b) where
-  one_state : q.state ≡ p.state
-  one_state = comes_one z.passes moves p.state q.state p.comes q.comes
-
-  pub one_current : b.parts.cur ≡ a.parts.cur
-  one_current = sym q.cur_is ∙ ap (λ (x : State). x.current) one_state ∙ p.cur_is
-
-  pub one_due : b.parts.due ≡ a.parts.due
-  one_due = sym q.due_is ∙ ap (λ (x : State). x.due) one_state ∙ p.due_is
-
-  pub one_pin : (i j : ℕ) (v w : View) → SeatAt s.views i v → SeatAt t.views j w → 0 < v.number
-      → w.number ≡ v.number → w.pin ≡ v.pin
-  one_pin i j v w here there pos number =
-      sym (q.pins_are j w there (subst (λ (n : ℕ). 0 < n) (sym number) pos))
-      ∙ ap q.state.pins number ∙ ap (λ (x : State). x.pins v.number) one_state ∙ p.pins_are i v here
-      pos

@@ -150,8 +150,7 @@ module _ {S : Type 0} (T : Meaning S) (framed : IsFramed T) (R N : ℕ) where
               record {
                 small = omega arith;
                 pinned = λ r is. absurd (none-some r is);
-                unpinned =
-                    λ r l _ _. absurd (omega arith);
+                unpinned = λ r l _ _. absurd (omega arith);
               };
           holder = λ i u e on. off i u e on;
         };
@@ -176,8 +175,7 @@ module _ {S : Type 0} (T : Meaning S) (framed : IsFramed T) (R N : ℕ) where
                 seen = IsPrefix-nil [];
                 told = IsPrefix-nil [];
                 own = refl;
-                mine =
-                    λ _. refl;
+                mine = λ _. refl;
                 pinned = λ r is. absurd (none-some r is);
               });
           placed = λ i u e. subst (IsPlaced R N T.first 1) (one i u e)
@@ -185,8 +183,7 @@ module _ {S : Type 0} (T : Meaning S) (framed : IsFramed T) (R N : ℕ) where
                 rows_is = refl;
                 passes_is = refl;
                 format_is = refl;
-                number =
-                    omega arith;
+                number = omega arith;
                 deals = λ _. (refl, refl);
               });
           apart = λ i j a b p q _ _. here i a p ∙ sym (here j b q);

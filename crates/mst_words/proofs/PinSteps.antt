@@ -67,8 +67,7 @@ module _ {S : Type 0} (T : Meaning S) (framed : IsFramed T) (R N : ℕ) where
       (record v {
         pin = Some q.cur;
         pinned_history = q.log;
-        pinned_rows =
-            q.used q.cur;
+        pinned_rows = q.used q.cur;
         known_words = s.words;
         asked = v.asked + 1;
       }) keeps)
@@ -76,8 +75,7 @@ module _ {S : Type 0} (T : Meaning S) (framed : IsFramed T) (R N : ℕ) where
       let w : View = record v {
         pin = Some q.cur;
         pinned_history = q.log;
-        pinned_rows =
-            q.used q.cur;
+        pinned_rows = q.used q.cur;
         known_words = s.words;
         asked = v.asked + 1;
       } in
@@ -121,8 +119,7 @@ module _ {S : Type 0} (T : Meaning S) (framed : IsFramed T) (R N : ℕ) where
               told = f.told;
               own = f.own;
               mine = f.mine;
-              pinned =
-                  λ r _. (IsPrefix-itself q.log, f.own);
+              pinned = λ r _. (IsPrefix-itself q.log, f.own);
             });
         clear = clear_set N q.beside (turned q.cur q.beside k) s.words ws s.views id v w q.clear at
             q.cur k (λ r b l other. pin_others q.cur q.beside s.words ws k r b (done_same r) other)
@@ -151,8 +148,7 @@ module _ {S : Type 0} (T : Meaning S) (framed : IsFramed T) (R N : ℕ) where
         pin = Some q.cur;
         pinned_history = q.log;
         pinned_rows = q.used q.cur;
-        known_words =
-            s.words;
+        known_words = s.words;
         asked = v.asked + 1;
       } in
       let stood = q.rows.live q.cur (inl refl) in let place = q.world.placed id v at in let fits =
@@ -266,8 +262,7 @@ module _ {S : Type 0} (T : Meaning S) (framed : IsFramed T) (R N : ℕ) where
               seen = (fits.pinned o pinned.0).0;
               told = fits.told;
               own = fits.own;
-              mine =
-                  λ _. (fits.pinned o pinned.0).1;
+              mine = λ _. (fits.pinned o pinned.0).1;
               pinned = λ r is. absurd (none-some r is);
             })
             (ap (bit_xor (done s.words o)) power)),
@@ -293,8 +288,7 @@ module _ {S : Type 0} (T : Meaning S) (framed : IsFramed T) (R N : ℕ) where
               told = fits.told;
               own = fits.own;
               mine = fits.mine;
-              pinned =
-                  λ r is. absurd (none-some r is);
+              pinned = λ r is. absurd (none-some r is);
             }) (ap (bit_xor (done s.words o)) power)),
         ((o, pinned.0, refl), refl),
       )

@@ -45,8 +45,7 @@ module _ {S : Type 0} (T : Meaning S) (framed : IsFramed T) (R N : ℕ) where
     version = refl;
     reached = λ x h. h;
     exactly = λ x h. h;
-    ages =
-        λ x v l h. ((λ is. is), (λ is. is));
+    ages = λ x v l h. ((λ is. is), (λ is. is));
   }
 
   pub standing_to : (ws ws' : List ℕ) (log more : History) (desk desk' : DeskState) (r : ℕ)

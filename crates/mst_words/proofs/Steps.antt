@@ -38,8 +38,7 @@ module _ {S : Type 0} (T : Meaning S) (framed : IsFramed T) (R N : ℕ) where
       subst (λ (z : List ℕ × List View). Parts T R N record {
         words = z.0;
         homes = s.homes;
-        views =
-            z.1;
+        views = z.1;
       })
       (λ j. (sym (set-get_or s.words i 0) j, sym (set_again s.views id v at) j)) q
 
@@ -126,8 +125,7 @@ module _ {S : Type 0} (T : Meaning S) (framed : IsFramed T) (R N : ℕ) where
                 told = f.told;
                 own = f.own;
                 mine = f.mine;
-                pinned =
-                    f.pinned;
+                pinned = f.pinned;
               });
           clear = clear_same N q.beside q.beside s.words ws s.views id v w q.clear at
               (λ r k l. bits_stay q.beside s.words ws r k
@@ -136,8 +134,7 @@ module _ {S : Type 0} (T : Meaning S) (framed : IsFramed T) (R N : ℕ) where
           path =
               record {
                 moves = q.path.moves;
-                is =
-                    path_same N q.cur q.due s.views id v w q.path.moves q.path.is at refl refl;
+                is = path_same N q.cur q.due s.views id v w q.path.moves q.path.is at refl refl;
               };
           still = still_same N (get_or s.words 1 0) (get_or ws 1 0) s.views id w v q.still at
               (low 1 (omega arith)) refl refl;

@@ -43,15 +43,13 @@ module _ {S : Type 0} (T : Meaning S) (framed : IsFramed T) (R N : ℕ) where
         known_words = s.words;
         turn = true;
         desk = q.desk;
-        due =
-            None;
+        due = None;
         mask = 0;
         drained = [];
         blocked = [];
         noted = None;
         found = [];
-        asked =
-            v.asked + 1;
+        asked = v.asked + 1;
       }) (takes 0 x))
   taken s q id p v at number some_pass unpinned x homes settled free = let w : View =
       record v {
@@ -60,8 +58,7 @@ module _ {S : Type 0} (T : Meaning S) (framed : IsFramed T) (R N : ℕ) where
         turn = true;
         desk = q.desk;
         due = None;
-        mask =
-            0;
+        mask = 0;
         drained = [];
         blocked = [];
         noted = None;
@@ -107,8 +104,7 @@ module _ {S : Type 0} (T : Meaning S) (framed : IsFramed T) (R N : ℕ) where
               seen = IsPrefix-itself q.log;
               told = f.told;
               own = f.own;
-              mine =
-                  λ _. f.own;
+              mine = λ _. f.own;
               pinned = f.pinned;
             });
         clear = clear_same N q.beside q.beside s.words ws s.views id v w q.clear at
@@ -160,15 +156,13 @@ module _ {S : Type 0} (T : Meaning S) (framed : IsFramed T) (R N : ℕ) where
         known_words = s.words;
         turn = true;
         desk = q.desk;
-        due =
-            None;
+        due = None;
         mask = 0;
         drained = [];
         blocked = [];
         noted = None;
         found = [];
-        asked =
-            me.0.asked + 1;
+        asked = me.0.asked + 1;
       } in let place = q.world.placed id me.0 at in (
         w,
         takes 0 h.0,

@@ -124,8 +124,7 @@ reader = record (pass 1) {
   pin = Some 0;
   pinned_history = [];
   pinned_rows = used;
-  known_words =
-      words;
+  known_words = words;
   asked = 1;
 }
 
@@ -141,8 +140,7 @@ pinned =
     (dealer 4 2 One 3 ∷ record (pass 1) {
       pin = Some x.0;
       pinned_history = x.1;
-      pinned_rows =
-          used;
+      pinned_rows = used;
       known_words = words;
       asked = 1;
     } ∷ pass 2 ∷ [])))
@@ -173,8 +171,7 @@ holding log d = record (pass 2) {
   known_words = held;
   turn = true;
   desk = d;
-  due =
-      None;
+  due = None;
   mask = 0;
   drained = [];
   blocked = [];
@@ -197,8 +194,7 @@ turn_taken = record {
       ruled T framed 4 2 _
       (subst (λ (x : History × DeskState). Parts T 4 2 record {
         words = set held 0 2;
-        homes =
-            none ∷ [];
+        homes = none ∷ [];
         views = dealer 4 2 One 3 ∷ reader ∷ holding x.0 x.1 ∷ [];
       })
       (λ i. (
@@ -225,8 +221,7 @@ next ws vs h id i me f told allows here small w is = let t =
       rule =
           subst (λ (u : View). Ruled T 4 2 record {
             words = set ws i (f (get_or ws i 0));
-            homes =
-                homes_after h.homes me.1 t.1;
+            homes = homes_after h.homes me.1 t.1;
             views = set vs id u;
           })
           (is (length h.homes) (t.0, carried_after me.1 t.1) t.4) t.3;
@@ -289,8 +284,7 @@ agrees zero l other = record {
   version = refl;
   reached = λ x h. h;
   exactly = λ x h. h;
-  ages =
-      λ x v l h. ((λ is. is), (λ is. is));
+  ages = λ x v l h. ((λ is. is), (λ is. is));
 }
 agrees (suc zero) l other = absurd (other (in_first 1 1 [] refl))
 agrees (suc (suc zero)) l other =
@@ -298,16 +292,14 @@ agrees (suc (suc zero)) l other =
       version = refl;
       reached = λ x h. h;
       exactly = λ x h. h;
-      ages =
-          λ x v l h. ((λ is. is), (λ is. is));
+      ages = λ x v l h. ((λ is. is), (λ is. is));
     }
 agrees (suc (suc (suc zero))) l other =
     record {
       version = refl;
       reached = λ x h. h;
       exactly = λ x h. h;
-      ages =
-          λ x v l h. ((λ is. is), (λ is. is));
+      ages = λ x v l h. ((λ is. is), (λ is. is));
     }
 agrees (suc (suc (suc (suc r)))) l other = absurd (omega (arith, l))
 
@@ -329,8 +321,7 @@ publisher mask = record asked {
   seen = event ∷ [];
   mine = event ∷ [];
   due = Some 0;
-  mask =
-      mask;
+  mask = mask;
   drained = [];
   blocked = [];
   noted = None;

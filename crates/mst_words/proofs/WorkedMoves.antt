@@ -24,7 +24,8 @@ use Rattle.mst_words.specs.Laws.{Table}
 use Rattle.mst_words.specs.Moves.{IsReachedBy, GoesBy, IsLedTo}
 use Rattle.mst_words.proofs.Members.{in_nothing, in_first}
 use Rattle.mst_words.proofs.Fresh.{fresh_is_desk}
-use Rattle.mst_words.proofs.Moves.{due_held, led}
+use Rattle.mst_words.proofs.Moves.{due_held}
+use Rattle.mst_words.proofs.Led.{led}
 use Rattle.mst_words.proofs.Worked.{T, shape, fresh, words, begun, begun_ruled, pass, at, one_dealt, dealt, none_seen, cur_is, used, reader, pinned, desk_is, held, writer, Ready, turn_taken, slot, asked, found, event, later, publisher, published, after_words, after_views, moved}
 
 abbrev of : (ws : List ℕ) (vs : List View) → Ready ws vs → Table
@@ -59,8 +60,7 @@ deals =
     inr
     (inr (
       record {
-        seats =
-            inl (record { id = 0; view = dealer 4 2 One 1; at = refl; views = refl });
+        seats = inl (record { id = 0; view = dealer 4 2 One 1; at = refl; views = refl });
         words = refl;
       },
       refl,
@@ -71,8 +71,7 @@ deals_again =
     inr
     (inr (
       record {
-        seats =
-            inl (record { id = 0; view = dealer 4 2 One 2; at = refl; views = refl });
+        seats = inl (record { id = 0; view = dealer 4 2 One 2; at = refl; views = refl });
         words = refl;
       },
       refl,
@@ -121,8 +120,7 @@ pins = inl (
       step = step 1 1 1 0 none;
       found = 0;
       before = (pass 1, []);
-      after =
-          (reader, []);
+      after = (reader, []);
       at = refl;
       views = refl;
       tells = pin_told;
@@ -182,8 +180,7 @@ takes = inl (
       step = step 1 0 0 2 none;
       found = 0;
       before = (pass 2, []);
-      after =
-          (writer, slot);
+      after = (writer, slot);
       at = refl;
       views = refl;
       tells = turn_told;
@@ -204,12 +201,10 @@ asks = inl (
       step = step 1 3 0 0 none;
       found = 0;
       before = (writer, slot);
-      after =
-          (asked, slot);
+      after = (asked, slot);
       at = refl;
       views = refl;
-      tells =
-          (1, refl, (λ _. refl), (λ some_there. absurd (some_there refl)));
+      tells = (1, refl, (λ _. refl), (λ some_there. absurd (some_there refl)));
     };
     may = (1, refl, lit< tt, (λ e. omega (arith, e)), (λ i. in_nothing 1 i), (refl, refl, refl));
     finds = refl;
@@ -229,13 +224,11 @@ publishes = inr (inl (
         id = 2;
         step = step 1 1 masks 0 none;
         found = 1;
-        before =
-            (asked, slot);
+        before = (asked, slot);
         after = (publisher 1, slot);
         at = refl;
         views = refl;
-        tells =
-            (refl, record { mask = 1; small = lit< tt; returned = refl; is = refl });
+        tells = (refl, record { mask = 1; small = lit< tt; returned = refl; is = refl });
       };
       on = refl;
     };
@@ -256,12 +249,10 @@ transfers = inl (
           step = step 1 2 1 0 none;
           found = 0;
           before = (publisher 1, slot);
-          after =
-              (record (publisher 1) { due = None }, slot);
+          after = (record (publisher 1) { due = None }, slot);
           at = refl;
           views = refl;
-          tells =
-              ((0, refl, refl), refl);
+          tells = ((0, refl, refl), refl);
         };
     may = ((0, refl, refl), refl);
     finds = refl;

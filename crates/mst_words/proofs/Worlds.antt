@@ -184,8 +184,7 @@ module _ (rows passes : ℕ) (first : Format) where
           seen = f.seen;
           told = f.told;
           own = f.own;
-          mine =
-              f.mine;
+          mine = f.mine;
           pinned = f.pinned;
         }))
         (λ (x : (i ≢ id) × SeatAt views i u). h.fits i u x.1)

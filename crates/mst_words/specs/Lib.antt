@@ -8,6 +8,7 @@ pub mod Steps
 pub mod Notes
 pub mod Stored
 pub mod Access
+pub mod Spelling
 pub mod Deeds
 pub mod Laws
 pub mod Moves

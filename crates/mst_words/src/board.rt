@@ -5,7 +5,7 @@ ghost use Rattle.mst_arena.specs.Limits.{most_rows};
 ghost use Rattle.mst_words.specs.Layout.{most_passes, table_words};
 ghost use Rattle.mst_words.specs.World.{dealer};
 
-use crate::rule::Law;
+use crate::rule::Rule;
 use crate::view::{Shape, View};
 use crate::words::first_words;
 use atomic_table::{Seat, Table};
@@ -22,7 +22,7 @@ pub type Token<A> = Seat<Option<Desk<A>>, View>;
 /// lies.
 #[derive(Drop)]
 pub struct Board<A: Allocator + Copy> {
-    pub(crate) table: Table<Option<Desk<A>>, View, Shape, Law<A>, A>,
+    pub(crate) table: Table<Option<Desk<A>>, View, Shape, Rule<A>, A>,
 }
 
 impl<A: Allocator + Copy> Model for Board<A> {

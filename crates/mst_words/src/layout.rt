@@ -15,6 +15,18 @@ pub const MOST_RECORDS: usize = 34;
 /// of its root digest, and the number of its format.
 pub const RECORD_WORDS: usize = 7;
 
+/// The word of a record that has the number of its version.
+pub const VERSION_WORD: usize = 0;
+
+/// The word of a record that has the link of its root.
+pub const ROOT_LINK_WORD: usize = 1;
+
+/// The first of the four words of a record's root digest.
+pub const FIRST_ROOT_DIGEST_WORD: usize = 2;
+
+/// The word of a record that has the number of its format.
+pub const FORMAT_WORD: usize = 6;
+
 /// How many words a row has.
 pub const ROW_WORDS: usize = 16;
 
@@ -54,11 +66,11 @@ pub(crate) const FIRST_DONE: usize = 2;
 /// The place of the first word of record 0.
 const FIRST_RECORD: usize = FIRST_DONE + MOST_RECORDS;
 
-/// The place of the first word of the digest in record 0, after the version and the link.
-pub(crate) const FIRST_DIGEST: usize = FIRST_RECORD + 2;
+/// The place of the first word of the digest in record 0.
+pub(crate) const FIRST_DIGEST: usize = FIRST_RECORD + FIRST_ROOT_DIGEST_WORD;
 
 /// The place of the word of the format in record 0.
-pub(crate) const FIRST_FORMAT: usize = FIRST_RECORD + 6;
+pub(crate) const FIRST_FORMAT: usize = FIRST_RECORD + FORMAT_WORD;
 
 /// How many words lie unused after the records. With them the first row begins where a cache line
 /// of 64 bytes does, if the table begins 16 bytes after such a place, as with glibc's allocator.

@@ -24,6 +24,15 @@ use std::alloc::Allocator;
 /// The word of the lengths of a key of 16 bytes and a value of 32.
 pub(crate) const COMMON_LENGTHS: u64 = 16 + 256 * 32;
 
+/// Which words of a row are stored.
+#[derive(Clone, Copy)]
+enum Storing {
+    /// Each, with no look at the one that stands there.
+    Each,
+    /// Those alone that are other than the one that stands there: it is loaded first.
+    Changed,
+}
+
 impl<A: Allocator + Copy> Board<A> {
     /// Word k of a row: one load.
     pub(crate) fn word(&self, seat: &mut Token<A>, row: u32, k: usize) -> u64
@@ -192,11 +201,10 @@ impl<A: Allocator + Copy> Board<A> {
         }
     }
 
-    /// Sets word k of a blank row to `value`. If it looks first, which is one load, it stores only
-    /// if another word stands there: a store costs some twenty times as much as a load. Where
-    /// almost always another word stands, it need not look.
+    /// Sets word k of a blank row to `value`. A store costs some twenty times as much as a load: so
+    /// it is dearer to store each word than those alone that change, unless almost all do.
     #[inline(always)]
-    fn store_word(&self, seat: &mut Token<A>, row: u32, k: usize, value: u64, looks: bool)
+    fn store_word(&self, seat: &mut Token<A>, row: u32, k: usize, value: u64, storing: Storing)
         requires own { IsAt self.now seat.old.table_id seat.old.me.0.rows }
         requires blank { IsTrue (may_write seat.old.me.0 row) }
         requires there { k < row_words }
@@ -209,10 +217,13 @@ impl<A: Allocator + Copy> Board<A> {
         ) }
         ensures room { row_word row 15 < length seat.old.me.0.known_words }
     {
-        if !looks {
-            self.store(seat, row_word(row, k), value);
-        } else if self.word(seat, row, k) != value {
-            self.store(seat, row_word(row, k), value);
+        match storing {
+            Storing::Each => self.store(seat, row_word(row, k), value),
+            Storing::Changed => {
+                if self.word(seat, row, k) != value {
+                    self.store(seat, row_word(row, k), value);
+                }
+            }
         }
     }
 
@@ -235,7 +246,7 @@ impl<A: Allocator + Copy> Board<A> {
             seat.old.me.0.known_words seat.new.me.0.known_words }
     {
         for k in 0..N {
-            self.store_word(seat, row, k, words[k], true);
+            self.store_word(seat, row, k, words[k], Storing::Changed);
         }
     }
 
@@ -243,15 +254,15 @@ impl<A: Allocator + Copy> Board<A> {
     /// them 0, as they are in the row that is copied. It returns the words that it copied.
     ///
     /// Each word is stored as soon as it is loaded, so no list of them is filled first and read
-    /// again; if it is told to, it looks first what stands there. The loops have a fixed number of
-    /// turns and no choice in them: so the compiler lays them out without a loop.
+    /// again. The loops have a fixed number of turns and no choice in them: so the compiler lays
+    /// them out without a loop.
     fn copy_part<const N: usize, const M: usize>(
         &self,
         seat: &mut Token<A>,
         from: u32,
         to: u32,
         at: usize,
-        looks: bool,
+        storing: Storing,
     ) -> [u64; N]
         requires own { IsAt self.now seat.old.table_id seat.old.me.0.rows }
         requires readable { may_read seat.old.me.0 from ≡ true }
@@ -273,10 +284,10 @@ impl<A: Allocator + Copy> Board<A> {
         for k in 0..N {
             let word = self.word(seat, from, at + k);
             words[k] = word;
-            self.store_word(seat, to, at + k, word, looks);
+            self.store_word(seat, to, at + k, word, storing);
         }
         for k in 0..M {
-            self.store_word(seat, to, at + (N + k), 0, true);
+            self.store_word(seat, to, at + (N + k), 0, Storing::Changed);
         }
         words
     }
@@ -301,8 +312,14 @@ impl<A: Allocator + Copy> Board<A> {
             seat.old.me.0.known_words seat.new.me.0.known_words }
     {
         if lengths == COMMON_LENGTHS {
-            self.copy_part::<2, 2>(seat, from, to, FIRST_KEY_WORD, false);
-            let [a, b, c, d] = self.copy_part::<4, 4>(seat, from, to, FIRST_VALUE_WORD, false);
+            self.copy_part::<2, 2>(seat, from, to, FIRST_KEY_WORD, Storing::Each);
+            let [a, b, c, d] = self.copy_part::<4, 4>(
+                seat,
+                from,
+                to,
+                FIRST_VALUE_WORD,
+                Storing::Each,
+            );
             [a, b, c, d, 0, 0, 0, 0]
         } else {
             let [_, _, _, _, a, b, c, d, e, f, g, h] = self.copy_part::<12, 0>(
@@ -310,7 +327,7 @@ impl<A: Allocator + Copy> Board<A> {
                 from,
                 to,
                 FIRST_KEY_WORD,
-                true,
+                Storing::Changed,
             );
             [a, b, c, d, e, f, g, h]
         }

@@ -6,11 +6,11 @@ use std::alloc::Allocator;
 use std::marker::PhantomData;
 
 /// It holds between any two steps, whichever seats make them.
-pub struct Law<A: Allocator> {
+pub struct Rule<A: Allocator> {
     desk: PhantomData<A>,
 }
 
-impl<A: Allocator> TableRule<Option<Desk<A>>, View, Shape> for Law<A> {
+impl<A: Allocator> TableRule<Option<Desk<A>>, View, Shape> for Rule<A> {
     ghost use Rattle.mst_words.specs.Rule.{Ruled};
     ghost use Rattle.mst_words.specs.Stored.{stored};
     ghost use Rattle.mst_words.specs.World.{dealer};

@@ -1,11 +1,10 @@
 //! The text of an entry, spelled from the words of its row.
-ghost use Rattle.std.specs.Prelude.{◌≡◌, ◌++◌, ℕ, List, IsSome, Some};
-ghost use Rattle.mst_key.specs.Bytes.{IsKey, IsValue};
-ghost use Rattle.mst_key.specs.Map.{Pair};
-ghost use Rattle.mst_node.specs.Text.{child_text, counted, held_of, held_text};
+ghost use Rattle.std.specs.Prelude.{◌≡◌, IsSome};
+ghost use Rattle.mst_key.specs.declared.format.Format.TheVariants.{One};
 ghost use Rattle.mst_arena.specs.Content.{part_at};
-ghost use Rattle.mst_arena.specs.Row.{keyed_links, entry_pair};
+ghost use Rattle.mst_arena.specs.Row.{keyed_links};
 ghost use Rattle.mst_words.specs.Access.{IsAt, content_of};
+ghost use Rattle.mst_words.specs.Spelling.{SpellsEntry, IsEntryInLimits};
 
 use crate::board::{Board, Token};
 use crate::layout::{FIRST_KEY_WORD, FIRST_VALUE_WORD, LENGTHS_WORD};
@@ -27,13 +26,9 @@ impl<A: Allocator + Copy> Board<A> {
     )
         requires own { IsAt self.now seat.old.table_id seat.old.me.0.rows }
         requires there { IsSome (part_at keyed_links (content_of seat.old.me.0) row) }
-        ensures entry { (pair : Pair)
-            → part_at entry_pair (content_of seat.old.me.0) row ≡ Some pair
-            → (m : List ℕ) → S.took sink.old m
-            → S.took sink.new (m ++ child_text child ++ counted pair.0 ++ counted pair.1) }
-        ensures limits { (pair : Pair)
-            → part_at entry_pair (content_of seat.old.me.0) row ≡ Some pair
-            → IsKey pair.0 × IsValue pair.1 }
+        ensures entry { SpellsEntry seat.old.me.0 row One child (S.took sink.old)
+            (S.took sink.new) }
+        ensures limits { IsEntryInLimits seat.old.me.0 row }
         ensures same { (seat.new.table_id ≡ seat.old.table_id) × (seat.new.id ≡ seat.old.id)
             × (seat.new.me ≡ seat.old.me) }
     {
@@ -55,14 +50,9 @@ impl<A: Allocator + Copy> Board<A> {
     )
         requires own { IsAt self.now seat.old.table_id seat.old.me.0.rows }
         requires there { IsSome (part_at keyed_links (content_of seat.old.me.0) row) }
-        ensures entry { (pair : Pair)
-            → part_at entry_pair (content_of seat.old.me.0) row ≡ Some pair
-            → (m : List ℕ) → S.took sink.old m
-            → S.took sink.new (m ++ child_text child ++ counted pair.0
-            ++ held_text format (held_of format pair.1)) }
-        ensures limits { (pair : Pair)
-            → part_at entry_pair (content_of seat.old.me.0) row ≡ Some pair
-            → IsKey pair.0 × IsValue pair.1 }
+        ensures entry { SpellsEntry seat.old.me.0 row format child (S.took sink.old)
+            (S.took sink.new) }
+        ensures limits { IsEntryInLimits seat.old.me.0 row }
         ensures same { (seat.new.table_id ≡ seat.old.table_id) × (seat.new.id ≡ seat.old.id)
             × (seat.new.me ≡ seat.old.me) }
     {
@@ -83,14 +73,9 @@ impl<A: Allocator + Copy> Board<A> {
     )
         requires own { IsAt self.now seat.old.table_id seat.old.me.0.rows }
         requires there { IsSome (part_at keyed_links (content_of seat.old.me.0) row) }
-        ensures entry { (pair : Pair)
-            → part_at entry_pair (content_of seat.old.me.0) row ≡ Some pair
-            → (m : List ℕ) → S.took sink.old m
-            → S.took sink.new (m ++ child_text child ++ counted pair.0
-            ++ held_text format (held_of format pair.1)) }
-        ensures limits { (pair : Pair)
-            → part_at entry_pair (content_of seat.old.me.0) row ≡ Some pair
-            → IsKey pair.0 × IsValue pair.1 }
+        ensures entry { SpellsEntry seat.old.me.0 row format child (S.took sink.old)
+            (S.took sink.new) }
+        ensures limits { IsEntryInLimits seat.old.me.0 row }
         ensures same { (seat.new.table_id ≡ seat.old.table_id) × (seat.new.id ≡ seat.old.id)
             × (seat.new.me ≡ seat.old.me) }
     {
@@ -114,14 +99,9 @@ impl<A: Allocator + Copy> Board<A> {
     )
         requires own { IsAt self.now seat.old.table_id seat.old.me.0.rows }
         requires there { IsSome (part_at keyed_links (content_of seat.old.me.0) row) }
-        ensures entry { (pair : Pair)
-            → part_at entry_pair (content_of seat.old.me.0) row ≡ Some pair
-            → (m : List ℕ) → S.took sink.old m
-            → S.took sink.new (m ++ child_text child ++ counted pair.0
-            ++ held_text format (held_of format pair.1)) }
-        ensures limits { (pair : Pair)
-            → part_at entry_pair (content_of seat.old.me.0) row ≡ Some pair
-            → IsKey pair.0 × IsValue pair.1 }
+        ensures entry { SpellsEntry seat.old.me.0 row format child (S.took sink.old)
+            (S.took sink.new) }
+        ensures limits { IsEntryInLimits seat.old.me.0 row }
         ensures same { (seat.new.table_id ≡ seat.old.table_id) × (seat.new.id ≡ seat.old.id)
             × (seat.new.me ≡ seat.old.me) }
     {

@@ -15,7 +15,7 @@ const PINS: &[u8] = b"1 pin\n2 put 61 30\n2 pin\n3 put 61 31\n1 get 61\n4 pin\n3
 
 const PINNED: &[u8] = b"pinned 0\nnone\npinned 1\nsome 30\nnone\npinned 2\nheld\n";
 
-// Each pass writes and counts, which no pinned pass does; a version that is kept would leave too
+// Each pass writes and counts, which no pinned pass does; a version that is live would leave too
 // little room.
 const AGAIN: &[u8] =
     b"1 put 61 31\n1 rows\n2 put 61 32\n2 rows\n3 put 61 33\n3 rows\n4 put 61 34\n4 rows\n";

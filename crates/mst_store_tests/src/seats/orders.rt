@@ -9,7 +9,7 @@ ghost use Rattle.mst_words.specs.World.{dealer};
 
 use crate::confirming::confirm_at;
 use crate::seats::seated::{Free, Held};
-use crate::seats::tables::{numbers, opened};
+use crate::seats::tables::{opened, parameters};
 use mst_key::{Format, Key, Value};
 use mst_pin::{Answer, Core, Event};
 use mst_words::{Board, Token};
@@ -199,15 +199,15 @@ fn three_passes<'a>(
 {
     let one = Free {
         seat: board.deal(token),
-        numbers: numbers(1, 3, 6),
+        parameters: parameters(1, 3, 6),
     };
     let two = Free {
         seat: board.deal(token),
-        numbers: numbers(2, 3, 6),
+        parameters: parameters(2, 3, 6),
     };
     let three = Free {
         seat: board.deal(token),
-        numbers: numbers(3, 3, 6),
+        parameters: parameters(3, 3, 6),
     };
     (one, two, three)
 }

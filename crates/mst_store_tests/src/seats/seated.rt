@@ -4,9 +4,10 @@ ghost use Rattle.mst_key.specs.History.{IsMigration, IsBatch};
 ghost use Rattle.mst_words.specs.Layout.{most_records};
 
 use mst_key::{Change, Edit, Event, Format, Key, Memory, Value};
-use mst_versions::reading::{self, PinnedRoot};
+use mst_versions::reading::{self, PinnedVersion};
 use mst_versions::{
-    ApplyFault, Busy, MigrateFault, Numbers, WriteFault, applying, counting, migrating, writing,
+    ApplyFault, Busy, MigrateFault, PassParameters, WriteFault, applying, counting, migrating,
+    writing,
 };
 use mst_words::PassSeat;
 use std::alloc::Global;
@@ -16,7 +17,7 @@ use std::marker::Model;
 #[derive(Drop)]
 pub(crate) struct Free<'a> {
     pub(crate) seat: PassSeat<'a, Global>,
-    pub(crate) numbers: Numbers,
+    pub(crate) parameters: PassParameters,
 }
 
 impl<'a> Model for Free<'a> {
@@ -27,15 +28,15 @@ impl<'a> Model for Free<'a> {
 
     ghost view = { λ p. p.seat };
 
-    ghost invariant = { λ p. IsFreeSeat p.numbers p.seat };
+    ghost invariant = { λ p. IsFreeSeat p.parameters p.seat };
 }
 
 /// A pass that pins a version.
 #[derive(Drop)]
 pub(crate) struct Held<'a> {
     seat: PassSeat<'a, Global>,
-    at: PinnedRoot,
-    numbers: Numbers,
+    at: PinnedVersion,
+    parameters: PassParameters,
 }
 
 impl<'a> Model for Held<'a> {
@@ -46,14 +47,21 @@ impl<'a> Model for Held<'a> {
 
     ghost view = { λ p. p.seat };
 
-    ghost invariant = { λ p. IsHeldSeat p.numbers p.at p.seat };
+    ghost invariant = { λ p. IsHeldSeat p.parameters p.at p.seat };
 }
 
 impl<'a> Free<'a> {
     pub(crate) fn pin(self) -> Held<'a> {
-        let Free { mut seat, numbers } = self;
-        let at = reading::pin(&mut seat, numbers);
-        Held { seat, at, numbers }
+        let Free {
+            mut seat,
+            parameters,
+        } = self;
+        let at = reading::pin(&mut seat, parameters);
+        Held {
+            seat,
+            at,
+            parameters,
+        }
     }
 
     // Makes a change of a key, and returns the value that it had.
@@ -62,10 +70,10 @@ impl<'a> Free<'a> {
         requires single { IsBatch change → ⊥ }
     {
         let event = Event {
-            pass: self.numbers.number,
+            pass: self.parameters.number,
             change,
         };
-        let (old, _) = writing::write(&mut self.seat, self.numbers, &event)?;
+        let (old, _) = writing::write(&mut self.seat, self.parameters, &event)?;
         Ok(old)
     }
 
@@ -78,20 +86,20 @@ impl<'a> Free<'a> {
     }
 
     pub(crate) fn apply(&mut self, alloc: Global, edits: &[Edit]) -> Result<u64, ApplyFault> {
-        applying::apply(&mut self.seat, alloc, self.numbers, edits)
+        applying::apply(&mut self.seat, alloc, self.parameters, edits)
     }
 
     pub(crate) fn migrate(&mut self, alloc: Global, to: Format) -> Result<Format, MigrateFault> {
-        let (was, _) = migrating::migrate(&mut self.seat, alloc, self.numbers, to)?;
+        let (was, _) = migrating::migrate(&mut self.seat, alloc, self.parameters, to)?;
         Ok(was)
     }
 
     pub(crate) fn rows(&mut self) -> Result<Option<u32>, Busy> {
-        counting::rows(&mut self.seat, self.numbers)
+        counting::rows(&mut self.seat, self.parameters)
     }
 
     pub(crate) fn free_rows(&mut self) -> Result<u32, Busy> {
-        counting::free_rows(&mut self.seat, self.numbers)
+        counting::free_rows(&mut self.seat, self.parameters)
     }
 
     /// Who pins the record, by what the words say now, as a mask of their bits.
@@ -137,9 +145,9 @@ impl<'a> Held<'a> {
         let Held {
             mut seat,
             at,
-            numbers,
+            parameters,
         } = self;
-        seat.unpin(numbers.number, at.pinned);
-        Free { seat, numbers }
+        seat.unpin(parameters.number, at.pinned);
+        Free { seat, parameters }
     }
 }

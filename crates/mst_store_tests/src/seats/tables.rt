@@ -8,7 +8,7 @@ ghost use Rattle.mst_key.specs.declared.format.Format.TheVariants.{One};
 
 use mst_arena::Desk;
 use mst_key::{Change, Event, Format, Key, Memory, Value};
-use mst_versions::Numbers;
+use mst_versions::PassParameters;
 use mst_words::{Board, Shape, Token};
 use std::alloc::Allocator;
 use std::test::Fail;
@@ -33,11 +33,11 @@ pub(crate) fn opened<A: Allocator + Copy>(
     Board::open(alloc, shape, desk)
 }
 
-// The numbers of a pass of a table for this many passes and rows.
-pub(crate) fn numbers(number: u32, passes: u32, rows: u32) -> Numbers
+// The parameters of a pass of a table for this many passes and rows.
+pub(crate) fn parameters(number: u32, passes: u32, rows: u32) -> PassParameters
     ensures { result ≡ record { number = number; passes = passes; rows = rows } }
 {
-    Numbers {
+    PassParameters {
         number,
         passes,
         rows,

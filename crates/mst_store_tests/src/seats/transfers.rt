@@ -1,7 +1,7 @@
 //! Who pins a record, by what the words say, while another pass publishes.
 ghost use Rattle.mst_versions.specs.Turns.{HasMade};
 
-use crate::seats::tables::{numbers, opened, putting};
+use crate::seats::tables::{opened, parameters, putting};
 use mst_arena::Root;
 use mst_key::Event;
 use mst_versions::reading::pin;
@@ -47,9 +47,9 @@ fn a_publication_leaves_the_pins_to_its_transfer(rt: HostRuntime) -> Result<(), 
     let mut first = board.deal(&mut dealer);
     let mut second = board.deal(&mut dealer);
     let event = putting(1, b"1")?;
-    let at = pin(&mut second, numbers(2, 2, 4));
+    let at = pin(&mut second, parameters(2, 2, 4));
     assert!(rt; second.pins(at.pinned) == 2);
-    let Ok(mut turn) = begin_write(&mut first, numbers(1, 2, 4)) else {
+    let Ok(mut turn) = begin_write(&mut first, parameters(1, 2, 4)) else {
         panic!(rt; "the turn is free")
     };
     let Ok((root, _)) = make(&mut first, &mut turn, &event.change) else {
@@ -70,11 +70,11 @@ fn a_write_keeps_the_pins_of_the_record_before(rt: HostRuntime) -> Result<(), Fa
     };
     let mut first = board.deal(&mut dealer);
     let mut second = board.deal(&mut dealer);
-    let old = pin(&mut second, numbers(2, 2, 4));
-    let Ok((None, _)) = write(&mut first, numbers(1, 2, 4), &putting(1, b"1")?) else {
+    let old = pin(&mut second, parameters(2, 2, 4));
+    let Ok((None, _)) = write(&mut first, parameters(1, 2, 4), &putting(1, b"1")?) else {
         panic!(rt; "the map was empty")
     };
-    let new = pin(&mut first, numbers(1, 2, 4));
+    let new = pin(&mut first, parameters(1, 2, 4));
     assert!(rt; first.pins(old.pinned) == 2 && first.pins(new.pinned) == 1);
     second.unpin(2, old.pinned);
     first.unpin(1, new.pinned);

@@ -8,9 +8,9 @@ ghost use Rattle.mst_key.specs.declared.format.Format.TheVariants.{One};
 use crate::confirming::confirm_at;
 use crate::fixtures::{key, value};
 use crate::seats::seated::Free;
-use crate::seats::tables::{numbers, opened};
+use crate::seats::tables::{opened, parameters};
 use mst_key::{Key, Value};
-use mst_versions::turn::{NotBegun, begin, begin_write, give_back};
+use mst_versions::turn::{BeginFault, begin, begin_write, give_back};
 use mst_versions::{ApplyFault, Busy, WriteFault};
 use mst_words::{Board, Token};
 use std::alloc::Global;
@@ -23,15 +23,15 @@ fn one_pass_has_the_turn(rt: HostRuntime) {
     };
     let mut first = board.deal(&mut dealer);
     let mut second = board.deal(&mut dealer);
-    let Some(turn) = begin(&mut first, numbers(1, 2, 4)) else {
+    let Some(turn) = begin(&mut first, parameters(1, 2, 4)) else {
         panic!(rt; "the turn is free")
     };
     assert!(rt; turn.root.link == 0 && turn.into != 0 && turn.desk.free() == 4);
-    if let Some(_) = begin(&mut second, numbers(2, 2, 4)) {
+    if let Some(_) = begin(&mut second, parameters(2, 2, 4)) {
         panic!(rt; "the first pass has the turn")
     }
     give_back(&mut first, turn);
-    let Some(turn) = begin(&mut first, numbers(1, 2, 4)) else {
+    let Some(turn) = begin(&mut first, parameters(1, 2, 4)) else {
         panic!(rt; "the turn is free again")
     };
     give_back(&mut first, turn);
@@ -44,11 +44,11 @@ fn a_write_is_begun_by_one_pass(rt: HostRuntime) {
     };
     let mut first = board.deal(&mut dealer);
     let mut second = board.deal(&mut dealer);
-    let Ok(turn) = begin_write(&mut first, numbers(1, 2, 4)) else {
+    let Ok(turn) = begin_write(&mut first, parameters(1, 2, 4)) else {
         panic!(rt; "the turn is free")
     };
-    match begin_write(&mut second, numbers(2, 2, 4)) {
-        Err(NotBegun::Busy) => {}
+    match begin_write(&mut second, parameters(2, 2, 4)) {
+        Err(BeginFault::Busy) => {}
         _ => panic!(rt; "the first pass has the turn"),
     }
     give_back(&mut first, turn);
@@ -62,11 +62,11 @@ fn both_passes<'a>(board: &'a Board<Global>, token: &mut Token<Global>) -> (Free
 {
     let first = Free {
         seat: board.deal(token),
-        numbers: numbers(1, 2, 8),
+        parameters: parameters(1, 2, 8),
     };
     let second = Free {
         seat: board.deal(token),
-        numbers: numbers(2, 2, 8),
+        parameters: parameters(2, 2, 8),
     };
     (first, second)
 }
@@ -140,8 +140,11 @@ fn a_pass_that_finds_the_turn_taken_is_told_so_and_reads_on(rt: HostRuntime) {
     assert!(rt; adds(&mut first, &abc, &x));
     assert!(rt; adds(&mut second, &a, &one));
     let (mut second, before) = read_all(&rt, rt.alloc(), second, &abc);
-    let Free { mut seat, numbers } = first;
-    assert!(rt; seat.take_turn(numbers.number));
+    let Free {
+        mut seat,
+        parameters,
+    } = first;
+    assert!(rt; seat.take_turn(parameters.number));
     for round in 0..3usize {
         confirm_at(&rt, is_refused(rt.alloc(), &mut second, &abc, &one), round);
         confirm_at(&rt, is_not_counted(&mut second), round);

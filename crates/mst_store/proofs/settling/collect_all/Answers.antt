@@ -3,12 +3,12 @@ use Rattle.std.proofs.lemmas.List.{set-get_or}
 use Rattle.mst_key.specs.History.{IsPrefix}
 use Rattle.mst_key.proofs.HistoryLaws.{IsPrefix-chain}
 use Rattle.mst_store.specs.Passes.{Known}
-use Rattle.mst_versions.specs.Turns.{Seat}
+use Rattle.mst_versions.specs.Turns.{SeatState}
 use Rattle.mst_store.proofs.Courier.{one_more, goes_on}
 use Rattle.mst_store.proofs.settling.collect_all.Goals as goal
 
 pub loop-pass-preserved : goal.loop-pass-preserved
-loop-pass-preserved g c = let m : Seat = c.loop-pass.courier.me in let n : Seat =
+loop-pass-preserved g c = let m : SeatState = c.loop-pass.courier.me in let n : SeatState =
     c.collect.new.courier.me in
     let at : ℕ = c.loop-pass.pass-index in let p : Known = c.pass-item.result in let i =
     c.loop-pass.invariant in let e = c.collect.ensures in record {

@@ -2,12 +2,12 @@ use Rattle.std.proofs.Common.{◌≡◌, ℕ, List, get_or, set, ap, ◌∙◌, 
 use Rattle.mst_key.specs.History.{IsPrefix}
 use Rattle.mst_key.proofs.HistoryLaws.{IsPrefix-chain}
 use Rattle.mst_store.specs.Passes.{Known, having_asked}
-use Rattle.mst_versions.specs.Turns.{Seat}
+use Rattle.mst_versions.specs.Turns.{SeatState}
 use Rattle.mst_store.proofs.Courier.{one_more, goes_on, changed_at, changed_next}
 use Rattle.mst_store.proofs.settling.collect_held.Goals as goal
 
 pub loop-pinned-preserved : goal.loop-pinned-preserved
-loop-pinned-preserved g c = let m : Seat = c.loop-pinned.courier.me in let n : Seat =
+loop-pinned-preserved g c = let m : SeatState = c.loop-pinned.courier.me in let n : SeatState =
     c.collect_pinned.new.courier.me in
     let at : ℕ = c.loop-pinned.pinned-index in let p : Known = c.pinned-item.result in let i =
     c.loop-pinned.invariant in let e = c.collect_pinned.ensures in

@@ -1,7 +1,7 @@
 use Rattle.std.proofs.Common.{◌≡◌, ℕ, List, get_or, set, ap, ◌∙◌, sym, subst}
 use Rattle.mst_key.specs.History.{History, events_of, IsPrefix}
 use Rattle.mst_store.specs.Passes.{Known}
-use Rattle.mst_versions.specs.Turns.{Seat}
+use Rattle.mst_versions.specs.Turns.{SeatState}
 use Rattle.mst_store.specs.Settling.{having_seen}
 use Rattle.mst_store.proofs.Courier.{one_more, changed_at, changed_next}
 use Rattle.mst_store.proofs.settling.deliver_all.Goals as goal
@@ -12,7 +12,7 @@ deliver-requires-clause-later g c = let log : History = c.args.courier.now.me.0.
     let here : get_or c.loop-pass.line at p ≡ get_or c.args.line.now at p =
     ap (λ (l : List Known). get_or l at p) i.now ∙ changed_at (having_seen log) c.args.line.now
     at p in
-    subst (λ (m : Seat). IsPrefix (get_or c.loop-pass.line at p).seen m.0.seen) (sym i.courier)
+    subst (λ (m : SeatState). IsPrefix (get_or c.loop-pass.line at p).seen m.0.seen) (sym i.courier)
     (subst (λ (q : Known). IsPrefix q.seen log) (sym here)
     (c.requires.later at p c.loop-pass-test.true))
 
@@ -23,7 +23,7 @@ loop-pass-preserved g c = let log : History = c.args.courier.now.me.0.seen in le
     let here : get_or c.loop-pass.line at p ≡ get_or c.args.line.now at p =
     ap (λ (l : List Known). get_or l at p) i.now ∙ changed_at (having_seen log) c.args.line.now
     at p in
-    let heard : c.loop-pass.courier.me.0.seen ≡ log = ap (λ (m : Seat). m.0.seen) i.courier in
+    let heard : c.loop-pass.courier.me.0.seen ≡ log = ap (λ (m : SeatState). m.0.seen) i.courier in
     let is : c.deliver.new.pass ≡ having_seen log (get_or c.args.line.now at p) =
     e.now ∙ (λ t. having_seen (heard t) (here t)) in record {
       table = e.table ∙ i.table;

@@ -3,7 +3,7 @@ use Rattle.std.proofs.lemmas.Grind.{common_steps}
 use Rattle.mst_key.specs.History.{History, events_of}
 use Rattle.mst_key.proofs.HistoryLaws.{IsPrefix-chain}
 use Rattle.mst_words.specs.Notes.{IsOfPasses}
-use Rattle.mst_versions.specs.Turns.{Seat}
+use Rattle.mst_versions.specs.Turns.{SeatState}
 use Rattle.mst_versions.specs.Known.{Known}
 use Rattle.mst_store.specs.Settling.{having_seen}
 use Rattle.mst_store.proofs.settling.meet.Goals as goal
@@ -40,7 +40,7 @@ returns g c =
         now = (
           c.deliver.ensures.now ∙ ap (having_seen log) first,
           c.deliver-2.ensures.now
-              ∙ ap (λ (m : Seat). having_seen m.0.seen c.collect.new.pass) told
+              ∙ ap (λ (m : SeatState). having_seen m.0.seen c.collect.new.pass) told
               ∙ ap (having_seen log) second,
         );
         later = (
@@ -51,7 +51,7 @@ returns g c =
         own = (
           subst (λ (p : Known). events_of p.number log ≡ p.mine) first c.deliver.ensures.own,
           subst (λ (p : Known). events_of p.number log ≡ p.mine) second
-              (subst (λ (m : Seat). events_of c.collect.new.pass.number m.0.seen
+              (subst (λ (m : SeatState). events_of c.collect.new.pass.number m.0.seen
               ≡ c.collect.new.pass.mine) told c.deliver-2.ensures.own),
         );
         alone = subst (λ (n : ℕ). IsOfPasses n log)

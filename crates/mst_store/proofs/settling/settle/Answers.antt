@@ -5,7 +5,7 @@ use Rattle.std.specs.List.{All}
 use Rattle.std.proofs.lemmas.List.Elements.{All-append, All-map}
 use Rattle.mst_key.specs.History.{History, events_of, IsPrefix}
 use Rattle.mst_store.specs.Passes.{StoreId, Known, new_pass, having_asked}
-use Rattle.mst_versions.specs.Turns.{Seat}
+use Rattle.mst_versions.specs.Turns.{SeatState}
 use Rattle.mst_store.specs.Settling.{having_seen, IsBeside}
 use Rattle.mst_store.proofs.AllPasses.{all_of_front, all_of_back}
 use Rattle.mst_store.proofs.Courier.{beside_on, later_on, asked_beside, asked_thrice, all_before, all_alone}
@@ -43,7 +43,8 @@ deliver_held-requires-clause-own g c = let first = c.in-Some.courier in let end 
     c.collect_held.ensures in let back = c.deliver_all.ensures in
     beside_on first.table end.table first.me end.me c.collect_held.new.line
     (back.table ∙ held.table ∙ there.table)
-    (ap (λ (m : Seat). m.0.passes) back.same ∙ held.courier.passes_is ∙ there.courier.passes_is)
+    (ap (λ (m : SeatState). m.0.passes) back.same ∙ held.courier.passes_is
+    ∙ there.courier.passes_is)
     (subst (All (IsBeside first.table first.me.0.passes))
     (sym (held.asked ∙ ap (map (having_asked 1)) c.first_courier.ensures.same.1))
     (asked_beside first.table first.me.0.passes 1 c.args.held.now
@@ -55,7 +56,7 @@ deliver_held-requires-clause-later g c = let held = c.collect_held.ensures in le
     c.deliver_all.new.courier.me.0.seen in
     subst (All (λ p. IsPrefix p.seen h)) (sym held.asked)
     (All-map (λ (p : Known). IsPrefix p.seen h) (having_asked 1) c.first_courier.new.held
-    (subst (λ (m : Seat). All (λ p. IsPrefix p.seen m.0.seen) c.first_courier.new.held)
+    (subst (λ (m : SeatState). All (λ p. IsPrefix p.seen m.0.seen) c.first_courier.new.held)
     (sym c.deliver_all.ensures.same) held.later))
 
 pub returns : goal.returns
@@ -83,7 +84,7 @@ returns g c = let w = c.requires.whole in let free : List Known = c.args.free.no
             (all_before (λ (p : Known). events_of p.number log ≡ p.mine) (having_asked 1)
             c.first_courier.new.held
             (subst (All (λ p. events_of p.number log ≡ p.mine)) pinned.asked
-            (subst (λ (m : Seat). All (λ p. events_of p.number m.0.seen ≡ p.mine)
+            (subst (λ (m : SeatState). All (λ p. events_of p.number m.0.seen ≡ p.mine)
             c.collect_held.new.line) back.same home.own))));
         alone = all_alone (free ++ held) last.me.0.passes log w
             (pinned.courier.passes_is ∙ there.courier.passes_is ∙ sym beside.passes_is

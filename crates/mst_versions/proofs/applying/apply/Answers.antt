@@ -18,10 +18,11 @@ returns-in-Ok-make_batch-clause-wrote g c =
     let made = c.in-Ok-make_batch in
     let last = c.publish in
     let same : IsSameSeat c.args.seat.now last.new.seat = search rules in
-    let event : List Edit → Event = λ es. record { pass = c.args.numbers.number; change = Batch es }
+    let event : List Edit → Event =
+    λ es. record { pass = c.args.parameters.number; change = Batch es }
     in
     wrote c.args.seat.now c.begin_write.new.seat.me c.in-Ok.turn c.in-Ok.ensures.begun
-    c.args.numbers.number c.requires.rest.free.3 (Batch c.args.edits.now) made.root done
+    c.args.parameters.number c.requires.rest.free.3 (Batch c.args.edits.now) made.root done
     c.make_batch.new.turn c.make_batch.new.seat.me last.new.seat last.result same
     made.ensures.made
     (subst (λ (es : List Edit). Added (event es) c.make_batch.new.seat.me last.new.seat.me)
@@ -36,7 +37,8 @@ returns-in-Err-NoRoom-clause-refused g c =
     let lacks = subst (λ (why : NotApplied). LacksEdits why c.args.edits.now t
     c.begin_write.new.seat.me) is why.lacks in
     let same : IsSameSeat c.args.seat.now back.new.seat = search rules in
-    refused c.args.seat.now c.begin_write.new.seat.me t c.in-Ok.ensures.begun c.args.numbers.number
+    refused c.args.seat.now c.begin_write.new.seat.me t c.in-Ok.ensures.begun
+    c.args.parameters.number
     c.requires.rest.free.3 c.make_batch.new.seat.me back.new.seat same
     (ap (λ (z : Seated). z.me) why.untouched.1) back.ensures.gave (Batch c.args.edits.now)
     c.in-Ok.ensures.room lacks
@@ -130,7 +132,7 @@ returns-in-Err-Memory-clause-refused g c =
     let several = subst (λ (why : NotApplied). LacksEdits why c.args.edits.now t
     c.begin_write.new.seat.me) c.in-Err-Memory.field-0-is why.lacks in
     batch_memory c.args.seat.now c.begin_write.new.seat.me t c.in-Ok.ensures.begun
-    c.args.numbers.number
+    c.args.parameters.number
     c.requires.rest.free.3 c.make_batch.new.seat.me back.new.seat same
     (ap (λ (z : Seated). z.me) why.untouched.1) back.ensures.gave c.args.edits.now
     c.in-Err-Memory.refused c.in-Ok.ensures.room several

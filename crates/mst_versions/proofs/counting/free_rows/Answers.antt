@@ -13,5 +13,5 @@ pub returns-clause-counted : goal.returns-clause-counted
 returns-clause-counted g c =
     let same : IsSameSeat c.args.seat.now c.give_back.new.seat = search rules in
     counted_free c.args.seat.now c.begin.new.seat.me c.in-Some.turn c.in-Some.ensures.begun
-    c.args.numbers.number c.requires.rest.free.3 c.free-free.result c.free-free.ensures.count
+    c.args.parameters.number c.requires.rest.free.3 c.free-free.result c.free-free.ensures.count
     c.give_back.new.seat same c.give_back.ensures.gave

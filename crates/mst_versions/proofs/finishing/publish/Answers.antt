@@ -3,7 +3,7 @@ use Rattle.std.proofs.Common.{ℕ, ◌+◌, Some, None, [], ◌∷◌, ◌++◌,
 use Rattle.mst_arena.specs.Lives.{State}
 use Rattle.mst_words.specs.Access.{Seated}
 use Rattle.mst_words.specs.Stored.{desk_state}
-use Rattle.mst_versions.specs.Turns.{Seat}
+use Rattle.mst_versions.specs.Turns.{SeatState}
 use Rattle.mst_versions.proofs.Ready.{readying, giving}
 use Rattle.mst_versions.proofs.finishing.publish.Goals as goal
 
@@ -23,9 +23,9 @@ give_turn-requires g c = let made = c.requires.made in let w = c.write_root in l
           made
           w.new.seat.me.0.known_words w.ensures.others (w.ensures.version ∙ v) w.ensures.root
           w.ensures.number s p.mask c.return_desk.new.self.me c.advance.ensures.current
-          (c.return_desk.ensures.returned ∙ ap (λ (z : Seat). (z.0, (0, Some s) ∷ []))
+          (c.return_desk.ensures.returned ∙ ap (λ (z : SeatState). (z.0, (0, Some s) ∷ []))
           c.transfer.ensures.settled
-          ∙ ap (λ (z : Seat). (record z.0 { due = None }, (0, Some s) ∷ [])) p.is
+          ∙ ap (λ (z : SeatState). (record z.0 { due = None }, (0, Some s) ∷ [])) p.is
           ∙ ap (λ (z : Seated). (
             record z.me.0 {
               seen = z.me.0.seen ++ c.args.event.now ∷ [];

@@ -2,8 +2,8 @@ use Rattle.std.proofs.Common.{◌≡◌, ap, subst, rules}
 use Rattle.mst_key.specs.declared.history.Change.TheVariants.{Migrate}
 use Rattle.mst_key.specs.History.{was}
 use Rattle.mst_words.specs.Access.{Seated, IsSameSeat}
-use Rattle.mst_versions.specs.declared.migrating.NotMoved.{NotMoved}
-use Rattle.mst_versions.specs.declared.migrating.NotMoved.TheVariants.{NoRoom}
+use Rattle.mst_versions.specs.declared.migrating.TreeFault.{TreeFault}
+use Rattle.mst_versions.specs.declared.migrating.TreeFault.TheVariants.{NoRoom}
 use Rattle.mst_versions.specs.Migrating.{LacksTree}
 use Rattle.mst_versions.proofs.Migrated.{refused_memory, refused_room}
 use Rattle.mst_versions.proofs.Shown.{busy_at, spent_at}
@@ -16,7 +16,7 @@ returns-in-Ok-make_move-clause-wrote g c =
     let done = c.in-Ok-make_move in
     let last = c.publish-version in
     let same : IsSameSeat c.args.seat.now last.new.seat = search rules in
-    wrote c.args.seat.now c.begin_write.new.seat.me t c.in-Ok.ensures.begun c.args.numbers.number
+    wrote c.args.seat.now c.begin_write.new.seat.me t c.in-Ok.ensures.begun c.args.parameters.number
     c.requires.rest.free.3 (Migrate c.args.to) done.root (was t.format) c.make_move.new.turn
     c.make_move.new.seat.me last.new.seat last.result same done.ensures.made last.ensures.added
     last.ensures.version c.in-Ok.ensures.room
@@ -27,11 +27,11 @@ returns-in-Err-NoRoom-clause-refused g c =
     let refused = c.in-Err-NoRoom.ensures in
     let back = c.give_back-in-Err-NoRoom in
     let is : c.in-Err-NoRoom.field-0 ≡ NoRoom = search rules in
-    let lacks = subst (λ (why : NotMoved). LacksTree why c.args.to t c.begin_write.new.seat.me)
+    let lacks = subst (λ (why : TreeFault). LacksTree why c.args.to t c.begin_write.new.seat.me)
     is refused.lacks in
     let same : IsSameSeat c.args.seat.now back.new.seat = search rules in
     refused_room c.args.seat.now c.begin_write.new.seat.me t c.in-Ok.ensures.begun
-    c.args.numbers.number
+    c.args.parameters.number
     c.requires.rest.free.3 c.make_move.new.seat.me back.new.seat same
     (ap (λ (z : Seated). z.me) refused.untouched.1) back.ensures.gave c.args.to lacks.0
     c.in-Ok.ensures.room lacks.1
@@ -48,10 +48,10 @@ returns-in-Err-Memory-clause-refused g c =
     let why = c.in-Err-Memory.ensures in
     let back = c.give_back in
     let same : IsSameSeat c.args.seat.now back.new.seat = search rules in
-    let other = subst (λ (why : NotMoved). LacksTree why c.args.to t c.begin_write.new.seat.me)
+    let other = subst (λ (why : TreeFault). LacksTree why c.args.to t c.begin_write.new.seat.me)
     c.in-Err-Memory.field-0-is why.lacks in
     refused_memory c.args.seat.now c.begin_write.new.seat.me t c.in-Ok.ensures.begun
-    c.args.numbers.number
+    c.args.parameters.number
     c.requires.rest.free.3 c.make_move.new.seat.me back.new.seat same
     (ap (λ (z : Seated). z.me) why.untouched.1) back.ensures.gave c.args.to other
     c.in-Ok.ensures.room c.in-Err-Memory.refused

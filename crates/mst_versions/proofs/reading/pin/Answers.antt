@@ -1,7 +1,7 @@
 use Rattle.std.proofs.Common.{rules}
 use Rattle.std.proofs.Common.{ℕ, ◌≤◌, sym, subst}
 use Rattle.mst_words.specs.Access.{Seated}
-use Rattle.mst_versions.specs.Pinned.{Pins}
+use Rattle.mst_versions.specs.Pinned.{PinsVersion}
 use Rattle.mst_versions.proofs.Pinning.{pinned_link, pinned_root}
 use Rattle.mst_versions.proofs.reading.pin.Goals as goal
 
@@ -12,7 +12,7 @@ read_link-version-requires-clause-link g c = let p = c.pin-pinned.ensures.pinned
 
 pub returns-clause-pinned : goal.returns-clause-pinned
 returns-clause-pinned g c = let p = c.pin-pinned.ensures.pinned in let r = c.read_link-version in
-    subst (λ (z : Seated). Pins c.args.seat.now.me record {
+    subst (λ (z : Seated). PinsVersion c.args.seat.now.me record {
       pinned = c.pin-pinned.result;
       version =
           r.result.0;

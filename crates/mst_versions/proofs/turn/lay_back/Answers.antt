@@ -2,7 +2,7 @@ use Rattle.std.proofs.Common.{rules}
 use Rattle.std.proofs.Common.{Some, sym, subst}
 use Rattle.mst_words.specs.Steps.{IsGiving}
 use Rattle.mst_words.specs.Stored.{stored, desk_state}
-use Rattle.mst_versions.specs.Turns.{Seat}
+use Rattle.mst_versions.specs.Turns.{SeatState}
 use Rattle.mst_versions.proofs.turn.lay_back.Goals as goal
 
 pub give_turn-requires : goal.give_turn-requires
@@ -11,7 +11,7 @@ give_turn-requires g c =
       giving = (
         Some c.args.desk,
         desk_state c.args.desk,
-        subst (λ (z : Seat). IsGiving (stored z.0.format) (Some c.args.desk)
+        subst (λ (z : SeatState). IsGiving (stored z.0.format) (Some c.args.desk)
             (desk_state c.args.desk) z)
             (sym c.return_desk.ensures.returned) c.requires.giving,
       );

@@ -1,7 +1,7 @@
 use Rattle.std.proofs.Common.{rules, ◌≤◌, sym, ap, subst, ◌∙◌}
 use Rattle.mst_words.specs.Access.{Seated}
 use Rattle.mst_words.specs.Records.{field}
-use Rattle.mst_versions.specs.Turns.{Seat, HasTurn}
+use Rattle.mst_versions.specs.Turns.{SeatState, HasTurn}
 use Rattle.mst_versions.proofs.Asking.{only_asked, all_asked, knows, none_drained, none_blocked}
 use Rattle.mst_versions.proofs.Beginning.{link_there, number_there, format_there, of_turn, ready}
 use Rattle.mst_versions.proofs.turn.ready_turn.Goals as goal
@@ -11,7 +11,7 @@ read_root-requires-clause-link g c = let t = c.requires.taken.1 in let a = c.ask
     link_there c.requires.taken.0 t.0 t.1 c.args.desk a.new.seat.me c.current-current.result.0
     t.2 (only_asked t.0 c.args.seat.now.me a.new.seat.me t.3 a.ensures.kept)
     (ap (λ z. z.0) c.current-current.ensures.current)
-    (subst (λ (z : Seat). z.0.rows ≤ 65535) t.3 c.requires.few_rows)
+    (subst (λ (z : SeatState). z.0.rows ≤ 65535) t.3 c.requires.few_rows)
 
 pub returns-clause-has : goal.returns-clause-has
 returns-clause-has g c = let t = c.requires.taken.1 in let a = c.ask_others-asked in let r =
@@ -28,7 +28,7 @@ returns-clause-has g c = let t = c.requires.taken.1 in let a = c.ask_others-aske
     (ready before t.0 t.1 {A = g.row.A.Denot} c.args.desk c.sweep.new.self a.result
     c.deref.result.now r.result.1 f.result a.new.seat.me which c.args.passes c.len.result
     (search rules)
-    t.2 asked (c.requires.passes ∙ ap (λ (z : Seat). z.0.passes) t.3)
+    t.2 asked (c.requires.passes ∙ ap (λ (z : SeatState). z.0.passes) t.3)
     a.ensures.asked current r.ensures.root (f.ensures.format (format_there before t.0 t.1) number)
     c.deref.ensures.0 c.sweep.ensures.swept)
 

@@ -43,7 +43,7 @@ returns-in-Ok-make-clause-wrote g c =
     let same : IsSameSeat c.args.seat.now last.new.seat = search rules in
     let change = c.args.event.now.change in
     wrote c.args.seat.now c.begin_write.new.seat.me c.in-Ok.turn c.in-Ok.ensures.begun
-    c.args.numbers.number c.requires.rest.free.3 change c.in-Ok-make.root (had c.in-Ok-make.old)
+    c.args.parameters.number c.requires.rest.free.3 change c.in-Ok-make.root (had c.in-Ok-make.old)
     c.make.new.turn c.make.new.seat.me last.new.seat last.result same c.in-Ok-make.ensures.made
     (subst (λ (e : Event). Added e c.make.new.seat.me last.new.seat.me)
     (ap (λ (p : ℕ). record { pass = p; change = change }) c.requires.mine) last.ensures.added)
@@ -53,7 +53,7 @@ pub returns-in-Err-clause-refused : goal.returns-in-Err-clause-refused
 returns-in-Err-clause-refused g c =
     let same : IsSameSeat c.args.seat.now c.give_back.new.seat = search rules in
     refused c.args.seat.now c.begin_write.new.seat.me c.in-Ok.turn c.in-Ok.ensures.begun
-    c.args.numbers.number c.requires.rest.free.3 c.make.new.seat.me c.give_back.new.seat same
+    c.args.parameters.number c.requires.rest.free.3 c.make.new.seat.me c.give_back.new.seat same
     (ap (λ (z : Seated). z.me) c.in-Err.ensures.untouched.1) c.give_back.ensures.gave
     c.args.event.now.change c.in-Ok.ensures.room c.in-Err.ensures.lacks
 

@@ -1,5 +1,6 @@
 use Rattle.mst_words.proofs.Doable.{can, can_publish}
-use Rattle.mst_words.proofs.Moves.{opened, goes_on, publication, seats_change, led, one_current, one_due, one_pin}
+use Rattle.mst_words.proofs.Moves.{goes_on, publication, seats_change}
+use Rattle.mst_words.proofs.Led.{opened, led, one_current, one_due, one_pin}
 use Rattle.mst_words.proofs.laws.path_laws.Goals as goal
 
 pub returns-clause-opens : goal.returns-clause-opens

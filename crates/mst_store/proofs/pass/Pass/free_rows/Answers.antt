@@ -9,16 +9,17 @@ free_rows-requires g c = search rules
 
 pub invariant_of-self : goal.invariant_of-self
 invariant_of-self g c =
-    let own : events_of c.self.inside.numbers.number c.self.inside.seat.me.0.seen
+    let own : events_of c.self.inside.parameters.number c.self.inside.seat.me.0.seen
     ≡ c.self.inside.seat.me.0.mine = search rules in
-    let kept = own_counted c.self.inside.numbers.number c.self.inside.seat c.free_rows.new.seat own
+    let kept = own_counted c.self.inside.parameters.number c.self.inside.seat c.free_rows.new.seat
+    own
     c.free_rows.result
     CountsFree (λ _ p q h. h.looks) c.free_rows.ensures.counted c.free_rows.ensures.busy in
     search (rules, kept)
 
 pub returns-clause-looks : goal.returns-clause-looks
 returns-clause-looks g c =
-    let counted = at_made c.free_rows.result CountsFree c.self.inside.numbers.number
+    let counted = at_made c.free_rows.result CountsFree c.self.inside.parameters.number
     c.self.inside.seat
     c.free_rows.new.seat
     c.self.inside.made c.args.self.now c.self.view_is c.free_rows.ensures.counted in
@@ -26,7 +27,7 @@ returns-clause-looks g c =
 
 pub returns-clause-exact : goal.returns-clause-exact
 returns-clause-exact g c =
-    let counted = at_made c.free_rows.result CountsFree c.self.inside.numbers.number
+    let counted = at_made c.free_rows.result CountsFree c.self.inside.parameters.number
     c.self.inside.seat
     c.free_rows.new.seat
     c.self.inside.made c.args.self.now c.self.view_is c.free_rows.ensures.counted in
@@ -34,7 +35,7 @@ returns-clause-exact g c =
 
 pub returns-clause-alone : goal.returns-clause-alone
 returns-clause-alone g c =
-    let counted = at_made c.free_rows.result CountsFree c.self.inside.numbers.number
+    let counted = at_made c.free_rows.result CountsFree c.self.inside.parameters.number
     c.self.inside.seat
     c.free_rows.new.seat
     c.self.inside.made c.args.self.now c.self.view_is c.free_rows.ensures.counted in
@@ -42,7 +43,7 @@ returns-clause-alone g c =
 
 pub returns-clause-found : goal.returns-clause-found
 returns-clause-found g c =
-    let counted = at_made c.free_rows.result CountsFree c.self.inside.numbers.number
+    let counted = at_made c.free_rows.result CountsFree c.self.inside.parameters.number
     c.self.inside.seat
     c.free_rows.new.seat
     c.self.inside.made c.args.self.now c.self.view_is c.free_rows.ensures.counted in
@@ -50,7 +51,7 @@ returns-clause-found g c =
 
 pub returns-clause-steps : goal.returns-clause-steps
 returns-clause-steps g c =
-    let counted = at_made c.free_rows.result CountsFree c.self.inside.numbers.number
+    let counted = at_made c.free_rows.result CountsFree c.self.inside.parameters.number
     c.self.inside.seat
     c.free_rows.new.seat
     c.self.inside.made c.args.self.now c.self.view_is c.free_rows.ensures.counted in

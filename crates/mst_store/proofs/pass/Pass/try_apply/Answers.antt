@@ -9,9 +9,9 @@ apply-requires g c = search rules
 pub invariant_of-self : goal.invariant_of-self
 invariant_of-self g c =
     let fault = c.in_err-version in
-    let own : events_of c.self.inside.numbers.number c.self.inside.seat.me.0.seen
+    let own : events_of c.self.inside.parameters.number c.self.inside.seat.me.0.seen
     ≡ c.self.inside.seat.me.0.mine = search rules in
-    let kept = own_refused_batch c.self.inside.numbers.number c.self.inside.seat c.apply.new.seat
+    let kept = own_refused_batch c.self.inside.parameters.number c.self.inside.seat c.apply.new.seat
     own
     fault.field-0.0
     c.args.edits.now fault.ensures.refused in

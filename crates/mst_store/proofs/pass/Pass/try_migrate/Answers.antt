@@ -6,9 +6,10 @@ use Rattle.mst_store.proofs.pass.Pass.try_migrate.Goals as goal
 pub invariant_of-self : goal.invariant_of-self
 invariant_of-self g c =
     let fault = c.in_err-was in
-    let own : events_of c.self.inside.numbers.number c.self.inside.seat.me.0.seen
+    let own : events_of c.self.inside.parameters.number c.self.inside.seat.me.0.seen
     ≡ c.self.inside.seat.me.0.mine = search rules in
-    let kept = own_refused_move c.self.inside.numbers.number c.self.inside.seat c.migrate.new.seat
+    let kept = own_refused_move c.self.inside.parameters.number c.self.inside.seat
+    c.migrate.new.seat
     own
     fault.field-0.0
     c.args.to fault.ensures.refused in

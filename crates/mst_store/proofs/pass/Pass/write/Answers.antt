@@ -12,9 +12,9 @@ write-requires-clause-mine g c = search rules
 pub invariant_of-self : goal.invariant_of-self
 invariant_of-self g c =
     let fault = c.in_err-old in
-    let own : events_of c.self.inside.numbers.number c.self.inside.seat.me.0.seen
+    let own : events_of c.self.inside.parameters.number c.self.inside.seat.me.0.seen
     ≡ c.self.inside.seat.me.0.mine = search rules in
-    let kept = own_refused c.self.inside.numbers.number c.self.inside.seat c.write.new.seat own
+    let kept = own_refused c.self.inside.parameters.number c.self.inside.seat c.write.new.seat own
     fault.field-0.0
     c.args.change fault.ensures.refused in
     search (rules, kept)

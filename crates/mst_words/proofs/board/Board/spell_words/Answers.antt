@@ -1,6 +1,5 @@
-use Rattle.std.proofs.Common.{◌≡◌, ◌++◌, ◌∙◌, ◌%◌, ◌/◌, ℕ, List, Some, map, take, subst, ap, arith}
+use Rattle.std.proofs.Common.{◌≡◌, ◌++◌, ◌∙◌, ◌%◌, ◌/◌, ℕ, map, take, subst, ap, arith}
 use Rattle.std.specs.List.{range_with_len}
-use Rattle.mst_key.specs.Map.{Pair}
 use Rattle.mst_node.specs.Text.{child_text, counted}
 use Rattle.mst_arena.specs.Words.{bytes_in}
 use Rattle.mst_words.specs.declared.view.View.{View}

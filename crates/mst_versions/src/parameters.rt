@@ -1,8 +1,9 @@
-//! The numbers of a pass.
+//! What a pass knows of itself and its store.
 
-/// What a pass knows in addition to its seat: its number, and the size of its store.
+/// The parameters of a pass, which it knows in addition to its seat: its number, and the size of
+/// its store.
 #[derive(Clone, Copy, Debug, PartialEq, Eq)]
-pub struct Numbers {
+pub struct PassParameters {
     /// The number of the pass, from 1.
     pub number: u32,
     /// How many passes the store has.

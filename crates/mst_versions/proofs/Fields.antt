@@ -1,0 +1,12 @@
+-- A record's words stay readable while the seat stays as it is.
+use Rattle.std.proofs.Common.{◌≡◌, ℕ, ◌<◌, sym, subst}
+use Rattle.mst_words.specs.Layout.{record_word, record_words}
+use Rattle.mst_words.specs.Access.{Seated}
+use Rattle.mst_words.specs.Steps.{IsReadable}
+
+pub still_readable : (which : ℕ) {s z : Seated} → z ≡ s
+    → ((j : ℕ) → j < record_words → IsReadable s.me.0 (record_word which j)) → (j : ℕ)
+    → j < record_words → IsReadable z.me.0 (record_word which j)
+still_readable which same readable =
+    subst (λ (z : Seated). (j : ℕ) → j < record_words → IsReadable z.me.0 (record_word which j))
+    (sym same) readable
