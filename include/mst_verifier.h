@@ -84,6 +84,10 @@ extern "C" {
 #define MST_P9_TEXT_BEHIND (-19)     /* a text follows although the key was decided */
 #define MST_P10_OTHER_VALUE (-20)    /* format 2: the answer claimed is not what is held */
 
+/* What up to version 0.3.0 the numbers of P1 and S1 were called. */
+#define MST_P1_VERSION MST_P1_FORMAT_BYTE
+#define MST_S1_VERSION MST_S1_FORMAT_BYTE
+
 /*
  * Says what the proof shows of the key, in the map with this root digest.
  *
