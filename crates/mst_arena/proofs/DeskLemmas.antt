@@ -83,11 +83,6 @@ module _ (current : ℕ) (versions : List ℕ) (lives : List Life) (free : List 
       go (Some (Born b)) e is = cc
       go (Some (Dead b d)) e is = cc
 
-  pub not_free_life : (r : ℕ) (x : Life) → slice_get lives r ≡ Some x → is_free x ≡ false
-      → slice_get free r ≡ Some false
-  not_free_life r x at taken = ap (λ (f : List Bool). slice_get f r) desk.free_rows
-      ∙ slice_get-map is_free lives r ∙ ap (option_map is_free) at ∙ ap Some taken
-
   -- the row that dies is added to the list
   pub desk_kill : (r b d : ℕ) → slice_get lives r ≡ Some (Born b) → IsDesk current versions
       (slice_set lives r (Dead b d)) free (dead ++ r ∷ []) held last vc lc dc hc mc

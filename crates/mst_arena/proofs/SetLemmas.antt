@@ -3,7 +3,7 @@ use Rattle.std.proofs.Common.{◌≡◌, ◌≢◌, ℕ, zero, suc, ◌+◌, ◌
 use Rattle.std.specs.Prelude.{slice_get, slice_set, slice_index, replicate}
 use Rattle.std.proofs.Math.ListN.{length-set}
 use Rattle.std.proofs.Math.Seq.{take-append_seam}
-use Rattle.std.proofs.lemmas.Bool.{cases_eq, cases_lt}
+use Rattle.std.proofs.lemmas.Bool.{cases_lt}
 use Rattle.std.proofs.lemmas.Bool.Decides.{nat_tests}
 use Rattle.std.proofs.lemmas.Nat.Bits.{bit_at-zero}
 use Rattle.std.specs.Int.{bit_at}
@@ -16,67 +16,10 @@ some_bit words row is none =
     let e : bit words row ≡ 0 = ap (λ (w : ℕ). bit_at w (row % 64)) none ∙ bit_at-zero (row % 64) in
     omega arith
 
-pub sums_put : (old new sums sums' : List ℕ) (row : ℕ) → Sums old sums → BitWritten old new row 1
-    → BitWritten sums sums' (row / 64) 1 → Sums new sums'
-sums_put old new sums sums' row s w u = record {
-  room = omega (arith, s.room, w.len, u.len);
-  no = λ i none. no i none (cases_eq i (row / 64));
-  yes = λ i is. yes i is (cases_eq i (row / 64));
-}
-  where
-    no : (i : ℕ) → bit sums' i ≡ 0 → (i ≡ row / 64) ⊎ (i ≢ row / 64) → slice_index new i ≡ 0
-    no i none (inl e) =
-        let one : bit sums' i ≡ 1 = ap (bit sums') e ∙ u.here in
-        absurd (omega arith)
-    no i none (inr e) = w.elsewhere i e ∙ s.no i (sym (u.others i e) ∙ none)
-
-    yes : (i : ℕ) → bit sums' i ≡ 1 → (i ≡ row / 64) ⊎ (i ≢ row / 64) → slice_index new i ≢ 0
-    yes i is (inl e) = λ z. some_bit new row w.here (ap (slice_index new) (sym e) ∙ z)
-    yes i is (inr e) = λ z. s.yes i (sym (u.others i e) ∙ is) (sym (w.elsewhere i e) ∙ z)
-
--- a bit was cleared, and its word is now 0
-pub sums_empty : (old new sums sums' : List ℕ) (row : ℕ) → Sums old sums → BitWritten old new row 0
-    → slice_index new (row / 64) ≡ 0 → BitWritten sums sums' (row / 64) 0 → Sums new sums'
-sums_empty old new sums sums' row s w z u = record {
-  room = omega (arith, s.room, w.len, u.len);
-  no = λ i none. no i none (cases_eq i (row / 64));
-  yes = λ i is. yes i is (cases_eq i (row / 64));
-}
-  where
-    no : (i : ℕ) → bit sums' i ≡ 0 → (i ≡ row / 64) ⊎ (i ≢ row / 64) → slice_index new i ≡ 0
-    no i none (inl e) = ap (slice_index new) e ∙ z
-    no i none (inr e) = w.elsewhere i e ∙ s.no i (sym (u.others i e) ∙ none)
-
-    yes : (i : ℕ) → bit sums' i ≡ 1 → (i ≡ row / 64) ⊎ (i ≢ row / 64) → slice_index new i ≢ 0
-    yes i is (inl e) =
-        let zero_bit : bit sums' i ≡ 0 = ap (bit sums') e ∙ u.here in
-        absurd (omega arith)
-    yes i is (inr e) = λ q. s.yes i (sym (u.others i e) ∙ is) (sym (w.elsewhere i e) ∙ q)
-
--- a bit was cleared, and its word still has another
-pub sums_left : (old new sums : List ℕ) (row : ℕ) → Sums old sums → BitWritten old new row 0
-    → bit old row ≡ 1 → slice_index new (row / 64) ≢ 0 → Sums new sums
-sums_left old new sums row s w was left = record {
-  room = omega (arith, s.room, w.len);
-  no = λ i none. no i none (cases_eq i (row / 64));
-  yes = λ i is. yes i is (cases_eq i (row / 64));
-}
-  where
-    no : (i : ℕ) → bit sums i ≡ 0 → (i ≡ row / 64) ⊎ (i ≢ row / 64) → slice_index new i ≡ 0
-    no i none (inl e) = absurd (some_bit old row was (ap (slice_index old) (sym e) ∙ s.no i none))
-    no i none (inr e) = w.elsewhere i e ∙ s.no i none
-
-    yes : (i : ℕ) → bit sums i ≡ 1 → (i ≡ row / 64) ⊎ (i ≢ row / 64) → slice_index new i ≢ 0
-    yes i is (inl e) = λ q. left (ap (slice_index new) (sym e) ∙ q)
-    yes i is (inr e) = λ q. s.yes i is (sym (w.elsewhere i e) ∙ q)
-
 -- ---- the set as a whole
 
 module _ (rows count at : ℕ) (words sums : List ℕ) (wc sc : ℕ)
     (set : IsSet rows count at words sums wc sc) where
-  pub count_few : count ≤ rows
-  count_few = omega (arith, set.counted, count_le (flags rows words), length-flags rows words)
-
   pub put_flags : (new : List ℕ) (row : ℕ) → BitWritten words new row 1 → flags rows new ≡ slice_set
       (flags rows words) row true
   put_flags new row w =

@@ -46,18 +46,6 @@ bytes-at (x ∷ xs) small = (small 0, bytes-at xs (λ i. small (suc i)))
 
 -- ---- the bytes of the words of a row
 
-four_words : (a b c d : ℕ) → bytes_in (a ∷ b ∷ c ∷ d ∷ []) ≡ map
-    (byte_of_words (a ∷ b ∷ c ∷ d ∷ [])) (range_with_len 0 32)
-four_words a b c d = refl
-
-eight_words : (a b c d e f g h : ℕ) → bytes_in (a ∷ b ∷ c ∷ d ∷ e ∷ f ∷ g ∷ h ∷ []) ≡ map
-    (byte_of_words (a ∷ b ∷ c ∷ d ∷ e ∷ f ∷ g ∷ h ∷ [])) (range_with_len 0 64)
-eight_words a b c d e f g h = refl
-
-both : (a b : Bool) → (a && b) ≡ true → (a ≡ true) × (b ≡ true)
-both true b e = (refl, e)
-both false b e = cc
-
 -- ---- limits as a test
 
 limits_test : (row : Row) → IsRow row → HasBytes row → has_limits row ≡ true

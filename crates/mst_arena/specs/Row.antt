@@ -2,7 +2,7 @@
 use Rattle.std.specs.Prelude.{◌≡◌, ◌<◌, ◌≤◌, ℕ, List, length, Option, Some, None}
 use Rattle.mst_key.specs.Bytes.{IsKey, IsValue, IsBytes}
 use Rattle.mst_key.specs.Map.{Pair}
-use Rattle.mst_arena.specs.Limits.{highest_link, most_entries}
+use Rattle.mst_arena.specs.Limits.{highest_layer, highest_link, most_entries}
 use Rattle.mst_arena.specs.declared.row.Row.{Row}
 use Rattle.mst_arena.specs.declared.row.Row.TheVariants.{Entry, Head}
 use Rattle.mst_arena.specs.declared.row.HeadLinks.{HeadLinks}
@@ -13,12 +13,14 @@ use Rattle.mst_arena.specs.declared.row.BareLinks.{BareLinks}
 abbrev pub IsRow : Row → Type 0
 IsRow (Entry child next key value) = (child ≤ highest_link) × (next ≤ highest_link)
 IsRow (Head layer count first tail digest) =
-    (layer ≤ 128) × (0 < count) × (count ≤ most_entries) × (0 < first) × (first ≤ highest_link)
+    (layer ≤ highest_layer) × (0 < count) × (count ≤ most_entries) × (0 < first)
+    × (first ≤ highest_link)
     × (tail ≤ highest_link)
 
 -- layer, count and links of a head are within their limits, and it has a first entry
 abbrev pub IsHead : HeadLinks → Type 0
-IsHead head = (head.layer ≤ 128) × (0 < head.count) × (head.count ≤ most_entries) × (0 < head.first)
+IsHead head = (head.layer ≤ highest_layer) × (0 < head.count) × (head.count ≤ most_entries)
+    × (0 < head.first)
     × (head.first ≤ highest_link) × (head.tail ≤ highest_link)
 
 -- the bytes are those of a key and a value, or of a digest, as they are in each row of the program

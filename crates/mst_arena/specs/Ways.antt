@@ -1,11 +1,11 @@
 -- Where a search for a key goes on from an entry, and the order of two keys by words.
-use Rattle.std.specs.Prelude.{ℕ, zero, suc, ◌%◌, List, length, Option, Some, None, option_and_then}
+use Rattle.std.specs.Prelude.{ℕ, zero, suc, ◌+◌, ◌%◌, List, length, Option, Some, None, option_and_then}
 use Rattle.std.specs.declared.cmp.Ordering.{Ordering}
 use Rattle.std.specs.Ordering.{nat_cmp, ordering_then}
 use Rattle.mst_key.specs.Map.{key_cmp}
 use Rattle.mst_node.specs.Trail.{by_order}
 use Rattle.mst_arena.specs.Content.{Content, part_at}
-use Rattle.mst_arena.specs.Words.{word_from}
+use Rattle.mst_arena.specs.Words.{word_from, lengths_word, length_radix, first_key_word}
 use Rattle.mst_arena.specs.declared.row.Row.{Row}
 use Rattle.mst_arena.specs.declared.row.Row.TheVariants.{Entry, Head}
 use Rattle.mst_arena.specs.declared.sought.Way.{Way}
@@ -42,8 +42,8 @@ stop_from k content (suc n) (suc row) =
 abbrev pub words_order : List ℕ → (ℕ → ℕ) → Ordering
 words_order k word =
     ordering_then (ordering_then (ordering_then (ordering_then
-    (nat_cmp (word_from k 0) (word 4))
-    (nat_cmp (word_from k 8) (word 5)))
-    (nat_cmp (word_from k 16) (word 6)))
-    (nat_cmp (word_from k 24) (word 7)))
-    (nat_cmp (length k) (word 3 % 256))
+    (nat_cmp (word_from k 0) (word first_key_word))
+    (nat_cmp (word_from k 8) (word (first_key_word + 1))))
+    (nat_cmp (word_from k 16) (word (first_key_word + 2))))
+    (nat_cmp (word_from k 24) (word (first_key_word + 3))))
+    (nat_cmp (length k) (word lengths_word % length_radix))

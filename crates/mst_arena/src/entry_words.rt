@@ -2,13 +2,11 @@
 //!
 //! It is laid into an array, the key as 32 bytes and the value as 64, whatever their lengths: so
 //! the compiled code stores words, and copies bytes whose number it does not know once, at the end.
-ghost use Rattle.std.specs.Prelude.{◌≡◌, ◌≤◌, ◌+◌, ◌*◌, ◌/◌, ◌%◌, ◌++◌, ℕ, List, length, take, slice_index, slice_range, IsSome, Some};
-ghost use Rattle.mst_key.specs.Map.{Pair};
+ghost use Rattle.std.specs.Prelude.{◌≡◌, ◌≤◌, ◌+◌, ◌/◌, ◌%◌, ◌++◌, ℕ, List, take};
 ghost use Rattle.mst_node.specs.Text.{child_text, counted};
-ghost use Rattle.mst_arena.specs.Row.{keyed_links, entry_pair};
-ghost use Rattle.mst_arena.specs.Words.{bytes_in, part_in, lengths_word, first_key_word, first_value_word};
+ghost use Rattle.mst_arena.specs.Words.{bytes_in, length_radix};
 
-use crate::parts::{bytes_of_eight, bytes_of_four};
+use crate::parts::{LENGTH_RADIX, bytes_of_eight, bytes_of_four};
 use mst_node::TextSink;
 
 /// The most bytes that an entry has in a text of format 1: a byte and a digest, and the longest key
@@ -54,13 +52,13 @@ pub fn take_words<S: TextSink>(
     key: &[u64; 4],
     value: &[u64; 8],
 )
-    requires key { lengths % 256 ≤ 32 }
-    requires value { lengths / 256 ≤ 64 }
+    requires key { lengths % length_radix ≤ 32 }
+    requires value { lengths / length_radix ≤ 64 }
     ensures entry { (m : List ℕ) → S.took sink.old m → S.took sink.new (m ++ child_text child
-        ++ counted (take (lengths % 256) (bytes_in key.now))
-        ++ counted (take (lengths / 256) (bytes_in value.now))) }
+        ++ counted (take (lengths % length_radix) (bytes_in key.now))
+        ++ counted (take (lengths / length_radix) (bytes_in value.now))) }
 {
-    let (len, size) = (lengths % 256, lengths / 256);
+    let (len, size) = (lengths % LENGTH_RADIX, lengths / LENGTH_RADIX);
     let mut text = [0; LONGEST];
     let behind = lay_child(&mut text, child);
     let behind = lay(&mut text, behind, &[len as u8], 1);

@@ -44,7 +44,11 @@ pub use entry_text::take_common;
 pub use entry_words::take_words;
 pub use laws::{life_laws, standing_laws, words_laws};
 pub use life::Life;
+pub use parts::LENGTH_RADIX;
 pub use plain::PlainRows;
-pub use row::{BareLinks, HIGHEST_LINK, HeadLinks, KeyedLinks, MOST_ENTRIES, MOST_ROWS, Root, Row};
+pub use row::{
+    BareLinks, HIGHEST_LAYER, HIGHEST_LINK, HeadLinks, KeyedLinks, MOST_ENTRIES, MOST_ROWS,
+    ROW_WORDS, Root, Row,
+};
 pub use rows::Rows;
 pub use sought::{Sought, Stop, Way};

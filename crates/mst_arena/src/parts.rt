@@ -3,10 +3,13 @@ ghost use Rattle.std.specs.Prelude.{◌≡◌, ◌≤◌, ◌<◌, ◌+◌, ◌/
 ghost use Rattle.mst_key.specs.Bytes.{IsKey, IsValue};
 ghost use Rattle.std.specs.List.{range_with_len};
 ghost use Rattle.mst_arena.specs.Row.{head_links, head_digest, keyed_links, entry_pair, entry_value};
-ghost use Rattle.mst_arena.specs.Words.{byte_of_words, bytes_in, part_in, lengths_word, first_key_word, first_value_word, first_digest_word};
+ghost use Rattle.mst_arena.specs.Words.{byte_of_words, bytes_in, part_in, lengths_word, first_key_word, first_value_word, first_digest_word, length_radix, row_words};
 
 use crate::row::{HeadLinks, KeyedLinks, Row};
 use mst_key::{Key, KeySize, Value, ValueSize};
+
+/// The word of an entry's lengths has that of the key, and this times that of the value.
+pub const LENGTH_RADIX: u64 = 256;
 
 /// The 32 bytes of four words, the highest byte of each word first.
 ///
@@ -114,16 +117,16 @@ impl KeyedLinks {
     pub fn read(words: &[u64; 7]) -> Option<KeyedLinks>
         ensures some { IfSome result (λ entry. (entry.child ≡ slice_index words.now 0)
             × (entry.next ≡ slice_index words.now 1)
-            × (entry.key ≡ take (slice_index words.now 2 % 256)
+            × (entry.key ≡ take (slice_index words.now 2 % length_radix)
             (bytes_in (slice_range words.now 3 7)))) }
         ensures when { IsSome result ↔ ((slice_index words.now 0 < 2 ^ 32)
-            × (slice_index words.now 1 < 2 ^ 32) × (0 < slice_index words.now 2 % 256)
-            × (slice_index words.now 2 % 256 ≤ 32)) }
+            × (slice_index words.now 1 < 2 ^ 32) × (0 < slice_index words.now 2 % length_radix)
+            × (slice_index words.now 2 % length_radix ≤ 32)) }
         ensures part { (all : List ℕ) → words.now ≡ slice_range all 1 8
             → IsSome (part_in keyed_links all) → part_in keyed_links all ≡ result }
     {
         let [child, next, lengths, a, b, c, d] = *words;
-        let len = (lengths % 256) as usize;
+        let len = (lengths % LENGTH_RADIX) as usize;
         if len > 32 {
             return None;
         }
@@ -151,13 +154,14 @@ impl Row {
     /// The value is the first bytes of the eight words, as many as word 3 says above its low byte.
     /// The result is `None` exactly if these are more than 64.
     pub fn read_value(lengths: u64, words: &[u64; 8]) -> Option<Value>
-        ensures some { IfSome result (λ value. value ≡ take (lengths / 256) (bytes_in words.now)) }
-        ensures when { IsSome result ↔ (lengths / 256 ≤ 64) }
+        ensures some { IfSome result
+            (λ value. value ≡ take (lengths / length_radix) (bytes_in words.now)) }
+        ensures when { IsSome result ↔ (lengths / length_radix ≤ 64) }
         ensures part { (all : List ℕ) → lengths ≡ slice_index all lengths_word
-            → words.now ≡ slice_range all first_value_word 16
+            → words.now ≡ slice_range all first_value_word row_words
             → IsSome (part_in entry_value all) → part_in entry_value all ≡ result }
     {
-        let len = lengths / 256;
+        let len = lengths / LENGTH_RADIX;
         if len > 64 {
             return None;
         }
@@ -173,11 +177,11 @@ impl Row {
     pub fn read_pair(lengths: u64, key: &[u64; 4], value: &[u64; 8]) -> Option<(Key, Value)>
         ensures part { (all : List ℕ) → lengths ≡ slice_index all lengths_word
             → key.now ≡ slice_range all first_key_word first_value_word
-            → value.now ≡ slice_range all first_value_word 16
+            → value.now ≡ slice_range all first_value_word row_words
             → IsSome (part_in keyed_links all) → part_in entry_pair all ≡ result }
     {
-        let len = lengths % 256;
-        let size = lengths / 256;
+        let len = lengths % LENGTH_RADIX;
+        let size = lengths / LENGTH_RADIX;
         if len > 32 {
             return None;
         }

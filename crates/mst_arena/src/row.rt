@@ -13,6 +13,12 @@ pub const HIGHEST_LINK: u32 = MOST_ROWS;
 /// The most entries of a node: each takes a row, and the head of the node one more.
 pub const MOST_ENTRIES: u32 = 65_534;
 
+/// The highest layer of a key, that of format 2.
+pub const HIGHEST_LAYER: u8 = 128;
+
+/// How many words a row has.
+pub const ROW_WORDS: usize = 16;
+
 /// A row: an entry of a node, or the head of a node.
 ///
 /// A link is a row number plus 1, and 0 is none. Links are at most 65,535.
@@ -123,7 +129,7 @@ impl Row {
                 tail,
                 ..
             } => {
-                *layer <= 128
+                *layer <= HIGHEST_LAYER
                     && (1..=MOST_ENTRIES).contains(count)
                     && (1..=HIGHEST_LINK).contains(first)
                     && *tail <= HIGHEST_LINK

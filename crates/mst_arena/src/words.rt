@@ -3,11 +3,17 @@ ghost use Rattle.std.specs.Prelude.{[], ◌∷◌, ◌≡◌, ◌≢◌, ◌<◌
 ghost use Rattle.mst_arena.specs.declared.row.Row.{Row};
 ghost use Rattle.mst_arena.specs.Limits.{highest_link};
 ghost use Rattle.mst_arena.specs.Row.{IsRow, HasBytes};
-ghost use Rattle.mst_arena.specs.Words.{word_from, words_of, bytes_in, row_in, root_in};
+ghost use Rattle.mst_arena.specs.Words.{word_from, words_of, bytes_in, row_in, root_in, entry_tag, head_tag};
 
-use crate::parts::bytes_of_four;
-use crate::row::{HeadLinks, KeyedLinks, Root, Row};
+use crate::parts::{LENGTH_RADIX, bytes_of_four};
+use crate::row::{HeadLinks, KeyedLinks, ROW_WORDS, Root, Row};
 use mst_key::{Key, Value};
+
+/// The first word of an entry.
+const ENTRY_TAG: u64 = 1;
+
+/// The first word of a head.
+const HEAD_TAG: u64 = 2;
 
 /// The byte at an index, or 0 past the end.
 fn byte_or_zero(bytes: &[u8], index: usize) -> u8
@@ -68,8 +74,8 @@ pub(crate) fn word_from(bytes: &[u8], index: usize) -> u64
 }
 
 /// The entry that these words may be of. Nothing is said of words that spell none.
-fn entry_of(words: &[u64; 16]) -> Option<Row>
-    ensures exact { IsSome (row_in words.now) → slice_index words.now 0 ≡ 1
+fn entry_of(words: &[u64; ROW_WORDS]) -> Option<Row>
+    ensures exact { IsSome (row_in words.now) → slice_index words.now 0 ≡ entry_tag
         → row_in words.now ≡ result }
 {
     let [
@@ -101,8 +107,8 @@ fn entry_of(words: &[u64; 16]) -> Option<Row>
 }
 
 /// The head that these words may be of. Nothing is said of words that spell none.
-fn head_of(words: &[u64; 16]) -> Option<Row>
-    ensures exact { IsSome (row_in words.now) → slice_index words.now 0 ≡ 2
+fn head_of(words: &[u64; ROW_WORDS]) -> Option<Row>
+    ensures exact { IsSome (row_in words.now) → slice_index words.now 0 ≡ head_tag
         → row_in words.now ≡ result }
 {
     let [_, layer, count, first, tail, d0, d1, d2, d3, ..] = *words;
@@ -117,12 +123,12 @@ fn head_of(words: &[u64; 16]) -> Option<Row>
 }
 
 /// The row that these words may be of. Nothing is said of words that spell none.
-fn candidate(words: &[u64; 16]) -> Option<Row>
+fn candidate(words: &[u64; ROW_WORDS]) -> Option<Row>
     ensures exact { IsSome (row_in words.now) → row_in words.now ≡ result }
 {
     match words[0] {
-        1 => entry_of(words),
-        2 => head_of(words),
+        ENTRY_TAG => entry_of(words),
+        HEAD_TAG => head_of(words),
         _ => None,
     }
 }
@@ -131,10 +137,10 @@ impl Row {
     /// The sixteen words of a row.
     ///
     /// The first is 1 for an entry and 2 for a head. An entry goes on with child, next, the key
-    /// length plus 256 times the value length, the key in four words and the value in eight; a head
-    /// with layer, count, first, tail, and the digest in four words. Bytes are packed big-endian,
-    /// eight a word, and what is left over is 0.
-    pub fn words(&self) -> [u64; 16]
+    /// length plus `LENGTH_RADIX` times the value length, the key in four words and the value in
+    /// eight; a head with layer, count, first, tail, and the digest in four words. Bytes are packed
+    /// big-endian, eight a word, and what is left over is 0.
+    pub fn words(&self) -> [u64; ROW_WORDS]
         requires limits { IsRow self.now }
         ensures words { result ≡ words_of self.now }
         ensures row { row_in result ≡ Some self.now }
@@ -157,7 +163,7 @@ impl Row {
     }
 
     /// The row of these words. Returns `None` exactly if no row has them as its [`Row::words`].
-    pub fn read(words: &[u64; 16]) -> Option<Row>
+    pub fn read(words: &[u64; ROW_WORDS]) -> Option<Row>
         ensures some { IfSome result (λ row. IsRow row × (words_of row ≡ words.now)) }
         ensures none { IfNone result ((row : Row) → IsRow row → HasBytes row
             → words_of row ≢ words.now) }
@@ -173,16 +179,16 @@ impl Row {
 }
 
 /// The sixteen words of an entry.
-fn entry_words(child: u32, next: u32, key: &Key, value: &Value) -> [u64; 16]
+fn entry_words(child: u32, next: u32, key: &Key, value: &Value) -> [u64; ROW_WORDS]
     ensures words { result ≡ words_of (Row.Entry child next key.now value.now) }
     ensures bytes { HasBytes (Row.Entry child next key.now value.now) }
 {
     let (key, value) = (key.bytes(), value.bytes());
     [
-        1,
+        ENTRY_TAG,
         u64::from(child),
         u64::from(next),
-        key.len() as u64 + 256 * value.len() as u64,
+        key.len() as u64 + LENGTH_RADIX * value.len() as u64,
         word_from(key, 0),
         word_from(key, 8),
         word_from(key, 16),
@@ -213,13 +219,13 @@ fn digest_words(digest: &[u8; 32]) -> [u64; 4]
 }
 
 /// The sixteen words of a head.
-fn head_words(layer: u8, count: u32, first: u32, tail: u32, digest: &[u8; 32]) -> [u64; 16]
+fn head_words(layer: u8, count: u32, first: u32, tail: u32, digest: &[u8; 32]) -> [u64; ROW_WORDS]
     ensures words { result ≡ words_of (Row.Head layer count first tail digest.now) }
     ensures bytes { HasBytes (Row.Head layer count first tail digest.now) }
 {
     let [d0, d1, d2, d3] = digest_words(digest);
     [
-        2,
+        HEAD_TAG,
         u64::from(layer),
         u64::from(count),
         u64::from(first),

@@ -74,9 +74,3 @@ module _ (format : Format) (content : Content) (root : Root) (es : List Edit) (m
   found_plan s marks plan old small is only =
       subst (λ (y : PlanTree). IsPlanOf format content s root marks y (λ n. batched n es)) (sym is)
       (is_plan s marks old small (subst (AreMarks marks) is only))
-
--- the keys of the tree that stands rise
-pub whole_rises : (format : Format) (content : Content) (root : Root) (m : List Pair)
-    (st : Stands format content root m) → IsAscending (pairs (tree_of format st.tree.placed))
-whole_rises format content root m st =
-    subst IsAscending (sym (ap pairs st.tree.is ∙ pairs_tree format m)) st.map.ascending

@@ -15,7 +15,7 @@ use Rattle.mst_node.proofs.UniqueTree.{tree_unique}
 use Rattle.mst_arena.specs.Content.{Content}
 use Rattle.mst_arena.specs.declared.row.Root.{Root}
 use Rattle.mst_arena.specs.Standing.{Placed, head, tree_of, Stands}
-use Rattle.mst_path.proofs.lemmas.versions.Changes.{mst_of}
+use Rattle.mst_path.proofs.lemmas.versions.Changes.{mst_of, rises}
 use Rattle.mst_batch.specs.Beside.{node_at, plan_beside, entries_beside}
 use Rattle.mst_batch.specs.Items.{items_pairs, IsItem, AreItems, height_of, IsUpTo}
 use Rattle.mst_batch.specs.Plans.{PlanTree, kept, made, last, PlannedEntry, with_planned}
@@ -23,7 +23,6 @@ use Rattle.mst_batch.specs.Tops.{IsStanding, is_tree, pair_at, lone, opened}
 use Rattle.mst_batch.specs.declared.items.Item.{Item}
 use Rattle.mst_batch.specs.declared.items.Item.TheVariants as item
 use Rattle.mst_batch.proofs.Homes.{kept_plan}
-use Rattle.mst_batch.proofs.BatchPlans.{whole_rises}
 use Rattle.mst_batch.proofs.NodePlans.{pair_is, no_pair, part_items, gap_low, node_entries, tree_is, is_mst, planned, ends_gap, joins_gap, last_gap}
 use Rattle.mst_batch.proofs.Tops.{HasPair, node_mst, node_is, Opens, opens, opens_some}
 
@@ -69,7 +68,7 @@ module _ (content : Content) (root : Root) where
       let mst = node_mst format stands.tree.placed (head i.0 layer i.1) i.3 s.search in
       ap kept i.2
       ∙ sym (kept_plan format content stands.tree.placed stands.tree.rows
-      (whole_rises format content root m stands) (head i.0 layer i.1) mst (λ r k c is. i.3))
+      (rises format content root m stands) (head i.0 layer i.1) mst (λ r k c is. i.3))
       ∙ ap (plan_beside format stands.tree.placed)
       (sym (ap (tree format) (append-nil (pairs (tree_of format
       (node_at stands.tree.placed link))))

@@ -22,11 +22,11 @@ use Rattle.mst_batch.specs.Beside.{plan_beside, entries_beside, link_of_key, cha
 use Rattle.mst_batch.specs.Plans.{PlanTree, PlannedEntry, with_planned, kept, made, last, plan_of_node, planned_entry}
 use Rattle.mst_batch.specs.declared.plan.PlanEntry.{PlanEntry, out-PlanEntry}
 use Rattle.mst_batch.specs.declared.plan.PlanNode.{PlanNode, out-PlanNode}
-use Rattle.mst_batch.proofs.BatchPlans.{whole_rises}
 use Rattle.mst_batch.proofs.Besides.{node_rows}
 use Rattle.mst_batch.proofs.Homes.{key_of_entry, match_kept, other_made}
 use Rattle.mst_batch.proofs.PlanShapes.{plan_out, planned_entry_out, items, tail}
 use Rattle.mst_batch.proofs.SameNodes.{plan_count, count_made}
+use Rattle.mst_path.proofs.lemmas.versions.Changes.{rises}
 
 -- ---- the first entry
 
@@ -174,7 +174,7 @@ module _ {format : Format} {content : Content} {root : Root} {m : List Pair}
     stays ours =
         ap kept at
         ∙ sym (match_kept format content st.tree.placed st.tree.rows
-        (whole_rises format content root m st) l es q (key_of_entry es q own) mst
+        (rises format content root m st) l es q (key_of_entry es q own) mst
         (matching ((tells format at_key.0 here).0 ours)))
 
     matched : Matches st.tree.placed (link_of_key q st.tree.placed) l
@@ -192,5 +192,5 @@ module _ {format : Format} {content : Content} {root : Root} {m : List Pair}
     is_made other =
         is
         ∙ sym (other_made format content st.tree.placed st.tree.rows
-        (whole_rises format content root m st) l es q (key_of_entry es q own) mst
+        (rises format content root m st) l es q (key_of_entry es q own) mst
         (λ match. true≢false (sym ((tells format at_key.0 here).1 (matched match)) ∙ other)))

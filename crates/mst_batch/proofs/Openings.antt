@@ -180,14 +180,6 @@ module _ (format : Format) (content : Content) (whole : Placed) (link : ℕ)
           → Contains (placed_nodes whole) r
       inside = go part.placed part.part
 
-  -- nothing stands at the link 0
-  pub nothing_there : link ≡ 0 → pairs (tree_of format part.placed) ≡ []
-  nothing_there is = go part.placed (part.at ∙ is)
-    where
-      go : (p : Placed) → link_of p ≡ 0 → pairs (tree_of format p) ≡ []
-      go none at = refl
-      go (head i l chain) at = absurd (omega (arith, at))
-
   -- at another link stands a node
   pub record IsNode : Type 0 where
     pub row : ℕ

@@ -3,7 +3,6 @@ use Rattle.std.proofs.Common.{◌≡◌, ℕ, ◌+◌, ◌<◌, ◌≤◌, List,
 use Rattle.std.proofs.lemmas.List.{append-nil, drop_more, at_drop_all}
 use Rattle.mst_key.specs.declared.format.Format.{Format}
 use Rattle.mst_key.specs.declared.history.Edit.{Edit}
-use Rattle.mst_key.specs.Edits.{AreRising}
 use Rattle.mst_key.specs.History.{batched, key_of}
 use Rattle.mst_key.specs.Layer.{layer_in}
 use Rattle.mst_key.specs.Map.{Pair}
@@ -11,8 +10,8 @@ use Rattle.mst_arena.specs.Standing.{Placed}
 use Rattle.mst_batch.specs.Listed.{listed, put_of}
 use Rattle.mst_batch.specs.Opening.{Adds}
 use Rattle.mst_batch.specs.declared.items.Item.{Item}
-use Rattle.mst_batch.proofs.Joins.{Joins, joins-begin, make_edit}
-use Rattle.mst_batch.proofs.Openings.{adds_none, adds_then, adds_as}
+use Rattle.mst_batch.proofs.Joins.{Joins, make_edit}
+use Rattle.mst_batch.proofs.Openings.{adds_then, adds_as}
 
 -- the pairs that so many of the edits put were added
 pub record Putting (format : Format) (edits : List (Bor Edit)) (at : ℕ) (old new : List Item)
@@ -22,13 +21,6 @@ pub record Putting (format : Format) (edits : List (Bor Edit)) (at : ℕ) (old n
   pub adds : (whole : Placed) → Adds format whole old new done
 
 module _ (format : Format) (edits : List (Bor Edit)) (old : List Item) where
-  pub putting_begin : AreRising (listed edits) → Putting format edits 0 old old
-  putting_begin rising = record {
-    done = [];
-    joins = joins-begin [] (listed edits) tt rising;
-    adds = λ whole. adds_none format whole old;
-  }
-
   pub putting_step : (at : ℕ) (new more : List Item) (e : Bor Edit) (key : List ℕ) (layer : ℕ)
       → Putting format edits at old new → at < length edits → e ≡ get_or edits at e
       → key ≡ key_of e.now → layer ≡ layer_in format key

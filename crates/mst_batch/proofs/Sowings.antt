@@ -24,11 +24,12 @@ use Rattle.mst_path.proofs.lemmas.rows.Entries.{entries_frame}
 use Rattle.mst_arena.proofs.ListLemmas.{one_row}
 use Rattle.mst_path.proofs.lemmas.rows.Moving.{not_in, out_of_times, times_of_out, moves_none, moves_takes, moves_then, alive_stays, alive_out, old_stays}
 use Rattle.mst_path.proofs.lemmas.trees.Made.{made_old, new_stays, entries_stay, piece_alive}
-use Rattle.mst_path.proofs.lemmas.steps.Finishing.{used_more, going_more, cells-append, chain_entries, all_used, head_piece}
+use Rattle.mst_path.proofs.lemmas.steps.Finishing.{used_more, going_more, chain_entries, all_used, head_piece}
 use Rattle.mst_path.proofs.lemmas.steps.Untouched.{old_piece_later}
 use Rattle.mst_batch.specs.Plans.{PlanTree, kept, PlannedEntry, tree_planned, rows_planned, rows_kept, EachKept, IsPlan}
 use Rattle.mst_batch.specs.Sowing.{Sown}
 use Rattle.mst_batch.proofs.PlanShapes.{cell_planned, cells_planned, list_rows, list_kept, list_rows-append, list_kept-append, each_then}
+use Rattle.mst_path.proofs.lemmas.trees.Cutting.{cells-append}
 
 -- These entries of a node are written, each after the tree of its plan: their rows are those of the
 -- kept trees and rows that were taken.

@@ -5,7 +5,7 @@ ghost use Rattle.mst_node.specs.Cost.{cost};
 ghost use Rattle.mst_arena.specs.Lives.{free_count};
 ghost use Rattle.mst_arena.specs.Standing.{Stands};
 ghost use Rattle.mst_path.specs.Takes.{FreeIsBlank, StaysBeside};
-ghost use Rattle.mst_path.specs.Changing.{MapStands, OnlyFreeWritten, SameVersions};
+ghost use Rattle.mst_path.specs.Changing.{MapStands};
 ghost use Rattle.mst_path.specs.AfterChange.{AfterChange};
 ghost use Rattle.mst_batch.specs.Plans.{plan_of};
 ghost use Rattle.mst_batch.specs.Carrying.{IsPlanOf};
@@ -48,8 +48,6 @@ pub fn carry_out<R: Rows, A: Allocator, B: Allocator>(
         → IsPlanOf format (R.content rows.old) desk.old root.now kept.now (plan_of plan.now) change
         → AfterChange format (R.content rows.old) (R.content rows.new) desk.old desk.new root.now
         done change) }
-    ensures written { OnlyFreeWritten desk.old (R.content rows.old) (R.content rows.new) }
-    ensures versions { SameVersions desk.old desk.new }
     ensures beside { StaysBeside R.blank R.kept rows.old rows.new }
     ensures no_room { IfErr result (λ _. (change : List Pair → List Pair)
         → IsPlanOf format (R.content rows.old) desk.old root.now kept.now (plan_of plan.now) change

@@ -5,7 +5,7 @@ ghost use Rattle.mst_node.specs.Text.{highest_count};
 ghost use Rattle.mst_node.specs.Shape.{tree_of_child};
 ghost use Rattle.mst_path.specs.Takes.{FreeIsBlank, StaysBeside};
 ghost use Rattle.mst_path.specs.Planting.{IsTreeOf};
-ghost use Rattle.mst_path.specs.Changing.{MapStands, OnlyFreeWritten, SameVersions};
+ghost use Rattle.mst_path.specs.Changing.{MapStands};
 ghost use Rattle.mst_path.specs.AfterChange.{AfterChange};
 ghost use Rattle.mst_batch.specs.Applying.{LacksBatch, LacksPairs};
 
@@ -62,8 +62,6 @@ pub(crate) fn load<R: Rows, A: Allocator, B: Allocator + Copy>(
     requires free { FreeIsBlank desk.old.lives (R.blank rows.old) }
     ensures changed { IfOk result (λ done. AfterChange format (R.content rows.old)
         (R.content rows.new) desk.old desk.new root.now done (λ m. batched m edits.now)) }
-    ensures written { OnlyFreeWritten desk.old (R.content rows.old) (R.content rows.new) }
-    ensures versions { SameVersions desk.old desk.new }
     ensures beside { StaysBeside R.blank R.kept rows.old rows.new }
     ensures lacks { IfErr result (λ why. LacksBatch why format (R.content rows.old) desk.old
         root.now edits.now) }

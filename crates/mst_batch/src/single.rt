@@ -6,7 +6,7 @@ ghost use Rattle.mst_node.specs.Cost.{cost};
 ghost use Rattle.mst_arena.specs.Lives.{free_count};
 ghost use Rattle.mst_arena.specs.Standing.{Stands};
 ghost use Rattle.mst_path.specs.Takes.{FreeIsBlank, StaysBeside};
-ghost use Rattle.mst_path.specs.Changing.{MapStands, OnlyFreeWritten, SameVersions};
+ghost use Rattle.mst_path.specs.Changing.{MapStands};
 ghost use Rattle.mst_path.specs.AfterChange.{AfterChange};
 
 use mst_arena::{Desk, Root, Rows};
@@ -27,8 +27,6 @@ pub(crate) fn apply_one<R: Rows, A: Allocator>(
     requires free { FreeIsBlank desk.old.lives (R.blank rows.old) }
     ensures changed { IfOk result (λ done. AfterChange format (R.content rows.old)
         (R.content rows.new) desk.old desk.new root.now done (λ m. batched m (edit.now ∷ []))) }
-    ensures written { OnlyFreeWritten desk.old (R.content rows.old) (R.content rows.new) }
-    ensures versions { SameVersions desk.old desk.new }
     ensures beside { StaysBeside R.blank R.kept rows.old rows.new }
     ensures no_room { IfErr result (λ _. (m : List Pair)
         → Stands format (R.content rows.old) root.now m

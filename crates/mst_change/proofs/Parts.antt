@@ -9,20 +9,6 @@ use Rattle.mst_change.specs.Parts.{cells, last_child, first_child, with_first, n
 
 -- ---- entries after cells
 
-pub cells_back : (es : Entries) → with_entries (cells es) (last (last_child es)) ≡ es
-cells_back (last child) = refl
-cells_back (entry child key value rest) = ap (entry child key value) (cells_back rest)
-
-pub cells-with : (front : List TreeEntry) (es : Entries) → cells (with_entries front es) ≡ front
-    ++ cells es
-cells-with [] es = refl
-cells-with (c ∷ front) es = ap (λ (l : List TreeEntry). c ∷ l) (cells-with front es)
-
-pub last_child-with : (front : List TreeEntry) (es : Entries) → last_child (with_entries front es)
-    ≡ last_child es
-last_child-with [] es = refl
-last_child-with (c ∷ front) es = last_child-with front es
-
 pub with_entries-append : (front more : List TreeEntry) (es : Entries)
     → with_entries (front ++ more) es ≡ with_entries front (with_entries more es)
 with_entries-append [] more es = refl
@@ -39,15 +25,6 @@ pub node_of_empty : (es : Entries) (g : Format) (l : ℕ) → is_empty (node_of 
 node_of_empty (last child) g l = refl
 node_of_empty (entry child key value rest) g l = let more : (entry_count rest + 1 == 0) ≡ false =
     grind (arith, nat_tests) in rw more
-
-pub with_first_itself : (es : Entries) → with_first (first_child es) es ≡ es
-with_first_itself (last child) = refl
-with_first_itself (entry child key value rest) = refl
-
-pub with_first_twice : (es : Entries) (new other : Tree) → with_first new (with_first other es)
-    ≡ with_first new es
-with_first_twice (last child) new other = refl
-with_first_twice (entry child key value rest) new other = refl
 
 pub first_child-with : (es : Entries) (new : Tree) → first_child (with_first new es) ≡ new
 first_child-with (last child) new = refl

@@ -6,7 +6,7 @@ use Rattle.mst_arena.specs.declared.row.HeadLinks.{HeadLinks}
 use Rattle.mst_arena.specs.Standing.{Placed, link_of, tree_of, HasRows}
 use Rattle.mst_path.specs.declared.making.Run.{Run}
 use Rattle.mst_path.specs.declared.cut.Cut.{Cut}
-use Rattle.mst_path.specs.declared.cut.Cut.TheVariants.{Gap, Held}
+use Rattle.mst_path.specs.declared.cut.Cut.TheVariants.{Gap, Found}
 use Rattle.mst_change.specs.Gap.{IsGap, IsAt}
 use Rattle.mst_path.specs.Runs.{own_rows}
 use Rattle.mst_path.specs.Writing.{PlacedEntry, link_from}
@@ -41,7 +41,7 @@ pub record CutGap (format : Format) (k : List ℕ) (es : List PlacedEntry) (tail
       (entries_to format behind tail)
 
 -- the key's entry stands in the row between two parts of the entries, after the tree at the link
-pub record CutHeld (format : Format) (k : List ℕ) (es : List PlacedEntry) (tail : Placed)
+pub record CutFound (format : Format) (k : List ℕ) (es : List PlacedEntry) (tail : Placed)
     (front : Run) (row child : ℕ) (back : Run) : Type 0 where
   pub before : List PlacedEntry
   pub here : PlacedEntry
@@ -59,4 +59,4 @@ pub record CutHeld (format : Format) (k : List ℕ) (es : List PlacedEntry) (tai
 -- a cut of the entries at the key
 abbrev pub IsCut : (format : Format) → List ℕ → List PlacedEntry → Placed → Cut → Type 0
 IsCut format k es tail (Gap front child back) = CutGap format k es tail front child back
-IsCut format k es tail (Held front row child back) = CutHeld format k es tail front row child back
+IsCut format k es tail (Found front row child back) = CutFound format k es tail front row child back

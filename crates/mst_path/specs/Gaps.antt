@@ -6,10 +6,11 @@ use Rattle.mst_node.specs.Tree.{Tree, node, Entries, entry_count}
 use Rattle.mst_arena.specs.Content.{Content}
 use Rattle.mst_arena.specs.Lives.{State}
 use Rattle.mst_arena.specs.Standing.{tree_of}
+use Rattle.mst_arena.specs.Limits.{highest_layer}
 use Rattle.mst_path.specs.declared.frames.Frame.{Frame}
 use Rattle.mst_path.specs.declared.joining.Meeting.{Meeting}
-use Rattle.mst_path.specs.declared.remove_path.Step.{Step}
-use Rattle.mst_path.specs.declared.remove_path.Step.TheVariants.{Down, Here}
+use Rattle.mst_path.specs.declared.remove_path.TopStep.{TopStep}
+use Rattle.mst_path.specs.declared.remove_path.TopStep.TheVariants.{Down, Here}
 use Rattle.mst_change.specs.Parts.{first_child, with_first}
 use Rattle.mst_change.specs.Gap.{IsGap, IsAt}
 use Rattle.mst_path.specs.Making.{cells_of, entries_to}
@@ -33,7 +34,7 @@ pub record OpensGap (format : Format) (content : Content) (s : State) (link : �
   pub some : 0 < entry_count entries
   pub given : (x : ℕ) → in_tree format t x ≡ in_tree format inner x + in_frame format framed x
   pub falls : height (tree_of format inner.placed) < height (tree_of format t.placed)
-  pub low : frame.layer ≤ 128
+  pub low : frame.layer ≤ highest_layer
 
 -- The key has an entry in the node: the trees beside it, and the frame round it.
 pub record OpensEntry (format : Format) (content : Content) (s : State) (link : ℕ)
@@ -50,10 +51,10 @@ pub record OpensEntry (format : Format) (content : Content) (s : State) (link : 
       → with_first u behind ≡ with_first u (entries_to format framed.back framed.tail)
   pub counted : entry_count entries ≡ m.frame.front.count + m.frame.back.count + 1
   pub given : (x : ℕ) → in_tree format t x ≡ in_both format inner x + in_frame format framed x
-  pub low : m.frame.layer ≤ 128
+  pub low : m.frame.layer ≤ highest_layer
 
 abbrev pub IsOpened : (format : Format) (content : Content) (s : State) (link : ℕ)
-    → SearchTree format content s link → List ℕ → Step → Type 0
+    → SearchTree format content s link → List ℕ → TopStep → Type 0
 IsOpened format content s link t k (Down child frame) =
     OpensGap format content s link t k child frame
 IsOpened format content s link t k (Here meeting) = OpensEntry format content s link t k meeting

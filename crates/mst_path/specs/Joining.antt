@@ -10,6 +10,7 @@ use Rattle.mst_arena.specs.Lives.{State}
 use Rattle.mst_arena.specs.declared.row.HeadLinks.{HeadLinks}
 use Rattle.mst_arena.specs.Lists.{times}
 use Rattle.mst_arena.specs.Standing.{Placed, tree_of, link_of, used}
+use Rattle.mst_arena.specs.Limits.{highest_layer}
 use Rattle.mst_path.specs.declared.joining.Meeting.{Meeting}
 use Rattle.mst_change.specs.Join.{join}
 use Rattle.mst_change.specs.Cost.{join_rows}
@@ -68,17 +69,17 @@ pub record Met (format : Format) (content : Content) (s : State) (left right : �
   pub given : (x : ℕ) → in_both format t x ≡ in_both format inner x + in_frame format framed x
   pub falls : height (tree_of format inner.a) + height (tree_of format inner.b)
       < height (tree_of format t.a) + height (tree_of format t.b)
-  pub low : m.frame.layer ≤ 128
+  pub low : m.frame.layer ≤ highest_layer
 
 -- ---- where they meet, by the layers of their nodes
 
 abbrev pub above_right : ℕ → ℕ → HeadLinks → Meeting
-above_right left right low = record {
-  left = low.tail;
+above_right left right left_head = record {
+  left = left_head.tail;
   right = right;
   frame = record {
-    layer = low.layer;
-    front = record { first = low.first; count = low.count };
+    layer = left_head.layer;
+    front = record { first = left_head.first; count = left_head.count };
     back = record { first = 0; count = 0 };
     tail = 0;
     head = left - 1;
@@ -87,28 +88,28 @@ above_right left right low = record {
 }
 
 abbrev pub below_right : ℕ → ℕ → HeadLinks → ℕ → Meeting
-below_right left right high child = record {
+below_right left right right_head child = record {
   left = left;
   right = child;
   frame = record {
-    layer = high.layer;
+    layer = right_head.layer;
     front = record { first = 0; count = 0 };
-    back = record { first = high.first; count = high.count };
-    tail = high.tail;
+    back = record { first = right_head.first; count = right_head.count };
+    tail = right_head.tail;
     head = right - 1;
     other = None;
   };
 }
 
 abbrev pub beside_right : ℕ → ℕ → HeadLinks → HeadLinks → ℕ → Meeting
-beside_right left right low high child = record {
-  left = low.tail;
+beside_right left right left_head right_head child = record {
+  left = left_head.tail;
   right = child;
   frame = record {
-    layer = low.layer;
-    front = record { first = low.first; count = low.count };
-    back = record { first = high.first; count = high.count };
-    tail = high.tail;
+    layer = left_head.layer;
+    front = record { first = left_head.first; count = left_head.count };
+    back = record { first = right_head.first; count = right_head.count };
+    tail = right_head.tail;
     head = left - 1;
     other = Some (right - 1);
   };

@@ -9,7 +9,7 @@ use Rattle.mst_arena.specs.Lives.{State}
 use Rattle.mst_arena.specs.Lists.{In, times}
 use Rattle.mst_arena.specs.declared.row.Root.{Root}
 use Rattle.mst_arena.specs.Standing.{Placed, none, tree_of, link_of, used, HasRows}
-use Rattle.mst_path.specs.declared.making.Parts.{Parts}
+use Rattle.mst_path.specs.declared.making.NodeParts.{NodeParts}
 use Rattle.mst_path.specs.Takes.{KeepsBut}
 use Rattle.mst_path.specs.Moves.{IsOld, Moves, IsNew}
 use Rattle.mst_path.specs.Runs.{Piece, OldPiece, Run, own_rows, own, gaps_used, EachGap}
@@ -58,7 +58,7 @@ pub record BackRun (format : Format) (content : Content) (s : State) (link count
   pub tail_none : HasTail es tail
 
 -- the parts stand, and no row is in two of them
-pub record PartsStand (format : Format) (content : Content) (s : State) (parts : Parts)
+pub record PartsStand (format : Format) (content : Content) (s : State) (parts : NodeParts)
     : Type 0 where
   pub front : List PlacedEntry
   pub behind : ℕ
@@ -74,7 +74,7 @@ pub record PartsStand (format : Format) (content : Content) (s : State) (parts :
       + times x (gaps_used (others back)) + times x (used tail) ≤ 1
 
 -- how often a row stands in the parts
-abbrev pub in_parts : (format : Format) {content : Content} {s : State} {parts : Parts}
+abbrev pub in_parts : (format : Format) {content : Content} {s : State} {parts : NodeParts}
     → PartsStand format content s parts → ℕ → ℕ
 in_parts format p x = times x (own p.front) + times x (gaps_used p.front) + times x (used p.seam)
     + times x (own p.back) + times x (gaps_used (others p.back)) + times x (used p.tail)
@@ -114,19 +114,12 @@ pub record Split (format : Format) (c c' : Content) (s s' : State) (t u : Tree) 
       → times x (used lower) + times x (used upper) + times x killed ≡ given x + times x taken
   pub counted : length taken ≡ count
 
--- a tree of the current version stands at a link: no row stands twice in it
-pub record OldTree (format : Format) (content : Content) (s : State) (link : ℕ) : Type 0 where
-  pub placed : Placed
-  pub at : link_of placed ≡ link
-  pub piece : OldPiece format content s placed
-  pub once : (x : ℕ) → times x (used placed) ≤ 1
-
 -- ---- a node whose front is written
 
 -- What is left of the parts, for a node whose entries in front are written: the rows that were
 -- taken for its head and its next entry are new ones, and no row stands twice.
 pub record Rest {A : Type 0} (format : Format) (w : NodeWriter A) (content : Content) (s : State)
-    (parts : Parts)
+    (parts : NodeParts)
     : Type 0 where
   pub ws : List PlacedEntry
   pub going : Going format w content s ws
@@ -144,7 +137,7 @@ pub record Rest {A : Type 0} (format : Format) (w : NodeWriter A) (content : Con
 -- the node is written
 pub record Finished {A : Type 0} (format : Format) (w : NodeWriter A) (c c' : Content)
     (s s' : State)
-    (parts : Parts) (r : Rest format w c s parts) (at : Root) : Type 0 where
+    (parts : NodeParts) (r : Rest format w c s parts) (at : Root) : Type 0 where
   pub placed : Placed
   pub is : tree_of format placed ≡ node format w.layer
       (with_entries (cells_of format r.ws)

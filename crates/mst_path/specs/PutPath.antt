@@ -10,6 +10,7 @@ use Rattle.mst_arena.specs.Lives.{State}
 use Rattle.mst_arena.specs.Lists.{times}
 use Rattle.mst_arena.specs.declared.row.Root.{Root}
 use Rattle.mst_arena.specs.Standing.{Placed, tree_of, used}
+use Rattle.mst_arena.specs.Limits.{highest_layer}
 use Rattle.mst_path.specs.declared.frames.Frame.{Frame}
 use Rattle.mst_path.specs.declared.joining.Meeting.{Meeting}
 use Rattle.mst_path.specs.declared.put_path.PutStep.{PutStep}
@@ -86,7 +87,7 @@ pub record PutsDown (format : Format) (content : Content) (s : State) (link : �
       → pair_rows format t l k v ≡ pair_rows format inner l k v + frame_rows frame
   pub given : (x : ℕ) → in_rising format t x ≡ in_rising format inner x + in_frame format framed x
   pub falls : height (tree_of format inner.tree.placed) < height (tree_of format t.tree.placed)
-  pub low : frame.layer ≤ 128
+  pub low : frame.layer ≤ highest_layer
 
 -- The key falls into a gap of a node of its layer: the tree there is split, and the pair stands
 -- between its sides.
@@ -103,7 +104,7 @@ pub record PutsBetween (format : Format) (content : Content) (s : State) (link :
       → pair_rows format t l k v ≡ split_rows k (tree_of format inner.tree.placed) + with_rows frame
   pub given : (x : ℕ)
       → in_rising format t x ≡ times x (used inner.tree.placed) + in_frame format framed x
-  pub low : frame.layer ≤ 128
+  pub low : frame.layer ≤ highest_layer
 
 -- The key has an entry in the node: it is written anew, with the value, between the trees beside
 -- it.
@@ -116,7 +117,7 @@ pub record PutsAnew (format : Format) (content : Content) (s : State) (link : �
       ≡ tree_with format framed k v (tree_of format inner.a) (tree_of format inner.b)
   pub rows : (v : List ℕ) → pair_rows format t l k v ≡ with_rows m.frame
   pub given : (x : ℕ) → in_rising format t x ≡ in_both format inner x + in_frame format framed x
-  pub low : m.frame.layer ≤ 128
+  pub low : m.frame.layer ≤ highest_layer
 
 -- if the pair stands on top, all keys are of lower layers
 abbrev pub IsPutStep : (format : Format) (content : Content) (s : State) (link : ℕ)

@@ -5,7 +5,7 @@ use Rattle.std.specs.Int.{w16, to_be_bytes}
 use Rattle.std.specs.List.{AllByRecursion, flat_map}
 use Rattle.mst_prefix.specs.Kept.{HasTaken}
 use Rattle.mst_node.specs.Text.{FlatEntry, entry_text, child_digest, held_of, format_byte, digest as digest_of}
-use Rattle.mst_arena.specs.Limits.{most_rows, most_entries}
+use Rattle.mst_arena.specs.Limits.{highest_layer, most_rows, most_entries}
 use Rattle.mst_arena.specs.Content.{Content}
 use Rattle.mst_arena.specs.declared.row.Root.{Root}
 use Rattle.mst_arena.specs.declared.row.Row.{Row}
@@ -83,7 +83,7 @@ IsAhead (Some r) left = 0 < left
 
 -- the limits of what a writer holds; its hasher has taken a text
 pub record IsWriter {A : Type 0} (w : NodeWriter A) : Type 0 where
-  pub low : w.layer ≤ 128
+  pub low : w.layer ≤ highest_layer
   pub some : 0 < w.count
   pub few : w.count ≤ most_entries
   pub small : AllByRecursion (λ r. r < most_rows) (w.head ∷ w.first ∷ ahead w.next)

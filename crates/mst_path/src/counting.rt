@@ -1,5 +1,5 @@
 //! How many rows a put takes, counted along its path before anything is written.
-ghost use Rattle.std.specs.Prelude.{◌≡◌, ◌≤◌, ◌<◌, ◌+◌, ◌*◌, ◌==◌, ◌&&◌, ◌||◌, ℕ, List, length};
+ghost use Rattle.std.specs.Prelude.{◌≡◌, ◌≤◌, ◌<◌, ◌+◌, ◌*◌, ◌==◌, ◌&&◌, ◌||◌, ℕ, List, length, ◌^◌};
 ghost use Rattle.std.specs.Bool.{MatchBool};
 ghost use Rattle.mst_key.specs.declared.format.Format.{Format};
 ghost use Rattle.mst_key.specs.Layer.{layer_in};
@@ -14,7 +14,7 @@ ghost use Rattle.mst_path.specs.PutPath.{RisingTree, pair_rows, with_rows};
 
 use crate::frames::Frame;
 use crate::put_path::{PutStep, put_step};
-use crate::remove_path::{Step, top_step};
+use crate::remove_path::{TopStep, top_step};
 use mst_arena::{Desk, Rows, Sought};
 use std::alloc::Allocator;
 
@@ -45,7 +45,7 @@ fn is_no_node(count: u32, whole: bool) -> bool
 
 /// How many rows one side of a node that is split takes.
 fn side_cost(count: u32, whole: bool) -> u32
-    requires few { side_rows count whole ≤ 4294967295 }
+    requires few { side_rows count whole < 2 ^ 32 }
     ensures rows { result ≡ side_rows count whole }
 {
     if is_no_node(count, whole) {
@@ -57,7 +57,7 @@ fn side_cost(count: u32, whole: bool) -> u32
 
 /// How many rows a node of the frame with a new entry takes.
 fn rows_with_entry(frame: &Frame) -> u32
-    requires few { with_rows frame.now ≤ 4294967295 }
+    requires few { with_rows frame.now < 2 ^ 32 }
     ensures rows { result ≡ with_rows frame.now }
 {
     frame.front.count + frame.back.count + 2
@@ -67,7 +67,7 @@ fn rows_with_entry(frame: &Frame) -> u32
 pub(crate) fn split_cost<R: Rows>(rows: &mut R, link: u32, key: &Sought) -> SplitCost
     requires tree { (format : Format) × (s : State)
         × (t : ToSplit format (R.content rows.old) s link key.now)
-        × (split_rows key.now (tree_of format t.tree.placed) ≤ 4294967295) }
+        × (split_rows key.now (tree_of format t.tree.placed) < 2 ^ 32) }
     ensures rows { (format : Format) (s : State) (t : ToSplit format
         (R.content rows.old) s link key.now)
         → result.rows ≡ split_rows key.now (tree_of format t.tree.placed) }
@@ -86,7 +86,7 @@ pub(crate) fn split_cost<R: Rows>(rows: &mut R, link: u32, key: &Sought) -> Spli
             none_above: true,
         };
     }
-    let Step::Down { child, frame } = top_step(rows, link, key) else {
+    let TopStep::Down { child, frame } = top_step(rows, link, key) else {
         unreachable!()
     };
     let inner = split_cost(rows, child, key);
@@ -106,7 +106,7 @@ pub(crate) fn split_cost<R: Rows>(rows: &mut R, link: u32, key: &Sought) -> Spli
 pub(crate) fn put_cost<R: Rows>(rows: &mut R, link: u32, layer: u8, key: &Sought) -> u32
     requires tree { (format : Format) × (s : State)
         × (t : RisingTree format (R.content rows.old) s link) × (v : List ℕ)
-        × (pair_rows format t layer key.now v ≤ 4294967295) × (layer ≡ layer_in format key.now) }
+        × (pair_rows format t layer key.now v < 2 ^ 32) × (layer ≡ layer_in format key.now) }
     ensures cost { (format : Format) (s : State) (t : RisingTree format (R.content rows.old) s link)
         (v : List ℕ) → layer ≡ layer_in format key.now
         → result ≡ pair_rows format t layer key.now v }

@@ -21,7 +21,7 @@ pub(crate) enum Cut {
         back: Run,
     },
     /// The key has an entry between the front and the back.
-    Held {
+    Found {
         /// The entries below the key.
         front: Run,
         /// The row of the key's entry.
@@ -59,7 +59,7 @@ pub(crate) fn cut_at<R: Rows>(rows: &mut R, head: &HeadLinks, key: &Sought) -> C
             }
             Way::Here => {
                 let entry = rows.entry(row);
-                return Cut::Held {
+                return Cut::Found {
                     front: Run { first, count },
                     row,
                     child: entry.child,

@@ -28,6 +28,6 @@ pub(crate) fn find<R: Rows>(rows: &mut R, link: u32, key: &Sought) -> Option<Val
     let head = rows.head(link - 1);
     match cut_at(rows, &head, key) {
         Cut::Gap { child, .. } => find(rows, child, key),
-        Cut::Held { row, .. } => Some(rows.value(row)),
+        Cut::Found { row, .. } => Some(rows.value(row)),
     }
 }

@@ -1,9 +1,10 @@
 //! What is left of nodes round a gap, once the tree in the gap is made anew.
-ghost use Rattle.std.specs.Prelude.{◌≡◌, ◌≤◌, ◌<◌, ◌+◌, ℕ, [], ◌∷◌};
+ghost use Rattle.std.specs.Prelude.{◌≡◌, ◌≤◌, ◌<◌, ◌+◌, ℕ, [], ◌∷◌, ◌^◌};
 ghost use Rattle.mst_key.specs.declared.format.Format.{Format};
 ghost use Rattle.mst_arena.specs.Lives.{free_count};
 ghost use Rattle.mst_arena.specs.Lists.{In, times};
 ghost use Rattle.mst_arena.specs.Standing.{Placed, tree_of, used};
+ghost use Rattle.mst_arena.specs.Limits.{highest_layer};
 ghost use Rattle.mst_path.specs.Takes.{IsWritable, StaysBeside};
 ghost use Rattle.mst_path.specs.Moves.{IsOld, Moves};
 ghost use Rattle.mst_path.specs.Runs.{Piece};
@@ -11,7 +12,7 @@ ghost use Rattle.mst_path.specs.Writing.{IsRootOf, ahead};
 ghost use Rattle.mst_path.specs.Making.{Grown};
 ghost use Rattle.mst_path.specs.Frames.{Framed, in_entries, in_frame, tree_round, frame_rows};
 
-use crate::making::{Parts, Run, make_node};
+use crate::making::{NodeParts, Run, make_node};
 use mst_arena::{Desk, Root, Rows};
 use mst_key::Format;
 use std::alloc::Allocator;
@@ -35,7 +36,7 @@ pub(crate) struct Frame {
 impl Frame {
     /// How many rows its node takes: none if it has no entry.
     pub(crate) fn rows(&self) -> u32
-        requires few { frame_rows self.now ≤ 4294967295 }
+        requires few { frame_rows self.now < 2 ^ 32 }
         ensures rows { result ≡ frame_rows self.now }
     {
         let count = self.front.count + self.back.count;
@@ -66,7 +67,7 @@ fn fill<R: Rows, A: Allocator>(
     requires frame { (p : Placed) × IsRootOf format p seam.now
         × Piece format (R.content rows.old) desk.old p
         × Framed format (R.content rows.old) desk.old frame.now (λ x. times x (used p)) }
-    requires low { frame.now.layer ≤ 128 }
+    requires low { frame.now.layer ≤ highest_layer }
     requires room { frame_rows frame.now ≤ free_count desk.old.lives }
     requires ready { IsWritable desk.old.lives (R.blank rows.old) }
     ensures made { (p : Placed) → IsRootOf format p seam.now
@@ -81,7 +82,7 @@ fn fill<R: Rows, A: Allocator>(
     if frame.front.count + frame.back.count == 0 {
         return *seam;
     }
-    let parts = Parts {
+    let parts = NodeParts {
         layer: frame.layer,
         front: frame.front,
         seam: *seam,
@@ -103,7 +104,7 @@ pub(crate) fn close<R: Rows, A: Allocator>(
     requires frame { (p : Placed) × IsRootOf format p seam.now
         × Piece format (R.content rows.old) desk.old p
         × Framed format (R.content rows.old) desk.old frame.now (λ x. times x (used p)) }
-    requires low { frame.now.layer ≤ 128 }
+    requires low { frame.now.layer ≤ highest_layer }
     requires room { frame_rows frame.now ≤ free_count desk.old.lives }
     requires ready { IsWritable desk.old.lives (R.blank rows.old) }
     ensures made { (p : Placed) → IsRootOf format p seam.now

@@ -85,31 +85,31 @@ fn meet<R: Rows>(rows: &mut R, left: u32, right: u32) -> Meeting
         → Met format (R.content rows.old) s left right t result }
     ensures same { rows.new ≡ rows.old }
 {
-    let low = rows.head(left - 1);
-    let high = rows.head(right - 1);
-    if high.layer < low.layer {
-        return higher(left, &low, right);
+    let left_head = rows.head(left - 1);
+    let right_head = rows.head(right - 1);
+    if right_head.layer < left_head.layer {
+        return above_right(left, &left_head, right);
     }
-    let first = rows.entry(high.first - 1);
-    if low.layer < high.layer {
-        return lower(left, right, &high, first.child);
+    let first = rows.entry(right_head.first - 1);
+    if left_head.layer < right_head.layer {
+        return below_right(left, right, &right_head, first.child);
     }
-    level(left, &low, right, &high, first.child)
+    beside_right(left, &left_head, right, &right_head, first.child)
 }
 
 /// The left node is the higher one: its last tree meets the right tree.
-fn higher(left: u32, low: &HeadLinks, right: u32) -> Meeting
+fn above_right(left: u32, left_head: &HeadLinks, right: u32) -> Meeting
     requires left { 0 < left }
-    ensures is { result ≡ above_right left right low.now }
+    ensures is { result ≡ above_right left right left_head.now }
 {
     Meeting {
-        left: low.tail,
+        left: left_head.tail,
         right,
         frame: Frame {
-            layer: low.layer,
+            layer: left_head.layer,
             front: Run {
-                first: low.first,
-                count: low.count,
+                first: left_head.first,
+                count: left_head.count,
             },
             back: no_run(),
             tail: 0,
@@ -120,21 +120,21 @@ fn higher(left: u32, low: &HeadLinks, right: u32) -> Meeting
 }
 
 /// The left node is the lower one: it meets the first tree of the right node.
-fn lower(left: u32, right: u32, high: &HeadLinks, child: u32) -> Meeting
+fn below_right(left: u32, right: u32, right_head: &HeadLinks, child: u32) -> Meeting
     requires right { 0 < right }
-    ensures is { result ≡ below_right left right high.now child }
+    ensures is { result ≡ below_right left right right_head.now child }
 {
     Meeting {
         left,
         right: child,
         frame: Frame {
-            layer: high.layer,
+            layer: right_head.layer,
             front: no_run(),
             back: Run {
-                first: high.first,
-                count: high.count,
+                first: right_head.first,
+                count: right_head.count,
             },
-            tail: high.tail,
+            tail: right_head.tail,
             head: right - 1,
             other: None,
         },
@@ -143,25 +143,31 @@ fn lower(left: u32, right: u32, high: &HeadLinks, child: u32) -> Meeting
 
 /// The nodes are of one layer and become one: the last tree of the left one meets the first of the
 /// right one.
-fn level(left: u32, low: &HeadLinks, right: u32, high: &HeadLinks, child: u32) -> Meeting
+fn beside_right(
+    left: u32,
+    left_head: &HeadLinks,
+    right: u32,
+    right_head: &HeadLinks,
+    child: u32,
+) -> Meeting
     requires left { 0 < left }
     requires right { 0 < right }
-    ensures is { result ≡ beside_right left right low.now high.now child }
+    ensures is { result ≡ beside_right left right left_head.now right_head.now child }
 {
     Meeting {
-        left: low.tail,
+        left: left_head.tail,
         right: child,
         frame: Frame {
-            layer: low.layer,
+            layer: left_head.layer,
             front: Run {
-                first: low.first,
-                count: low.count,
+                first: left_head.first,
+                count: left_head.count,
             },
             back: Run {
-                first: high.first,
-                count: high.count,
+                first: right_head.first,
+                count: right_head.count,
             },
-            tail: high.tail,
+            tail: right_head.tail,
             head: left - 1,
             other: Some(right - 1),
         },

@@ -6,6 +6,7 @@ ghost use Rattle.mst_node.specs.Shape.{with_entries};
 ghost use Rattle.mst_arena.specs.Lives.{free_count};
 ghost use Rattle.mst_arena.specs.Lists.{times};
 ghost use Rattle.mst_arena.specs.Standing.{Placed, tree_of, used};
+ghost use Rattle.mst_arena.specs.Limits.{highest_layer};
 ghost use Rattle.mst_change.specs.Parts.{with_first};
 ghost use Rattle.mst_path.specs.Takes.{IsWritable, StaysBeside};
 ghost use Rattle.mst_path.specs.Runs.{Piece};
@@ -42,7 +43,7 @@ pub(crate) fn kept_tail(count: u32, tail: u32) -> u32
 
 /// What a new node is made of. The entries die where they stand, and are written anew.
 #[derive(Clone, Copy)]
-pub(crate) struct Parts {
+pub(crate) struct NodeParts {
     pub(crate) layer: u8,
     /// The entries in front.
     pub(crate) front: Run,
@@ -58,12 +59,12 @@ pub(crate) struct Parts {
 pub(crate) fn make_node<R: Rows, A: Allocator>(
     rows: &mut R,
     desk: &mut Desk<A>,
-    parts: &Parts,
+    parts: &NodeParts,
     format: Format,
 ) -> Root
     requires parts { PartsStand format (R.content rows.old) desk.old parts.now }
     requires some { 0 < parts.now.front.count + parts.now.back.count }
-    requires low { parts.now.layer ≤ 128 }
+    requires low { parts.now.layer ≤ highest_layer }
     requires room { parts.now.front.count + parts.now.back.count + 1 ≤ free_count desk.old.lives }
     requires ready { IsWritable desk.old.lives (R.blank rows.old) }
     ensures made { (p : PartsStand format (R.content rows.old) desk.old parts.now)
@@ -92,7 +93,7 @@ pub(crate) fn make_node<R: Rows, A: Allocator>(
 pub(crate) fn make_node_with<R: Rows, A: Allocator>(
     rows: &mut R,
     desk: &mut Desk<A>,
-    parts: &Parts,
+    parts: &NodeParts,
     replaced: Option<u32>,
     child: &Root,
     key: &Key,
@@ -102,7 +103,7 @@ pub(crate) fn make_node_with<R: Rows, A: Allocator>(
     requires parts { (p : PartsStand format (R.content rows.old) desk.old parts.now) × (c : Placed)
         × IsRootOf format c child.now × Piece format (R.content rows.old) desk.old c
         × ((x : ℕ) → in_parts format p x + times x (used c) ≤ 1) }
-    requires low { parts.now.layer ≤ 128 }
+    requires low { parts.now.layer ≤ highest_layer }
     requires room { parts.now.front.count + parts.now.back.count + 2 ≤ free_count desk.old.lives }
     requires ready { IsWritable desk.old.lives (R.blank rows.old) }
     ensures made { (p : PartsStand format (R.content rows.old) desk.old parts.now) (c : Placed)
@@ -135,7 +136,7 @@ fn finish_node<R: Rows, A: Allocator>(
     rows: &mut R,
     desk: &mut Desk<A>,
     writer: NodeWriter<A>,
-    parts: &Parts,
+    parts: &NodeParts,
 ) -> Root
     requires rest { (format : Format) × Rest format writer (R.content rows.old) desk.old parts.now }
     requires writer { IsWriter writer }
@@ -162,7 +163,7 @@ fn finish_with_back<R: Rows, A: Allocator>(
     rows: &mut R,
     desk: &mut Desk<A>,
     mut writer: NodeWriter<A>,
-    parts: &Parts,
+    parts: &NodeParts,
 ) -> Root
     requires rest { (format : Format) × Rest format writer (R.content rows.old) desk.old parts.now }
     requires some { 0 < parts.now.back.count }

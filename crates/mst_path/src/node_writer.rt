@@ -3,7 +3,7 @@ ghost use Rattle.std.specs.Prelude.{◌≡◌, ◌≤◌, ◌<◌, ◌+◌, ℕ,
 ghost use Rattle.mst_node.specs.Text.{child_digest};
 ghost use Rattle.mst_key.specs.declared.format.Format.{Format};
 ghost use Rattle.mst_prefix.specs.Kept.{HasTaken};
-ghost use Rattle.mst_arena.specs.Limits.{highest_link, most_entries};
+ghost use Rattle.mst_arena.specs.Limits.{highest_layer, highest_link, most_entries};
 ghost use Rattle.mst_arena.specs.Lives.{free_count};
 ghost use Rattle.mst_arena.specs.Content.{Content, part_at};
 ghost use Rattle.mst_arena.specs.Row.{keyed_links, entry_value};
@@ -101,7 +101,7 @@ impl<A: Allocator> NodeWriter<A> {
         format: Format,
         is_copy: bool,
     ) -> NodeWriter<A>
-        requires low { layer ≤ 128 }
+        requires low { layer ≤ highest_layer }
         requires some { 0 < count }
         requires few { count ≤ most_entries }
         requires room { 2 ≤ free_count desk.old.lives }

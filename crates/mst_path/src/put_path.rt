@@ -7,6 +7,7 @@ ghost use Rattle.mst_node.specs.Tree.{node, entry, last};
 ghost use Rattle.mst_arena.specs.Lives.{State, free_count};
 ghost use Rattle.mst_arena.specs.Lists.{times};
 ghost use Rattle.mst_arena.specs.Standing.{tree_of, used};
+ghost use Rattle.mst_arena.specs.Limits.{highest_layer};
 ghost use Rattle.mst_change.specs.Split.{below, above};
 ghost use Rattle.mst_change.specs.Cost.{split_rows};
 ghost use Rattle.mst_path.specs.Takes.{IsWritable, StaysBeside};
@@ -20,8 +21,8 @@ ghost use Rattle.mst_path.specs.PutPath.{TwoStand, in_two, tree_with, with_rows,
 use crate::copying::root_at;
 use crate::frames::{Frame, close, kill_both};
 use crate::joining::Meeting;
-use crate::making::{Parts, make_node_with, no_run};
-use crate::remove_path::{Step, top_step};
+use crate::making::{NodeParts, make_node_with, no_run};
+use crate::remove_path::{TopStep, top_step};
 use crate::split::split;
 use mst_arena::{Desk, Root, Rows, Sought};
 use mst_key::{Format, Key, Value};
@@ -71,14 +72,14 @@ pub(crate) fn put_step<R: Rows>(rows: &mut R, link: u32, layer: u8, key: &Sought
         return PutStep::OnTop;
     }
     match top_step(rows, link, key) {
-        Step::Down { child, frame } => {
+        TopStep::Down { child, frame } => {
             if frame.layer == layer {
                 PutStep::Between { child, frame }
             } else {
                 PutStep::Down { child, frame }
             }
         }
-        Step::Here { meeting } => PutStep::Anew { meeting },
+        TopStep::Here { meeting } => PutStep::Anew { meeting },
     }
 }
 
@@ -94,7 +95,7 @@ fn put_between<R: Rows, A: Allocator>(
     format: Format,
 ) -> Root
     requires trees { TwoStand format (R.content rows.old) desk.old lower.now upper.now }
-    requires low { layer ≤ 128 }
+    requires low { layer ≤ highest_layer }
     requires room { 2 ≤ free_count desk.old.lives }
     requires ready { IsWritable desk.old.lives (R.blank rows.old) }
     ensures made { (t : TwoStand format (R.content rows.old) desk.old lower.now upper.now)
@@ -104,7 +105,7 @@ fn put_between<R: Rows, A: Allocator>(
         (in_two format t) 2 }
     ensures beside { StaysBeside R.blank R.kept rows.old rows.new }
 {
-    let parts = Parts {
+    let parts = NodeParts {
         layer,
         front: no_run(),
         seam: *upper,
@@ -127,7 +128,7 @@ fn put_on_top<R: Rows, A: Allocator>(
 ) -> Root
     requires tree { (t : ToSplit format (R.content rows.old) desk.old link key.now)
         × (2 + split_rows key.now (tree_of format t.tree.placed) ≤ free_count desk.old.lives) }
-    requires low { layer ≤ 128 }
+    requires low { layer ≤ highest_layer }
     requires ready { IsWritable desk.old.lives (R.blank rows.old) }
     ensures made { (t : ToSplit format (R.content rows.old) desk.old link key.now)
         → Grown format (R.content rows.old) (R.content rows.new) desk.old desk.new
@@ -156,7 +157,7 @@ fn close_with<R: Rows, A: Allocator>(
 ) -> Root
     requires frame { (t : TwoStand format (R.content rows.old) desk.old lower.now upper.now)
         × Framed format (R.content rows.old) desk.old frame.now (in_two format t) }
-    requires low { frame.now.layer ≤ 128 }
+    requires low { frame.now.layer ≤ highest_layer }
     requires room { with_rows frame.now ≤ free_count desk.old.lives }
     requires ready { IsWritable desk.old.lives (R.blank rows.old) }
     ensures made { (t : TwoStand format (R.content rows.old) desk.old lower.now upper.now)
@@ -167,7 +168,7 @@ fn close_with<R: Rows, A: Allocator>(
         (λ x. in_two format t x + in_frame format f x) (with_rows frame.now) }
     ensures beside { StaysBeside R.blank R.kept rows.old rows.new }
 {
-    let parts = Parts {
+    let parts = NodeParts {
         layer: frame.layer,
         front: frame.front,
         seam: *upper,
@@ -194,7 +195,7 @@ fn put_level<R: Rows, A: Allocator>(
         × Framed format (R.content rows.old) desk.old frame.now (λ x. times x (used t.tree.placed))
         × (split_rows key.now (tree_of format t.tree.placed) + with_rows frame.now
         ≤ free_count desk.old.lives) }
-    requires low { frame.now.layer ≤ 128 }
+    requires low { frame.now.layer ≤ highest_layer }
     requires ready { IsWritable desk.old.lives (R.blank rows.old) }
     ensures made { (t : ToSplit format (R.content rows.old) desk.old child key.now)
         (f : Framed format (R.content rows.old) desk.old frame.now (λ x. times x
@@ -222,7 +223,7 @@ fn put_value<R: Rows, A: Allocator>(
     requires met { (t : MetTrees format (R.content rows.old) desk.old meeting.now)
         × Framed format (R.content rows.old) desk.old meeting.now.frame (in_both format t) }
     requires room { with_rows meeting.now.frame ≤ free_count desk.old.lives }
-    requires low { meeting.now.frame.layer ≤ 128 }
+    requires low { meeting.now.frame.layer ≤ highest_layer }
     requires ready { IsWritable desk.old.lives (R.blank rows.old) }
     ensures made { (t : MetTrees format (R.content rows.old) desk.old meeting.now)
         (f : Framed format (R.content rows.old) desk.old meeting.now.frame (in_both format t))
@@ -260,7 +261,7 @@ pub(crate) fn put_at<R: Rows, A: Allocator>(
     requires tree { (t : RisingTree format (R.content rows.old) desk.old link)
         × (pair_rows format t layer key.now value.now ≤ free_count desk.old.lives) }
     requires layer { layer ≡ layer_in format key.now }
-    requires low { layer ≤ 128 }
+    requires low { layer ≤ highest_layer }
     requires ready { IsWritable desk.old.lives (R.blank rows.old) }
     ensures put { (t : RisingTree format (R.content rows.old) desk.old link)
         → Grown format (R.content rows.old) (R.content rows.new) desk.old desk.new

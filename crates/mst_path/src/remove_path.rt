@@ -3,7 +3,7 @@
 ghost use Rattle.std.specs.Prelude.{◌≡◌, ◌≤◌, ◌<◌, ◌+◌, List, length};
 ghost use Rattle.std.specs.Bool.{MatchBool};
 ghost use Rattle.mst_key.specs.declared.format.Format.{Format};
-ghost use Rattle.mst_arena.specs.Limits.{most_rows};
+ghost use Rattle.mst_arena.specs.Limits.{highest_layer, most_rows};
 ghost use Rattle.mst_arena.specs.Lives.{State, free_count};
 ghost use Rattle.mst_arena.specs.Standing.{Placed, link_of, HasRows};
 ghost use Rattle.mst_path.specs.Cutting.{IsRunOf, gap_before};
@@ -13,7 +13,7 @@ ghost use Rattle.mst_path.specs.Takes.{FewRows, IsWritable, StaysBeside};
 ghost use Rattle.mst_path.specs.Making.{Grown};
 ghost use Rattle.mst_path.specs.Frames.{Framed, in_frame, tree_round, frame_rows};
 ghost use Rattle.mst_path.specs.Joining.{MetTrees, in_both, both_joined, both_rows};
-ghost use Rattle.mst_path.specs.RemovePath.{SearchTree, in_tree, without, without_rows, IsStep};
+ghost use Rattle.mst_path.specs.RemovePath.{SearchTree, in_tree, without, without_rows};
 ghost use Rattle.mst_path.specs.Gaps.{IsOpened};
 
 use crate::copying::root_at;
@@ -25,12 +25,12 @@ use mst_arena::{Desk, Root, Rows, Sought};
 use mst_key::Format;
 use std::alloc::Allocator;
 
-/// What becomes of a node whose tree loses a key.
+/// Where a key falls in the top node of a tree.
 #[derive(Clone, Copy)]
-pub(crate) enum Step {
-    /// The key falls into a gap: the tree there loses it.
+pub(crate) enum TopStep {
+    /// The key falls into a gap: the tree there, and what is left of the node round it.
     Down { child: u32, frame: Frame },
-    /// The node has the key's entry: it goes, and the trees beside it meet.
+    /// The node has the key's entry: the trees beside it, and what is left of the node round it.
     Here { meeting: Meeting },
 }
 
@@ -50,13 +50,11 @@ fn first_tree<R: Rows>(rows: &mut R, back: Run, tail: u32) -> u32
     rows.entry(back.first - 1).child
 }
 
-/// What becomes of the top node of a tree that is not empty.
-pub(crate) fn top_step<R: Rows>(rows: &mut R, link: u32, key: &Sought) -> Step
+/// The top node of a tree that is not empty, opened where the key falls.
+pub(crate) fn top_step<R: Rows>(rows: &mut R, link: u32, key: &Sought) -> TopStep
     requires tree { (format : Format) × (s : State) × SearchTree format
         (R.content rows.old) s link }
     requires some { 0 < link }
-    ensures step { (format : Format) (s : State) (t : SearchTree format (R.content rows.old) s link)
-        → IsStep format (R.content rows.old) s link t key.now result }
     ensures opened { (format : Format) (s : State) (t : SearchTree format
         (R.content rows.old) s link)
         → IsOpened format (R.content rows.old) s link t key.now result }
@@ -64,7 +62,7 @@ pub(crate) fn top_step<R: Rows>(rows: &mut R, link: u32, key: &Sought) -> Step
 {
     let head = rows.head(link - 1);
     match cut_at(rows, &head, key) {
-        Cut::Gap { front, child, back } => Step::Down {
+        Cut::Gap { front, child, back } => TopStep::Down {
             child,
             frame: Frame {
                 layer: head.layer,
@@ -75,7 +73,7 @@ pub(crate) fn top_step<R: Rows>(rows: &mut R, link: u32, key: &Sought) -> Step
                 other: None,
             },
         },
-        Cut::Held {
+        Cut::Found {
             front,
             row,
             child,
@@ -90,7 +88,7 @@ pub(crate) fn top_step<R: Rows>(rows: &mut R, link: u32, key: &Sought) -> Step
                 head: link - 1,
                 other: Some(row),
             };
-            Step::Here {
+            TopStep::Here {
                 meeting: Meeting {
                     left: child,
                     right,
@@ -111,7 +109,7 @@ fn join_round<R: Rows, A: Allocator>(
     requires met { (t : MetTrees format (R.content rows.old) desk.old meeting.now)
         × Framed format (R.content rows.old) desk.old meeting.now.frame (in_both format t)
         × (both_rows format t + frame_rows meeting.now.frame ≤ free_count desk.old.lives) }
-    requires low { meeting.now.frame.layer ≤ 128 }
+    requires low { meeting.now.frame.layer ≤ highest_layer }
     requires ready { IsWritable desk.old.lives (R.blank rows.old) }
     ensures made { (t : MetTrees format (R.content rows.old) desk.old meeting.now)
         (f : Framed format (R.content rows.old) desk.old meeting.now.frame (in_both format t))
@@ -146,11 +144,11 @@ pub(crate) fn remove_at<R: Rows, A: Allocator>(
         return root_at(rows, link);
     }
     match top_step(rows, link, key) {
-        Step::Down { child, frame } => {
+        TopStep::Down { child, frame } => {
             let seam = remove_at(rows, desk, child, key, format);
             close(rows, desk, &frame, &seam, format)
         }
-        Step::Here { meeting } => join_round(rows, desk, &meeting, format),
+        TopStep::Here { meeting } => join_round(rows, desk, &meeting, format),
     }
 }
 
@@ -167,11 +165,11 @@ pub(crate) fn remove_cost<R: Rows>(rows: &mut R, link: u32, key: &Sought) -> u32
         return 0;
     }
     match top_step(rows, link, key) {
-        Step::Down { child, frame } => {
+        TopStep::Down { child, frame } => {
             let inner = remove_cost(rows, child, key);
             inner + frame.rows()
         }
-        Step::Here { meeting } => {
+        TopStep::Here { meeting } => {
             let joined = join_cost(rows, meeting.left, meeting.right);
             joined + meeting.frame.rows()
         }

@@ -4,6 +4,7 @@ ghost use Rattle.mst_key.specs.declared.format.Format.{Format};
 ghost use Rattle.mst_arena.specs.Lives.{free_count};
 ghost use Rattle.mst_arena.specs.Lists.{times};
 ghost use Rattle.mst_arena.specs.Standing.{none, tree_of, used};
+ghost use Rattle.mst_arena.specs.Limits.{highest_layer};
 ghost use Rattle.mst_change.specs.Split.{below, above};
 ghost use Rattle.mst_change.specs.Parts.{is_empty};
 ghost use Rattle.mst_change.specs.Cost.{side_rows, split_rows};
@@ -14,7 +15,7 @@ ghost use Rattle.mst_path.specs.Splitting.{ToSplit, BothStand, side_of, in_both}
 
 use crate::copying::root_at;
 use crate::cut::{Cut, cut_at};
-use crate::making::{Parts, Run, kept_tail, make_node, no_run};
+use crate::making::{NodeParts, Run, kept_tail, make_node, no_run};
 use mst_arena::{Desk, HeadLinks, Root, Rows, Sought};
 use mst_key::Format;
 use mst_node::empty_digest;
@@ -41,11 +42,11 @@ fn is_none(run: &Run, beside: &Root) -> bool
 pub(crate) fn side<R: Rows, A: Allocator>(
     rows: &mut R,
     desk: &mut Desk<A>,
-    parts: &Parts,
+    parts: &NodeParts,
     format: Format,
 ) -> Root
     requires parts { PartsStand format (R.content rows.old) desk.old parts.now }
-    requires low { parts.now.layer ≤ 128 }
+    requires low { parts.now.layer ≤ highest_layer }
     requires room { side_rows (parts.now.front.count + parts.now.back.count) false
         ≤ free_count desk.old.lives }
     requires ready { IsWritable desk.old.lives (R.blank rows.old) }
@@ -66,12 +67,12 @@ pub(crate) fn both_sides<R: Rows, A: Allocator>(
     rows: &mut R,
     desk: &mut Desk<A>,
     row: u32,
-    left: &Parts,
-    right: &Parts,
+    left: &NodeParts,
+    right: &NodeParts,
     format: Format,
 ) -> (Root, Root)
     requires parts { BothStand format (R.content rows.old) desk.old row left.now right.now }
-    requires low { (left.now.layer ≤ 128) × (right.now.layer ≤ 128) }
+    requires low { (left.now.layer ≤ highest_layer) × (right.now.layer ≤ highest_layer) }
     requires room { side_rows (left.now.front.count + left.now.back.count) false + side_rows
         (right.now.front.count + right.now.back.count) false ≤ free_count desk.old.lives }
     requires ready { IsWritable desk.old.lives (R.blank rows.old) }
@@ -90,7 +91,7 @@ pub(crate) fn both_sides<R: Rows, A: Allocator>(
 }
 
 /// The part of a node in front of a gap, with a tree after it.
-fn front_part(layer: u8, front: Run, seam: Root) -> Parts
+fn front_part(layer: u8, front: Run, seam: Root) -> NodeParts
     ensures part { result ≡ record {
       layer = layer;
       front = front;
@@ -99,7 +100,7 @@ fn front_part(layer: u8, front: Run, seam: Root) -> Parts
       tail = 0;
     } }
 {
-    Parts {
+    NodeParts {
         layer,
         front,
         seam,
@@ -109,7 +110,7 @@ fn front_part(layer: u8, front: Run, seam: Root) -> Parts
 }
 
 /// The part of a node after a gap, with a tree in front of it.
-fn back_part(head: &HeadLinks, back: Run, seam: Root) -> Parts
+fn back_part(head: &HeadLinks, back: Run, seam: Root) -> NodeParts
     ensures part { result ≡ record {
       layer = head.now.layer;
       front = record { first = 0; count = 0 };
@@ -118,7 +119,7 @@ fn back_part(head: &HeadLinks, back: Run, seam: Root) -> Parts
       tail = tail_behind back.count head.now.tail;
     } }
 {
-    Parts {
+    NodeParts {
         layer: head.layer,
         front: no_run(),
         seam,

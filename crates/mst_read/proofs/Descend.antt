@@ -145,6 +145,29 @@ module _ {format : Format} {content : Content} {layer link : ℕ} {P : List Pair
     pub lower : depth top < layer + 1
     lower = falls format layer a.placed top a.under top_is
 
+-- the node has the head that was read
+pub opened_head : (format : Format) (content : Content) (links : HeadLinks) (at l : ℕ) (c : Chain)
+    → head_of (head at l c) ≡ Some links → HasRows content (rows_of format (head at l c))
+    → LiesBehind format content links c × (l ≡ links.layer)
+opened_head format content links at l c is rows =
+    let whole : Some
+    (record { layer = l; count = count_of c; first = first_of c; tail = tail_of c })
+    ≡ Some links = is in
+    let fields : record {
+      layer = l;
+      count = count_of c;
+      first = first_of c;
+      tail = tail_of c;
+    } ≡ links = cc in (
+      record {
+        first = ap (λ (x : HeadLinks). x.first) fields;
+        tail = ap (λ (x : HeadLinks). x.tail) fields;
+        count = ap (λ (x : HeadLinks). x.count) fields;
+        rows = rows.1;
+      },
+      ap (λ (x : HeadLinks). x.layer) fields,
+    )
+
 module _ {format : Format} {content : Content} {top : Option HeadLinks} {P : List Pair → Type 0}
     (r : Reached format content top P) where
   pub inside : {links : HeadLinks} → top ≡ Some links → Inside format content links P
@@ -155,26 +178,11 @@ module _ {format : Format} {content : Content} {top : Option HeadLinks} {P : Lis
           → P (pairs (tree_of format p)) → Inside format content links P
       go none is rows mst rise holds = let no : None ≡ Some links = is in cc
       go (head at l c) is rows mst rise holds =
-          let whole : Some
-          (record { layer = l; count = count_of c; first = first_of c; tail = tail_of c })
-          ≡ Some links = is in
-          let fields : record {
-            layer = l;
-            count = count_of c;
-            first = first_of c;
-            tail =
-                tail_of c;
-          } ≡ links = cc in
+          let opened = opened_head format content links at l c is rows in
           record {
             chain = c;
-            lies = record {
-              first = ap (λ (x : HeadLinks). x.first) fields;
-              tail = ap (λ (x : HeadLinks). x.tail) fields;
-              count = ap (λ (x : HeadLinks). x.count) fields;
-              rows = rows.1;
-            };
-            mst = subst (λ (x : HeadLinks). IsMstEntries format x.layer (entries_of format c))
-                fields mst.2;
+            lies = opened.0;
+            mst = subst (λ (n : ℕ). IsMstEntries format n (entries_of format c)) opened.1 mst.2;
             rise = rise;
             holds = holds;
           }

@@ -1,11 +1,11 @@
 -- A range gathered along the entries of a node.
-use Rattle.std.proofs.Common.{◌≡◌, ℕ, ◌+◌, ◌-◌, ◌<◌, ◌≤◌, ◌⊎◌, inl, inr, false, List, [], ◌∷◌, length, Option, Some, None, IsSome, option_and_then, Result, Ok, Err, OnOk, refl, sym, ◌∙◌, ap, subst, arith}
+use Rattle.std.proofs.Common.{◌≡◌, ℕ, ◌+◌, ◌-◌, ◌<◌, ◌≤◌, ◌⊎◌, inl, inr, false, List, [], ◌∷◌, length, Option, Some, None, option_and_then, Result, Ok, Err, OnOk, refl, sym, ◌∙◌, ap, subst, arith}
 use Rattle.mst_key.specs.declared.format.Format.{Format}
 use Rattle.mst_key.specs.Map.{Pair, IsAscending, below}
 use Rattle.mst_key.proofs.Splits.{IsAscending-front, IsAscending-back, IsAscending-above}
 use Rattle.mst_node.specs.Tree.{pairs, entries_pairs, IsMstEntries}
 use Rattle.mst_arena.specs.Content.{Content, part_at}
-use Rattle.mst_arena.specs.Row.{keyed_links, entry_pair, entry_value}
+use Rattle.mst_arena.specs.Row.{keyed_links, entry_pair}
 use Rattle.mst_arena.specs.declared.row.KeyedLinks.{KeyedLinks}
 use Rattle.mst_arena.specs.declared.row.HeadLinks.{HeadLinks}
 use Rattle.mst_arena.specs.Standing.{Placed, none, head, Chain, end, cell, tree_of, entries_of, count_of}
@@ -13,7 +13,7 @@ use Rattle.mst_read.specs.Search.{Lies, head_of}
 use Rattle.mst_read.specs.Span.{HeadStands, PartStands, filled, past_gap}
 use Rattle.mst_read.proofs.Descend.{falls, depth}
 use Rattle.mst_read.proofs.Still.{stands_still, part_still}
-use Rattle.mst_read.proofs.Walk.{Onward, AtCell, AtEnd, at_cell, entry_left, child_lies, tail_lies, further}
+use Rattle.mst_read.proofs.Walk.{Onward, AtCell, AtEnd, at_cell, child_lies, tail_lies, further}
 use Rattle.mst_read.proofs.Fillings.{filled-append, filled-full, filled-nothing, outside-above}
 
 module _ (to : Option (List ℕ)) (limit : ℕ) (format : Format) (layer : ℕ) where
@@ -22,12 +22,6 @@ module _ (to : Option (List ℕ)) (limit : ℕ) (format : Format) (layer : ℕ) 
     pub mst : IsMstEntries format layer (entries_of format rest)
     pub rise : IsAscending (entries_pairs (entries_of format rest))
     pub holds : filled None to limit found (entries_pairs (entries_of format rest)) ≡ whole
-
--- the value of an entry that was read
-pub cell_value : {format : Format} {content : Content} {tail row done all : ℕ} {e : KeyedLinks}
-    {P : Chain → Type 0} (a : AtCell format content tail row done all e P)
-    → part_at entry_value content row ≡ Some a.value
-cell_value a = ap (option_and_then entry_value) a.here
 
 pub cell_pair : {format : Format} {content : Content} {tail row done all : ℕ} {e : KeyedLinks}
     {P : Chain → Type 0} (a : AtCell format content tail row done all e P)
@@ -174,11 +168,6 @@ module _ {format : Format} {content : Content} {part : HeadLinks} {c : Chain}
       holds =
           record { mst = s.mst; rise = s.rise; same = refl };
     }
-
-    pub entry_there : IsSome (part_at keyed_links content (part.first - 1))
-    entry_there =
-        let Is : Option KeyedLinks → Type 0 = IsSome in
-        subst Is (sym (entry_left walk some).1) refl
 
     -- its first entry was read
     module _ {e : KeyedLinks} (read : part_at keyed_links content (part.first - 1) ≡ Some e) where

@@ -102,17 +102,8 @@ module _ (format : Format) (content : Content) (k : List ℕ) where
                 map_get-before front back k key v rise e;
           }
       go Equal e is further = let no : Found at ≡ Gap link = is in cc
-      go Greater e is further =
-          let a = further is in
-          record {
-            placed = a.placed;
-            lies = a.lies;
-            under = a.under;
-            mst = a.mst;
-            rise =
-                a.rise;
-            holds = a.holds ∙ map_get-behind front back k key v rise e;
-          }
+      go Greater e is further = holding (further is) (Finds k (front ++ (key, v) ∷ back))
+          (λ ps found. found ∙ map_get-behind front back k key v rise e)
 
   value_at : (row : ℕ) (c : Chain) → HasRows content (chain_rows format c)
       → IsAscending (entries_pairs (entries_of format c)) → place k c ≡ Found row

@@ -13,7 +13,7 @@ use Rattle.mst_arena.specs.Content.{Content}
 use Rattle.mst_arena.specs.declared.row.HeadLinks.{HeadLinks}
 use Rattle.mst_arena.specs.Standing.{Placed, none, Chain, end, cell, tree_of, entries_of, link_of, rows_of, chain_rows, HasRows}
 use Rattle.mst_arena.proofs.Stands.{all-front, all-back}
-use Rattle.mst_read.specs.Search.{Lies, LiesBehind, TreeLies, ChainLies, head_of, chain_links, gap_placed}
+use Rattle.mst_read.specs.Search.{Lies, LiesBehind, TreeLies, head_of, chain_links, gap_placed}
 use Rattle.mst_read.specs.Span.{HeadStands, PartStands, filled, past_gap, rest_from}
 use Rattle.mst_read.proofs.Still.{lies_still, stands_still, part_still}
 use Rattle.mst_read.proofs.Descend.{Reached, inside, falls, depth, depth_is}
@@ -164,10 +164,6 @@ opened {format} {content} {top} {links} {p} some s =
       same =
           d.holds;
     }
-
-pub lies_there : {format : Format} {content : Content} {top : Option HeadLinks} {links : HeadLinks}
-    {p : Placed} → top ≡ Some links → HeadStands format content top p → ChainLies content links
-lies_there {format} some s = let o = opened some s in (format, o.chain, o.stands.lies)
 
 -- the node was cut
 module _ {format : Format} {content : Content} {top : Option HeadLinks} {links : HeadLinks}

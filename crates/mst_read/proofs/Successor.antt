@@ -122,17 +122,9 @@ module _ (format : Format) (content : Content) (bound : Option (List ℕ)) where
           (λ ps. map_next ps bound ≡ map_next (front ++ (key, v) ∷ back) bound)
       go true e is further = let no : ◌≡◌ {A = Option (ℕ × ℕ)} (Some (at, link_of p)) None =
           is in cc
-      go false e is further =
-          let a = further is in
-          record {
-            placed = a.placed;
-            lies = a.lies;
-            under = a.under;
-            mst = a.mst;
-            rise =
-                a.rise;
-            holds = a.holds ∙ skipped bound front back key v rise e;
-          }
+      go false e is further = holding (further is)
+          (λ ps. map_next ps bound ≡ map_next (front ++ (key, v) ∷ back) bound)
+          (λ ps next. next ∙ skipped bound front back key v rise e)
 
   -- the tree in the gap before the first entry whose key is
   record EntryMet (l row child : ℕ) (m : List Pair) : Type 0 where
@@ -186,19 +178,13 @@ module _ (format : Format) (content : Content) (bound : Option (List ℕ)) where
           }
       go false t is further =
           let r = further is in
-          let a = r.ahead in
           record {
             pair = r.pair;
             there = r.there;
-            ahead = record {
-              placed = a.placed;
-              lies = a.lies;
-              under = a.under;
-              mst = a.mst;
-              rise =
-                  a.rise;
-              holds = a.holds ∙ skipped bound front back key v rise t;
-            };
+            ahead = holding r.ahead
+                (λ ps. option_or (map_next ps bound) (Some r.pair) ≡ map_next
+                (front ++ (key, v) ∷ back) bound)
+                (λ ps next. next ∙ skipped bound front back key v rise t);
           }
 
 -- a node that has the answer, or otherwise the answer is the pair to the right; its first entry

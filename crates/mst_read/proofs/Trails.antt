@@ -17,7 +17,7 @@ use Rattle.mst_arena.specs.Standing.{Placed, none, head, Chain, end, cell, tree_
 use Rattle.mst_arena.proofs.Stands.{all-front, all-back}
 use Rattle.mst_read.specs.Search.{Lies, LiesBehind, head_of, place, gap_placed}
 use Rattle.mst_read.specs.declared.lookup.RowPlace.TheVariants.{Found, Gap}
-use Rattle.mst_read.proofs.Descend.{lies_at, falls, depth}
+use Rattle.mst_read.proofs.Descend.{opened_head, lies_at, falls, depth}
 
 -- ---- the tree in the gap for a key
 
@@ -157,35 +157,15 @@ module _ (format : Format) {content : Content} {top : Option HeadLinks} {k texts
       go none is rows mst holds counts = let no : ◌≡◌ {A = Option HeadLinks} None (Some links) =
           is in cc
       go (head at l c) is rows mst holds counts =
-          let whole_links : ◌≡◌ {A = Option HeadLinks}
-          (Some (record {
-            layer = l;
-            count = count_of c;
-            first = first_of c;
-            tail =
-                tail_of c;
-          })) (Some links) = is in
-          let fields : record {
-            layer = l;
-            count = count_of c;
-            first = first_of c;
-            tail =
-                tail_of c;
-          } ≡ links = cc in
+          let opened = opened_head format content links at l c is rows in
           record {
             chain = c;
-            lies = record {
-              first = ap (λ (x : HeadLinks). x.first) fields;
-              tail = ap (λ (x : HeadLinks). x.tail) fields;
-              count = ap (λ (x : HeadLinks). x.count) fields;
-              rows = rows.1;
-            };
-            mst = subst (λ (x : HeadLinks). IsMstEntries format x.layer (entries_of format c))
-                fields mst.2;
+            lies = opened.0;
+            mst = subst (λ (n : ℕ). IsMstEntries format n (entries_of format c)) opened.1 mst.2;
             holds =
-                subst (λ (x : HeadLinks). texts ++ framed
-                (map text (node format x.layer (entries_of format c) ∷ met_in_gap k
-                (entries_of format c))) ≡ framed (map text whole)) fields holds;
+                subst (λ (n : ℕ). texts ++ framed
+                (map text (node format n (entries_of format c) ∷ met_in_gap k
+                (entries_of format c))) ≡ framed (map text whole)) opened.1 holds;
             counts = omega (arith, counts);
           }
 

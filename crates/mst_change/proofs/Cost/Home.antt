@@ -128,11 +128,6 @@ pub with_first_key : (fs : Entries) (new : Tree) (q : List ℕ) → HasKey q (wi
 with_first_key (last child) new q has = has
 with_first_key (entry child key value rest) new q has = has
 
-pub key_with_first : (fs : Entries) (new : Tree) (q : List ℕ) → HasKey q fs
-    → HasKey q (with_first new fs)
-key_with_first (last child) new q has = has
-key_with_first (entry child key value rest) new q has = has
-
 pub below_key : (es : Entries) (k q : List ℕ) → HasKey q (entries_below k es) → HasKey q es
 below_key (last child) k q = λ has. has
 below_key (entry child key value rest) k q =

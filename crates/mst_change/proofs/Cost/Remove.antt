@@ -99,10 +99,6 @@ module _ (old : Tree) (old_rises : IsAscending (pairs old)) (format : Format) (k
 
 -- ---- what a remove costs
 
-remove_cost_at : (t : Tree) (k : List ℕ) (o : Option (List ℕ)) → map_get (pairs t) k ≡ o
-    → remove_cost t k ≡ option_map_or (λ v. remove_rows t k) o 0
-remove_cost_at t k o e = ap (λ (x : Option (List ℕ)). option_map_or (λ v. remove_rows t k) x 0) e
-
 new_rows_removed : (t : Tree) (format : Format) (k : List ℕ) (o : Option (List ℕ))
     → map_get (pairs t) k ≡ o → IsAscending (pairs t) → IsMst format t → tree format (pairs t) ≡ t
     → fresh t (tree_remove t k) ≡ option_map_or (λ v. remove_rows t k) o 0

@@ -2,7 +2,6 @@
 pub mod Nodes
 pub mod Growing
 pub mod Opening
-pub mod Opened
 pub mod NodeRuns
 pub mod Meetings
 pub mod Joined

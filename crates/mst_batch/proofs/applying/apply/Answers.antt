@@ -1,7 +1,8 @@
 use Rattle.std.proofs.Common.{rules}
 use Rattle.std.proofs.lemmas.Result.{IfOk-weaker}
 use Rattle.std.proofs.lemmas.Grind.{common_steps}
-use Rattle.std.proofs.Common.{◌≡◌, ◌<◌, List, [], ◌∷◌, length, sym, subst, arith, refl}
+use Rattle.std.proofs.Common.{◌≡◌, ◌<◌, List, [], ◌∷◌, length, sym, ap, subst, arith, refl}
+use Rattle.std.specs.Prelude.{Result, Ok, Err, IfOk, IfErr}
 use Rattle.mst_key.specs.History.{batched}
 use Rattle.mst_key.specs.declared.format.Format.{Format}
 use Rattle.mst_key.specs.declared.history.Edit.{Edit}
@@ -10,7 +11,8 @@ use Rattle.mst_change.proofs.Formats.{stays}
 use Rattle.mst_arena.specs.Content.{Content}
 use Rattle.mst_arena.specs.Lives.{State}
 use Rattle.mst_arena.specs.declared.row.Root.{Root}
-use Rattle.mst_path.specs.Changing.{MapStands}
+use Rattle.mst_key.specs.Map.{Pair}
+use Rattle.mst_path.specs.Changing.{MapStands, OnlyFreeWritten, SameVersions}
 use Rattle.mst_path.specs.AfterChange.{AfterChange}
 use Rattle.mst_path.proofs.lemmas.versions.Changes.{after_change, unchanged_map}
 use Rattle.mst_batch.proofs.applying.apply.Goals as goal
@@ -29,6 +31,25 @@ nothing format content s root es none stands =
     (after_change format content content s s root root (λ m. m) stands (λ m map. map)
     (λ m st old. unchanged_map format content s root (λ n. n) m st old refl
     (stays (tree format m))))
+
+-- a refused change leaves all as it was
+left : {R : Type 0} (content : R → Content) (old new : R) (s s1 : State)
+    → (s1 ≡ s) × (new ≡ old) → OnlyFreeWritten s (content old) (content new) × SameVersions s s1
+left content old new s s1 same = (
+  λ r taken. ap (λ rows. content rows r) same.1,
+  (ap (λ (x : State). x.current) same.0, ap (λ (x : State). x.versions) same.0),
+)
+
+-- so a change, made or refused, writes free rows alone, and keeps the versions
+either_way : {R E : Type 0} (content : R → Content) (format : Format) (old new : R) (s s1 : State)
+    (root : Root) (change : List Pair → List Pair) (result : Result Root E)
+    → IfOk result (λ done. AfterChange format (content old) (content new) s s1 root done change)
+    → IfErr result (λ _. (s1 ≡ s) × (new ≡ old))
+    → OnlyFreeWritten s (content old) (content new) × SameVersions s s1
+either_way content format old new s s1 root change (Ok done) after same =
+    (after.written, after.versions)
+either_way content format old new s s1 root change (Err why) after same =
+    left content old new s s1 same
 
 pub returns-in-empty-clause-cost : goal.returns-in-empty-clause-cost
 returns-in-empty-clause-cost g c =
@@ -97,7 +118,7 @@ pub returns-in-Ok-clause-stands : goal.returns-in-Ok-clause-stands
 returns-in-Ok-clause-stands g c = grind (arith, common_steps)
 
 pub returns-in-Ok-clause-written : goal.returns-in-Ok-clause-written
-returns-in-Ok-clause-written g c = search rules
+returns-in-Ok-clause-written g c = c.in-Ok.ensures.changed.written
 
 pub returns-in-Ok-clause-cost : goal.returns-in-Ok-clause-cost
 returns-in-Ok-clause-cost g c = grind (arith, common_steps)
@@ -106,7 +127,7 @@ pub returns-in-Ok-clause-changes : goal.returns-in-Ok-clause-changes
 returns-in-Ok-clause-changes g c = search rules
 
 pub returns-in-Ok-clause-versions : goal.returns-in-Ok-clause-versions
-returns-in-Ok-clause-versions g c = search rules
+returns-in-Ok-clause-versions g c = c.in-Ok.ensures.changed.versions
 
 pub returns-in-Ok-clause-made : goal.returns-in-Ok-clause-made
 returns-in-Ok-clause-made g c = search rules
@@ -124,7 +145,9 @@ pub returns-in-Err-clause-stands : goal.returns-in-Err-clause-stands
 returns-in-Err-clause-stands g c = search rules
 
 pub returns-in-Err-clause-written : goal.returns-in-Err-clause-written
-returns-in-Err-clause-written g c = search rules
+returns-in-Err-clause-written g c =
+    (left g.R.Rows.content c.args.rows.now c.apply_one.new.rows c.args.desk.now
+    c.apply_one.new.desk c.in-Err.ensures.untouched).0
 
 pub returns-in-Err-clause-cost : goal.returns-in-Err-clause-cost
 returns-in-Err-clause-cost g c = search rules
@@ -133,7 +156,9 @@ pub returns-in-Err-clause-changes : goal.returns-in-Err-clause-changes
 returns-in-Err-clause-changes g c = search rules
 
 pub returns-in-Err-clause-versions : goal.returns-in-Err-clause-versions
-returns-in-Err-clause-versions g c = search rules
+returns-in-Err-clause-versions g c =
+    (left g.R.Rows.content c.args.rows.now c.apply_one.new.rows c.args.desk.now
+    c.apply_one.new.desk c.in-Err.ensures.untouched).1
 
 pub returns-in-Err-clause-made : goal.returns-in-Err-clause-made
 returns-in-Err-clause-made g c = search rules
@@ -152,7 +177,10 @@ returns-in_default-clause-stands g c =
     IfOk-weaker c.load.result _ _ (λ at after. after.stands) c.load.ensures.changed
 
 pub returns-in_default-clause-written : goal.returns-in_default-clause-written
-returns-in_default-clause-written g c = search rules
+returns-in_default-clause-written g c =
+    (either_way g.R.Rows.content c.args.format c.args.rows.now c.load.new.rows c.args.desk.now
+    c.load.new.desk c.args.root.now (λ m. batched m c.args.edits.now) c.load.result
+    c.load.ensures.changed c.load.ensures.untouched).0
 
 pub returns-in_default-clause-cost : goal.returns-in_default-clause-cost
 returns-in_default-clause-cost g c =
@@ -163,7 +191,10 @@ returns-in_default-clause-changes g c =
     IfOk-weaker c.load.result _ _ (λ at after. after.changes) c.load.ensures.changed
 
 pub returns-in_default-clause-versions : goal.returns-in_default-clause-versions
-returns-in_default-clause-versions g c = search rules
+returns-in_default-clause-versions g c =
+    (either_way g.R.Rows.content c.args.format c.args.rows.now c.load.new.rows c.args.desk.now
+    c.load.new.desk c.args.root.now (λ m. batched m c.args.edits.now) c.load.result
+    c.load.ensures.changed c.load.ensures.untouched).1
 
 pub returns-in_default-clause-made : goal.returns-in_default-clause-made
 returns-in_default-clause-made g c =
@@ -184,7 +215,12 @@ returns-in_default-2-clause-stands g c =
     c.apply_by_plan.ensures.changed
 
 pub returns-in_default-2-clause-written : goal.returns-in_default-2-clause-written
-returns-in_default-2-clause-written g c = search rules
+returns-in_default-2-clause-written g c =
+    (either_way g.R.Rows.content c.args.format c.args.rows.now c.apply_by_plan.new.rows
+    c.args.desk.now
+    c.apply_by_plan.new.desk c.args.root.now (λ m. batched m c.args.edits.now)
+    c.apply_by_plan.result
+    c.apply_by_plan.ensures.changed c.apply_by_plan.ensures.untouched).0
 
 pub returns-in_default-2-clause-cost : goal.returns-in_default-2-clause-cost
 returns-in_default-2-clause-cost g c =
@@ -197,7 +233,12 @@ returns-in_default-2-clause-changes g c =
     c.apply_by_plan.ensures.changed
 
 pub returns-in_default-2-clause-versions : goal.returns-in_default-2-clause-versions
-returns-in_default-2-clause-versions g c = search rules
+returns-in_default-2-clause-versions g c =
+    (either_way g.R.Rows.content c.args.format c.args.rows.now c.apply_by_plan.new.rows
+    c.args.desk.now
+    c.apply_by_plan.new.desk c.args.root.now (λ m. batched m c.args.edits.now)
+    c.apply_by_plan.result
+    c.apply_by_plan.ensures.changed c.apply_by_plan.ensures.untouched).1
 
 pub returns-in_default-2-clause-made : goal.returns-in_default-2-clause-made
 returns-in_default-2-clause-made g c =

@@ -73,12 +73,6 @@ returns-clause-lacks g c m st =
 pub find_plan-requires : goal.find_plan-requires
 find_plan-requires g c = search rules
 
-pub returns-in-Err-clause-written : goal.returns-in-Err-clause-written
-returns-in-Err-clause-written g c = search rules
-
-pub returns-in-Err-clause-versions : goal.returns-in-Err-clause-versions
-returns-in-Err-clause-versions g c = search rules
-
 pub returns-in-Err-clause-beside : goal.returns-in-Err-clause-beside
 returns-in-Err-clause-beside g c = search rules
 
@@ -87,12 +81,6 @@ returns-in-Err-clause-lacks g c = search rules
 
 pub returns-in-Err-clause-untouched : goal.returns-in-Err-clause-untouched
 returns-in-Err-clause-untouched g c = search rules
-
-pub returns-in-Err-marks_of-clause-written : goal.returns-in-Err-marks_of-clause-written
-returns-in-Err-marks_of-clause-written g c = search rules
-
-pub returns-in-Err-marks_of-clause-versions : goal.returns-in-Err-marks_of-clause-versions
-returns-in-Err-marks_of-clause-versions g c = search rules
 
 pub returns-in-Err-marks_of-clause-beside : goal.returns-in-Err-marks_of-clause-beside
 returns-in-Err-marks_of-clause-beside g c = search rules
@@ -106,12 +94,6 @@ returns-in-Err-marks_of-clause-untouched g c = search rules
 pub carry_out-carried-requires-clause-free : goal.carry_out-carried-requires-clause-free
 carry_out-carried-requires-clause-free g c = search rules
 
-pub returns-in-Ok-carried-clause-written : goal.returns-in-Ok-carried-clause-written
-returns-in-Ok-carried-clause-written g c = search rules
-
-pub returns-in-Ok-carried-clause-versions : goal.returns-in-Ok-carried-clause-versions
-returns-in-Ok-carried-clause-versions g c = search rules
-
 pub returns-in-Ok-carried-clause-beside : goal.returns-in-Ok-carried-clause-beside
 returns-in-Ok-carried-clause-beside g c = search rules
 
@@ -120,12 +102,6 @@ returns-in-Ok-carried-clause-lacks g c = search rules
 
 pub returns-in-Ok-carried-clause-untouched : goal.returns-in-Ok-carried-clause-untouched
 returns-in-Ok-carried-clause-untouched g c = search rules
-
-pub returns-clause-written : goal.returns-clause-written
-returns-clause-written g c = search rules
-
-pub returns-clause-versions : goal.returns-clause-versions
-returns-clause-versions g c = search rules
 
 pub returns-clause-beside : goal.returns-clause-beside
 returns-clause-beside g c = search rules

@@ -75,9 +75,3 @@ module _ (g : Over) (c : goal.After-replace g) (change : List Pair → List Pair
 
 pub returns-clause-changed : goal.returns-clause-changed
 returns-clause-changed g c = λ change p. after g c change p
-
-pub returns-clause-written : goal.returns-clause-written
-returns-clause-written g c = (after g c c.requires.plan.0 c.requires.plan.1).written
-
-pub returns-clause-versions : goal.returns-clause-versions
-returns-clause-versions g c = (after g c c.requires.plan.0 c.requires.plan.1).versions

@@ -63,12 +63,6 @@ module _ (g : Over) (c : goal.In-Ok-planted g) where
 pub returns-in-Ok-planted-clause-changed : goal.returns-in-Ok-planted-clause-changed
 returns-in-Ok-planted-clause-changed g c = loaded g c
 
-pub returns-in-Ok-planted-clause-written : goal.returns-in-Ok-planted-clause-written
-returns-in-Ok-planted-clause-written g c = (loaded g c).written
-
-pub returns-in-Ok-planted-clause-versions : goal.returns-in-Ok-planted-clause-versions
-returns-in-Ok-planted-clause-versions g c = (loaded g c).versions
-
 -- ---- there is no room for it
 
 pub returns-in-Err-planted-clause-lacks : goal.returns-in-Err-planted-clause-lacks
@@ -79,23 +73,11 @@ returns-in-Err-planted-clause-lacks g c =
 
 -- ---- what a search finds
 
-pub returns-in-Err-clause-written : goal.returns-in-Err-clause-written
-returns-in-Err-clause-written g c = search rules
-
-pub returns-in-Err-clause-versions : goal.returns-in-Err-clause-versions
-returns-in-Err-clause-versions g c = search rules
-
 pub returns-in-Err-clause-beside : goal.returns-in-Err-clause-beside
 returns-in-Err-clause-beside g c = search rules
 
 pub returns-in-Err-clause-untouched : goal.returns-in-Err-clause-untouched
 returns-in-Err-clause-untouched g c = search rules
-
-pub returns-in_default-clause-written : goal.returns-in_default-clause-written
-returns-in_default-clause-written g c = search rules
-
-pub returns-in_default-clause-versions : goal.returns-in_default-clause-versions
-returns-in_default-clause-versions g c = search rules
 
 pub returns-in_default-clause-beside : goal.returns-in_default-clause-beside
 returns-in_default-clause-beside g c = search rules
@@ -108,12 +90,6 @@ plant-planted-requires-clause-free g c = search rules
 
 pub returns-in-Ok-planted-clause-beside : goal.returns-in-Ok-planted-clause-beside
 returns-in-Ok-planted-clause-beside g c = search rules
-
-pub returns-in-Err-planted-clause-written : goal.returns-in-Err-planted-clause-written
-returns-in-Err-planted-clause-written g c = search rules
-
-pub returns-in-Err-planted-clause-versions : goal.returns-in-Err-planted-clause-versions
-returns-in-Err-planted-clause-versions g c = search rules
 
 pub returns-in-Err-planted-clause-beside : goal.returns-in-Err-planted-clause-beside
 returns-in-Err-planted-clause-beside g c = search rules

@@ -7,12 +7,6 @@ put-requires-clause-stands g c = search rules
 pub put-requires-clause-free : goal.put-requires-clause-free
 put-requires-clause-free g c = search rules
 
-pub returns-in_err-put-in-Put-clause-written : goal.returns-in_err-put-in-Put-clause-written
-returns-in_err-put-in-Put-clause-written g c = search rules
-
-pub returns-in_err-put-in-Put-clause-versions : goal.returns-in_err-put-in-Put-clause-versions
-returns-in_err-put-in-Put-clause-versions g c = search rules
-
 pub returns-in_err-put-in-Put-clause-beside : goal.returns-in_err-put-in-Put-clause-beside
 returns-in_err-put-in-Put-clause-beside g c = search rules
 
@@ -28,14 +22,6 @@ remove-requires-clause-stands g c = search rules
 pub remove-requires-clause-free : goal.remove-requires-clause-free
 remove-requires-clause-free g c = search rules
 
-pub returns-in_err-remove-in-Remove-clause-written :
-    goal.returns-in_err-remove-in-Remove-clause-written
-returns-in_err-remove-in-Remove-clause-written g c = search rules
-
-pub returns-in_err-remove-in-Remove-clause-versions :
-    goal.returns-in_err-remove-in-Remove-clause-versions
-returns-in_err-remove-in-Remove-clause-versions g c = search rules
-
 pub returns-in_err-remove-in-Remove-clause-beside :
     goal.returns-in_err-remove-in-Remove-clause-beside
 returns-in_err-remove-in-Remove-clause-beside g c = search rules
@@ -48,22 +34,8 @@ pub returns-in_err-remove-in-Remove-clause-untouched :
     goal.returns-in_err-remove-in-Remove-clause-untouched
 returns-in_err-remove-in-Remove-clause-untouched g c = search rules
 
-pub returns-in_ok-put-in-Put-clause-written : goal.returns-in_ok-put-in-Put-clause-written
-returns-in_ok-put-in-Put-clause-written g c = search rules
-
-pub returns-in_ok-put-in-Put-clause-versions : goal.returns-in_ok-put-in-Put-clause-versions
-returns-in_ok-put-in-Put-clause-versions g c = search rules
-
 pub returns-in_ok-put-in-Put-clause-beside : goal.returns-in_ok-put-in-Put-clause-beside
 returns-in_ok-put-in-Put-clause-beside g c = search rules
-
-pub returns-in_ok-remove-in-Remove-clause-written :
-    goal.returns-in_ok-remove-in-Remove-clause-written
-returns-in_ok-remove-in-Remove-clause-written g c = search rules
-
-pub returns-in_ok-remove-in-Remove-clause-versions :
-    goal.returns-in_ok-remove-in-Remove-clause-versions
-returns-in_ok-remove-in-Remove-clause-versions g c = search rules
 
 pub returns-in_ok-remove-in-Remove-clause-beside : goal.returns-in_ok-remove-in-Remove-clause-beside
 returns-in_ok-remove-in-Remove-clause-beside g c = search rules

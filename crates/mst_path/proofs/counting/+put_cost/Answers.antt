@@ -1,4 +1,4 @@
-use Rattle.std.proofs.Common.{◌≡◌, ◌≤◌, ◌<◌, ◌+◌, ℕ, List, sym, ap, subst, arith, rules}
+use Rattle.std.proofs.Common.{◌≡◌, ◌≤◌, ◌<◌, ◌+◌, ℕ, List, sym, ap, subst, arith, rules, ◌^◌}
 use Rattle.mst_key.specs.declared.format.Format.{Format}
 use Rattle.mst_key.specs.Layer.{layer_in}
 use Rattle.mst_arena.specs.Content.{Content}
@@ -52,7 +52,7 @@ split_cost-requires g t c =
       tree =
           subst (λ (x : Content). (f : Format) × (q : State)
           × (y : ToSplit f x q c.args.link c.args.key.now)
-          × (split_rows c.args.key.now (tree_of f y.tree.placed) ≤ 4294967295))
+          × (split_rows c.args.key.now (tree_of f y.tree.placed) < 2 ^ 32))
           (sym (ap g.R.Rows.content c.put_step.ensures.same)) (
             format,
             s,
@@ -128,7 +128,7 @@ put_cost-inner-requires g t c κs within =
         search rules,
         subst (λ (x : Content). (f : Format) × (q : State)
             × (y : RisingTree f x q c.in-Down.child) × (w : List ℕ)
-            × (pair_rows f y c.args.layer c.args.key.now w ≤ 4294967295)
+            × (pair_rows f y c.args.layer c.args.key.now w < 2 ^ 32)
             × (c.args.layer ≡ layer_in f c.args.key.now)) (sym same) (
               format,
               s,
@@ -211,7 +211,7 @@ split_cost-split-requires g t c =
       tree =
           subst (λ (x : Content). (f : Format) × (q : State)
           × (y : ToSplit f x q c.in-Between.child c.args.key.now)
-          × (split_rows c.args.key.now (tree_of f y.tree.placed) ≤ 4294967295))
+          × (split_rows c.args.key.now (tree_of f y.tree.placed) < 2 ^ 32))
           (sym (ap g.R.Rows.content c.put_step.ensures.same)) (
             format,
             c.requires.tree.1,

@@ -1,4 +1,4 @@
-use Rattle.std.proofs.Common.{◌≡◌, ◌∙◌, ◌≤◌, ◌<◌, ◌+◌, ℕ, ◌==◌, ◌&&◌, Bool, sym, ap, subst, arith, rules}
+use Rattle.std.proofs.Common.{◌≡◌, ◌∙◌, ◌<◌, ◌+◌, ℕ, ◌==◌, ◌&&◌, Bool, sym, ap, subst, arith, rules, ◌^◌}
 use Rattle.mst_key.specs.declared.format.Format.{Format}
 use Rattle.mst_arena.specs.Content.{Content}
 use Rattle.mst_arena.specs.Lives.{State}
@@ -9,8 +9,7 @@ use Rattle.mst_change.specs.Cost.{side_rows, split_rows}
 use Rattle.mst_path.specs.Joining.{height_at}
 use Rattle.mst_path.specs.Splitting.{ToSplit}
 use Rattle.mst_path.specs.Gaps.{IsOpened, OpensGap, OpensEntry}
-use Rattle.mst_path.proofs.lemmas.steps.Splitting.{positive}
-use Rattle.mst_path.proofs.lemmas.cost.PutCosts.{search_of, none_rows, no_below, no_above, no_entry, split_inner, split_falls, below_is, above_is, rows_are, rows_counted}
+use Rattle.mst_path.proofs.lemmas.steps.Splitting.{positive, none_rows, no_below, no_above, no_entry, split_inner, split_falls, below_is, above_is, rows_are, rows_counted}
 use Rattle.mst_path.proofs.counting.+split_cost.Given.{Over}
 use Rattle.mst_path.proofs.counting.+split_cost.Goals.{In-Down, After-is_no_side-none_above}
 use Rattle.mst_path.proofs.counting.+split_cost.Goals as goal
@@ -22,8 +21,7 @@ top_step-requires g t c =
       tree = (
         format,
         c.requires.tree.1,
-        search_of format (g.R.Rows.content c.args.rows.now)
-            c.requires.tree.1 c.args.link c.args.key.now c.requires.tree.2,
+        c.requires.tree.2.tree,
       );
       some =
           positive c.args.link c.if-link-eq0.false;
@@ -34,7 +32,7 @@ unreachable-requires g t c =
     let format = c.requires.tree.0 in
     let C = g.R.Rows.content c.args.rows.now in
     let s = c.requires.tree.1 in
-    let z = search_of format C s c.args.link c.args.key.now c.requires.tree.2 in
+    let z = c.requires.tree.2.tree in
     let here : OpensEntry format C s c.args.link z c.args.key.now c.in_default.field-0 =
     subst (IsOpened format C s c.args.link z c.args.key.now) c.in_default.is
     (c.top_step.ensures.opened format s z) in
@@ -45,14 +43,14 @@ unreachable-requires g t c =
 module _ (g : Over) (n : ℕ) (c : goal.In-Down g n) (format : Format) (s : State)
     (z : ToSplit format (g.R.Rows.content c.args.rows.now) s c.args.link c.args.key.now) where
   opened : OpensGap format (g.R.Rows.content c.args.rows.now) s c.args.link
-      (search_of format (g.R.Rows.content c.args.rows.now) s c.args.link c.args.key.now z)
+      z.tree
       c.args.key.now c.in-Down.child c.in-Down.frame
   opened =
       subst (IsOpened format (g.R.Rows.content c.args.rows.now) s c.args.link
-      (search_of format (g.R.Rows.content c.args.rows.now) s c.args.link c.args.key.now z)
+      z.tree
       c.args.key.now) c.in-Down.is
       (c.top_step.ensures.opened format s
-      (search_of format (g.R.Rows.content c.args.rows.now) s c.args.link c.args.key.now z))
+      z.tree)
 
 pub split_cost-inner-requires : goal.split_cost-inner-requires
 split_cost-inner-requires g t c κs within =
@@ -71,7 +69,7 @@ split_cost-inner-requires g t c κs within =
         search rules,
         subst (λ (x : Content). (f : Format) × (q : State)
             × (y : ToSplit f x q c.in-Down.child c.args.key.now)
-            × (split_rows c.args.key.now (tree_of f y.tree.placed) ≤ 4294967295)) (sym same) (
+            × (split_rows c.args.key.now (tree_of f y.tree.placed) < 2 ^ 32)) (sym same) (
               format,
               s,
               split_inner format C s c.args.link c.args.key.now z c.in-Down.child
@@ -91,7 +89,7 @@ split_cost-inner-requires g t c κs within =
 module _ (g : Over) (n : ℕ) (c : goal.After-is_no_side-none_above g n) (format : Format) (s : State)
     (z : ToSplit format (g.R.Rows.content c.args.rows.now) s c.args.link c.args.key.now)
     (o : OpensGap format (g.R.Rows.content c.args.rows.now) s c.args.link
-    (search_of format (g.R.Rows.content c.args.rows.now) s c.args.link c.args.key.now z)
+    z.tree
     c.args.key.now c.in-Down.child c.in-Down.frame) where
   abbrev inner : ToSplit format (g.R.Rows.content c.args.rows.now) s c.in-Down.child c.args.key.now
   inner = split_inner format (g.R.Rows.content c.args.rows.now) s c.args.link c.args.key.now z

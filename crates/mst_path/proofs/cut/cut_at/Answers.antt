@@ -10,7 +10,7 @@ use Rattle.mst_path.specs.declared.making.Run.{Run}
 use Rattle.mst_path.specs.Cutting.{EntriesLie, CutGap}
 use Rattle.mst_path.specs.Writing.{PlacedEntry}
 use Rattle.mst_path.proofs.lemmas.rows.CopyRows.{links_there}
-use Rattle.mst_path.proofs.lemmas.trees.Cutting.{Onward, AtEntry, onward_starts, at_entry, next_links, cut_end, cut_gap, cut_held, cut_on}
+use Rattle.mst_path.proofs.lemmas.trees.Cutting.{Onward, AtEntry, onward_starts, at_entry, next_links, cut_end, cut_gap, cut_found, cut_on}
 use Rattle.mst_path.proofs.cut.cut_at.Given.{Over}
 use Rattle.mst_path.proofs.cut.cut_at.Goals.{In-loop-count, After-way}
 use Rattle.mst_path.proofs.cut.cut_at.Goals as goal
@@ -87,7 +87,7 @@ returns-in-Here-clause-cut g c format es tail lie tail_is =
     let way : way_at c.args.key.now e.child e.next e.key ≡ Here =
     way_is (g.R.Rows.content c.args.rows.now) _ c.args.key.now e _ part
     (answered g (goal.at.returns-in-Here-clause-cut g c).After-way) ∙ c.in-Here.is in
-    cut_held format _ _ _ es lie _ _ _ refl (c.loop-count.invariant.onward format es lie)
+    cut_found format _ _ _ es lie _ _ _ refl (c.loop-count.invariant.onward format es lie)
     c.loop-count-test.true e part tail (is_here c.args.key.now e way)
 
 pub returns-in-Here-clause-same : goal.returns-in-Here-clause-same

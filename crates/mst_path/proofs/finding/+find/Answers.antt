@@ -14,7 +14,7 @@ use Rattle.mst_path.proofs.lemmas.steps.Removals.{top}
 use Rattle.mst_path.proofs.lemmas.steps.Splitting.{positive}
 use Rattle.mst_path.proofs.lemmas.trees.Lookups.{FindsBelow, FindsHere, lies, cut_top, finds_below, finds_here, some_value}
 use Rattle.mst_path.proofs.finding.+find.Given.{Over}
-use Rattle.mst_path.proofs.finding.+find.Goals.{In-Gap, In-Held}
+use Rattle.mst_path.proofs.finding.+find.Goals.{In-Gap, In-Found}
 use Rattle.mst_path.proofs.finding.+find.Goals as goal
 
 pub cut_at-requires : goal.cut_at-requires
@@ -85,38 +85,38 @@ returns-in-Gap-clause-found g t c = λ format s z rise.
 
 -- ---- the key's entry is held
 
-module _ (g : Over) (n : ℕ) (c : goal.In-Held g n) where
+module _ (g : Over) (n : ℕ) (c : goal.In-Found g n) where
   held_rows : g.R.Rows.content c.cut_at.new.rows ≡ g.R.Rows.content c.args.rows.now
   held_rows = ap g.R.Rows.content (c.cut_at.ensures.same ∙ c.head-head.ensures.same)
 
   here : (format : Format) (s : State)
       (z : SearchTree format (g.R.Rows.content c.args.rows.now) s c.args.link)
       → IsAscending (pairs (tree_of format z.placed)) → FindsHere format
-      (g.R.Rows.content c.args.rows.now) s c.args.link z c.args.key.now c.in-Held.row
+      (g.R.Rows.content c.args.rows.now) s c.args.link z c.args.key.now c.in-Found.row
   here format s z rise =
       finds_here format (g.R.Rows.content c.args.rows.now) s c.args.link z c.args.key.now
       c.head-head.result (positive c.args.link c.if-link-eq0.false) c.head-head.ensures.value
-      rise c.in-Held.front c.in-Held.back c.in-Held.row c.in-Held.child
+      rise c.in-Found.front c.in-Found.back c.in-Found.row c.in-Found.child
       (cut_top format (g.R.Rows.content c.args.rows.now) s c.args.link z c.args.key.now
       c.head-head.result (positive c.args.link c.if-link-eq0.false) c.head-head.ensures.value
-      (ap g.R.Rows.content c.head-head.ensures.same) (c.cut_at.ensures.cut format) c.in-Held.is)
+      (ap g.R.Rows.content c.head-head.ensures.same) (c.cut_at.ensures.cut format) c.in-Found.is)
 
 pub value-requires : goal.value-requires
 value-requires g t c =
     let format = c.requires.tree.0 in
-    let at = (goal.at.value-requires g t c).In-Held in
+    let at = (goal.at.value-requires g t c).In-Found in
     let found = here g t at format c.requires.tree.1 c.requires.tree.2 c.requires.tree.3 in
     record {
-      there = subst (λ (x : Content). IsSome (part_at entry_value x c.in-Held.row))
+      there = subst (λ (x : Content). IsSome (part_at entry_value x c.in-Found.row))
           (sym (held_rows g t at))
-          (some_value (g.R.Rows.content c.args.rows.now) c.in-Held.row found.value found.there);
+          (some_value (g.R.Rows.content c.args.rows.now) c.in-Found.row found.value found.there);
     }
 
-pub returns-in-Held-clause-found : goal.returns-in-Held-clause-found
-returns-in-Held-clause-found g t c = λ format s z rise.
-    let at = (goal.at.returns-in-Held-clause-found g t c).In-Held in
+pub returns-in-Found-clause-found : goal.returns-in-Found-clause-found
+returns-in-Found-clause-found g t c = λ format s z rise.
+    let at = (goal.at.returns-in-Found-clause-found g t c).In-Found in
     let found = here g t at format s z rise in
-    let read : part_at entry_value (g.R.Rows.content c.args.rows.now) c.in-Held.row ≡ Some
-    c.value.result = ap (λ (x : Content). part_at entry_value x c.in-Held.row)
+    let read : part_at entry_value (g.R.Rows.content c.args.rows.now) c.in-Found.row ≡ Some
+    c.value.result = ap (λ (x : Content). part_at entry_value x c.in-Found.row)
     (sym (held_rows g t at)) ∙ c.value.ensures.value in
     sym read ∙ found.there ∙ sym found.same

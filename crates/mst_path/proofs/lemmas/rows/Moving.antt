@@ -1,5 +1,5 @@
 -- Rows that are taken and killed, one step after another.
-use Rattle.std.proofs.Common.{◌≡◌, ℕ, zero, suc, ◌+◌, ◌≤◌, Bool, true, false, cond, eqb, List, [], ◌∷◌, ◌++◌, length, Some, refl, sym, ◌∙◌, ap, subst, arith, inl, inr, length-append}
+use Rattle.std.proofs.Common.{◌≡◌, ℕ, zero, suc, ◌+◌, ◌≤◌, Bool, true, false, cond, eqb, List, [], ◌∷◌, ◌++◌, Some, refl, sym, ◌∙◌, ap, subst, arith, inl, inr, length-append}
 use Rattle.std.specs.Prelude.{slice_get, slice_set}
 use Rattle.std.proofs.lemmas.Bool.Decides.{nat_tests}
 use Rattle.mst_arena.specs.Lives.{State, version, next, is_free, free_count, with_life, ended_life}
@@ -10,6 +10,7 @@ use Rattle.mst_arena.proofs.ListLemmas.{get-set, times-append, in_either, one_ro
 use Rattle.mst_path.specs.Takes.{Takes, IsOut}
 use Rattle.mst_path.specs.Moves.{IsAlive, IsOld, IsKilled, Moves}
 use Rattle.mst_path.proofs.lemmas.rows.Taking.{frees, frees_is, frees_drop, still_free}
+use Rattle.std.proofs.Math.ListN.{length-set}
 
 -- ---- numbers in lists
 
@@ -67,11 +68,6 @@ set_there lives r k x y at none = go (eqb k r) refl none (get-set lives r k x y 
     go true e none is = absurd (omega arith)
     go false e none is = is
 
-set_length : (lives : List Life) (r : ℕ) (x : Life) → length (slice_set lives r x) ≡ length lives
-set_length [] r x = refl
-set_length (l ∷ lives) zero x = refl
-set_length (l ∷ lives) (suc r) x = omega (arith, set_length lives r x)
-
 frees_same : (lives : List Life) (r : ℕ) (x y : Life) → slice_get lives r ≡ Some x
     → is_free y ≡ is_free x → frees (slice_set lives r y) ≡ frees lives
 unfolding frees
@@ -96,7 +92,7 @@ pub moves_take : (s : State) (r : ℕ) → slice_get s.lives r ≡ Some Free
 moves_take s r at = record {
   current = refl;
   versions = refl;
-  rows = set_length s.lives r (Born (next s));
+  rows = length-set s.lives r (Born (next s));
   once = λ k. one_time k r;
   free = λ k is. subst (λ (j : ℕ). slice_get s.lives j ≡ Some Free) (sym (one_row k r is)) at;
   born =
@@ -116,7 +112,7 @@ moves_kill s r b at le =
     subst (λ (l : Life). Moves s (with_life s r l) [] (r ∷ [])) (sym dead) record {
       current = refl;
       versions = refl;
-      rows = set_length s.lives r (Dead b (next s));
+      rows = length-set s.lives r (Dead b (next s));
       once = λ k. omega arith;
       free = λ k is. absurd (omega arith);
       born = λ k is. absurd (omega arith);
@@ -250,6 +246,3 @@ module _ (a b : State) (t k : List ℕ) (m : Moves a b t k) where
   -- a row that is alive was not taken
   pub alive_out : (r : ℕ) → IsAlive a r → times r t ≡ 0
   alive_out r is = not_in r t (λ x. let e = m.free r x in let f = is.1 in cc)
-
-  pub taken_alive : (r : ℕ) → In r t → IsAlive b r
-  taken_alive r is = (next a, m.born r is)

@@ -10,6 +10,7 @@ use Rattle.mst_arena.specs.declared.life.Life.{Life}
 use Rattle.mst_arena.specs.declared.life.Life.TheVariants.{Free, Born, Dead}
 use Rattle.mst_arena.proofs.Stands.{all-append, all-front, all-back}
 use Rattle.mst_path.specs.Takes.{born_with, Takes, IsOut, KeepsBut, FreeIsBlank, FewRows}
+use Rattle.std.proofs.Math.ListN.{length-set}
 
 -- ---- numbers in lists
 
@@ -74,16 +75,11 @@ pub born_append : (v : ℕ) (xs ys : List ℕ) (lives : List Life) → born_with
 born_append v [] ys lives = refl
 born_append v (x ∷ xs) ys lives = born_append v xs ys (slice_set lives x (Born v))
 
-length_set : (lives : List Life) (r : ℕ) (x : Life) → length (slice_set lives r x) ≡ length lives
-length_set [] r x = refl
-length_set (l ∷ lives) zero x = refl
-length_set (l ∷ lives) (suc r) x = omega (arith, length_set lives r x)
-
 pub born_length : (v : ℕ) (rows : List ℕ) (lives : List Life) → length (born_with v rows lives)
     ≡ length lives
 born_length v [] lives = refl
 born_length v (r ∷ rows) lives = born_length v rows (slice_set lives r (Born v))
-    ∙ length_set lives r (Born v)
+    ∙ length-set lives r (Born v)
 
 unfoldable pub frees : List Life → ℕ
 frees [] = 0

@@ -95,93 +95,62 @@ height_read content (suc n) h some read =
 -- ---- the head
 
 module _ (content : Content) (s : State) (link : ℕ) (t : ToFell content s link) (some : 0 < link)
-  where
-    pub head_there : IsSome (part_at head_links content (link - 1))
-    head_there = go t.placed t.at t.rows
-      where
-        go : (p : Placed) → link_of p ≡ link → HasRows content (rows_of t.format p)
-            → IsSome (part_at head_links content (link - 1))
-        go none at has = absurd (omega (arith, at, some))
-        go (head i l chain) at has =
-            let same : link - 1 ≡ i = omega (arith, at) in
-            let there : content (link - 1) ≡ Some (head_row t.format l chain) =
-            ap content same ∙ has.0 in
-            subst (λ (o : Option Row). IsSome (option_and_then head_links o)) (sym there) refl
-
-    pub head_old : IsOld s (link - 1)
-    head_old = go t.placed t.at t.old
-      where
-        go : (p : Placed) → link_of p ≡ link → ((r : ℕ) → In r (used p) → IsOld s r)
-            → IsOld s (link - 1)
-        go none at old = absurd (omega (arith, at, some))
-        go (head i l chain) at old = let same : link - 1 ≡ i = omega (arith, at) in
-            subst (IsOld s) (sym same) (old i (omega (arith, at_self i)))
-
-    module _ (falls : Placed → List ℕ) (opens : (i l : ℕ) (c : Chain) → i + 1 ≡ link
-        → falls (head i l c) ≡ i ∷ chain_falls falls c)
-        (h : HeadLinks) (read : part_at head_links content (link - 1) ≡ Some h) where
-      pub started : Felling t.format falls content s (having_killed s (link - 1)) h.layer
-          (falls t.placed) h.tail h.first 0 h.count
-      started = go t.placed t.at t.rows t.old t.search t.once
-        where
-          go : (p : Placed) → link_of p ≡ link → HasRows content (rows_of t.format p)
-              → ((r : ℕ) → In r (used p) → IsOld s r) → IsMst t.format (tree_of t.format p)
-              → ((r : ℕ) → times r (used p) ≤ 1) → Felling t.format falls content s
-              (having_killed s (link - 1)) h.layer (falls p) h.tail h.first 0 h.count
-          go none at has old search once = absurd (omega (arith, at, some))
-          go (head i l chain) at has old search once =
-              let same : link - 1 ≡ i = omega (arith, at) in
-              let there : content (link - 1) ≡ Some (head_row t.format l chain) =
-              ap content same ∙ has.0 in
-              let both : Some
-              (record {
-                layer = l;
-                count = count_of chain;
-                first = first_of chain;
-                tail =
-                    tail_of chain;
-              }) ≡ Some h = sym (ap (option_and_then head_links) there) ∙ read in
-              let is : record {
-                layer = l;
-                count = count_of chain;
-                first = first_of chain;
-                tail =
-                    tail_of chain;
-              } ≡ h = cc in
-              let dies : IsOld s i = old i (omega (arith, at_self i)) in
-              let below : (r : ℕ) → In r (chain_used chain) → IsOld s r =
-              λ r k. old r (omega (arith, k)) in
-              record {
-                rest = chain;
-                gone = i ∷ [];
-                first_is = ap (λ (x : HeadLinks). x.first) is;
-                tail_is = ap (λ (x : HeadLinks). x.tail) is;
-                left = omega (arith, ap (λ (x : HeadLinks). x.count) is);
-                rows = has.1;
-                search = subst (λ (n : ℕ). IsMstEntries t.format n (entries_of t.format chain))
-                    (ap (λ (x : HeadLinks). x.layer) is) search.2;
-                old =
-                    subst (λ (n : ℕ). (r : ℕ) → In r (chain_used chain) → IsOld (having_killed s n)
-                    r)
-                    (sym same) (others_old s i (chain_used chain) dies below once);
-                once = λ r. omega (arith, once r);
-                moves = subst (λ (n : ℕ). Moves s (having_killed s n) [] (i ∷ [])) (sym same)
-                    (killed s i dies);
-                is = opens i l chain at;
-              }
+    (falls : Placed → List ℕ) (opens : (i l : ℕ) (c : Chain) → i + 1 ≡ link
+    → falls (head i l c) ≡ i ∷ chain_falls falls c)
+    (h : HeadLinks) (read : part_at head_links content (link - 1) ≡ Some h) where
+  pub started : Felling t.format falls content s (having_killed s (link - 1)) h.layer
+      (falls t.placed) h.tail h.first 0 h.count
+  started = go t.placed t.at t.rows t.old t.search t.once
+    where
+      go : (p : Placed) → link_of p ≡ link → HasRows content (rows_of t.format p)
+          → ((r : ℕ) → In r (used p) → IsOld s r) → IsMst t.format (tree_of t.format p)
+          → ((r : ℕ) → times r (used p) ≤ 1) → Felling t.format falls content s
+          (having_killed s (link - 1)) h.layer (falls p) h.tail h.first 0 h.count
+      go none at has old search once = absurd (omega (arith, at, some))
+      go (head i l chain) at has old search once =
+          let same : link - 1 ≡ i = omega (arith, at) in
+          let there : content (link - 1) ≡ Some (head_row t.format l chain) =
+          ap content same ∙ has.0 in
+          let both : Some
+          (record {
+            layer = l;
+            count = count_of chain;
+            first = first_of chain;
+            tail =
+                tail_of chain;
+          }) ≡ Some h = sym (ap (option_and_then head_links) there) ∙ read in
+          let is : record {
+            layer = l;
+            count = count_of chain;
+            first = first_of chain;
+            tail =
+                tail_of chain;
+          } ≡ h = cc in
+          let dies : IsOld s i = old i (omega (arith, at_self i)) in
+          let below : (r : ℕ) → In r (chain_used chain) → IsOld s r =
+          λ r k. old r (omega (arith, k)) in
+          record {
+            rest = chain;
+            gone = i ∷ [];
+            first_is = ap (λ (x : HeadLinks). x.first) is;
+            tail_is = ap (λ (x : HeadLinks). x.tail) is;
+            left = omega (arith, ap (λ (x : HeadLinks). x.count) is);
+            rows = has.1;
+            search = subst (λ (n : ℕ). IsMstEntries t.format n (entries_of t.format chain))
+                (ap (λ (x : HeadLinks). x.layer) is) search.2;
+            old =
+                subst (λ (n : ℕ). (r : ℕ) → In r (chain_used chain) → IsOld (having_killed s n)
+                r)
+                (sym same) (others_old s i (chain_used chain) dies below once);
+            once = λ r. omega (arith, once r);
+            moves = subst (λ (n : ℕ). Moves s (having_killed s n) [] (i ∷ [])) (sym same)
+                (killed s i dies);
+            is = opens i l chain at;
+          }
 
 -- a tree that goes as a whole falls from its head on
 pub all_open : (i l : ℕ) (c : Chain) → used (head i l c) ≡ i ∷ chain_falls used c
 all_open i l c = ap (λ (xs : List ℕ). i ∷ xs) (sym (all_fall c))
-
--- the empty tree has no rows
-pub nothing_falls : (content : Content) (s : State) (link : ℕ) (t : ToFell content s link)
-    → link ≡ 0 → used t.placed ≡ []
-nothing_falls content s link t is = go t.placed t.at
-  where
-    go : (p : Placed) → link_of p ≡ link → used p ≡ []
-    go none at = refl
-    go (head i l chain) at = absurd (omega (arith, at, is))
 
 -- ---- the next entry
 

@@ -1,9 +1,8 @@
 -- A node whose front is written, up to its head, with no entries at the back.
 use Rattle.mst_key.specs.declared.format.Format.{Format}
 use Rattle.std.proofs.Common.{◌≡◌, ℕ, zero, suc, ◌+◌, ◌-◌, ◌<◌, ◌≤◌, eqb, List, [], ◌∷◌, ◌++◌, length, Option, Some, None, refl, sym, ◌∙◌, ap, subst, arith, inr}
-use Rattle.std.proofs.lemmas.List.{map-append}
 use Rattle.mst_node.specs.Tree.{node, Entries, last, entry}
-use Rattle.mst_node.specs.Shape.{TreeEntry, with_entries}
+use Rattle.mst_node.specs.Shape.{with_entries}
 use Rattle.mst_arena.specs.Content.{Content}
 use Rattle.mst_arena.specs.Lives.{State, version, next}
 use Rattle.mst_arena.specs.Lists.{In, times, bit}
@@ -19,7 +18,7 @@ use Rattle.mst_path.specs.Runs.{Piece, own, gaps_used, AreCopies}
 use Rattle.mst_path.specs.Writing.{PlacedEntry, chain_of, entries_used, ahead, IsAhead, IsWriter, IsWritten, IsRootOf}
 use Rattle.mst_path.specs.Copying.{Going}
 use Rattle.mst_path.specs.Making.{cell_of, cells_of, entries_to, others, HasTail, Rest, Finished}
-use Rattle.mst_path.specs.declared.making.Parts.{Parts}
+use Rattle.mst_path.specs.declared.making.NodeParts.{NodeParts}
 use Rattle.mst_path.specs.declared.node_writer.NodeWriter.{NodeWriter}
 use Rattle.mst_path.proofs.lemmas.rows.Entries.{entries_used-push, used_chain}
 use Rattle.mst_path.proofs.lemmas.rows.Moving.{not_in, out_of_times, moves_none, alive_stays}
@@ -105,10 +104,6 @@ module _ {A : Type 0} (format : Format) (w w' : NodeWriter A) (c c' : Content) (
 
 -- ---- trees and their entries
 
-pub cells-append : (format : Format) (es fs : List PlacedEntry) → cells_of format (es ++ fs)
-    ≡ cells_of format es ++ cells_of format fs
-cells-append format es fs = map-append (cell_of format) es fs
-
 pub copies_cells : (format : Format) (copies es : List PlacedEntry) → AreCopies copies es
     → cells_of format copies ≡ cells_of format es
 copies_cells format [] [] same = refl
@@ -125,12 +120,6 @@ chain_entries format [] tail = refl
 chain_entries format (e ∷ es) tail =
     ap (λ (fs : Entries). entry (tree_of format e.child) e.key e.value fs)
     (chain_entries format es tail)
-
-pub entries-front : (es : List TreeEntry) (fs : List TreeEntry) (more : Entries)
-    → with_entries (es ++ fs) more ≡ with_entries es (with_entries fs more)
-entries-front [] fs more = refl
-entries-front (e ∷ es) fs more = ap (λ (x : Entries). entry e.child e.key e.value x)
-    (entries-front es fs more)
 
 -- ---- the head is written
 
@@ -208,7 +197,7 @@ no_entries (e ∷ es) tail len has = absurd (omega (arith, len))
 -- ---- no entries at the back
 
 module _ {A : Type 0} (format : Format) (w : NodeWriter A) (c c' : Content) (s : State)
-    (parts : Parts)
+    (parts : NodeParts)
     (r : Rest format w c s parts) (at : Root) where
   pub at_seam : IsWriter w → w.left ≡ parts.back.count → parts.back.count ≡ 0 → IsRootOf format
       (head w.head w.layer (chain_of r.ws r.seam)) at
@@ -247,7 +236,7 @@ module _ {A : Type 0} (format : Format) (w : NodeWriter A) (c c' : Content) (s :
       }
 
 pub head_out : {A : Type 0} (format : Format) (w : NodeWriter A) (c : Content) (s : State)
-    (parts : Parts)
+    (parts : NodeParts)
     (r : Rest format w c s parts) → IsOut w.head (entries_used r.ws ++ used r.seam)
 head_out format w c s parts r = out_of_times w.head (entries_used r.ws ++ used r.seam)
     (omega (

@@ -16,16 +16,18 @@ use Rattle.mst_path.specs.Runs.{Piece, own, gaps_used}
 use Rattle.mst_path.specs.Writing.{entries_used, ahead, IsWritten}
 use Rattle.mst_path.specs.Copying.{Going, Copied}
 use Rattle.mst_path.specs.Making.{cells_of, entries_to, others, PartsStand, in_parts, Grown, Rest, Finished}
-use Rattle.mst_path.specs.declared.making.Parts.{Parts}
+use Rattle.mst_path.specs.declared.making.NodeParts.{NodeParts}
 use Rattle.mst_path.specs.declared.node_writer.NodeWriter.{NodeWriter}
 use Rattle.mst_path.proofs.lemmas.rows.Moving.{out_of_times, times_of_out, moves_then, alive_out}
 use Rattle.mst_path.proofs.lemmas.trees.Made.{new_stays, piece_alive}
-use Rattle.mst_path.proofs.lemmas.steps.Finishing.{used_more, going_more, copies_cells, cells-append, entries-front}
+use Rattle.mst_path.proofs.lemmas.steps.Finishing.{used_more, going_more, copies_cells}
 use Rattle.mst_path.proofs.lemmas.steps.Untouched.{piece_later, back_later}
 use Rattle.mst_path.proofs.lemmas.steps.Whole.{Begun, part_alive, all_taken, taken_times, unwritten, front_used, front_rest}
+use Rattle.mst_path.proofs.lemmas.trees.Cutting.{cells-append}
+use Rattle.mst_change.proofs.Parts.{with_entries-append}
 
 module _ {A : Type 0} (format : Format) {w : NodeWriter A} {c : Content} {s s1 : State}
-    {parts : Parts}
+    {parts : NodeParts}
     (p : PartsStand format c s parts) (begun : Begun format w c s s1) where
   module _ {w2 : NodeWriter A} {c2 : Content} {s2 : State}
       (copied : Copied format w w2 c c2 s1 s2 [] p.front) (same_head : w2.head ≡ w.head) where
@@ -163,10 +165,6 @@ module _ {A : Type 0} (format : Format) {w : NodeWriter A} {c : Content} {s s1 :
                 apart x,
               )
 
-      killed_out : (x : ℕ) → times x ([] ++ own p.front) ≡ 0 → times x (([] ++ own p.front) ++ [])
-          ≡ 0
-      killed_out x e = omega (arith, e, times-append x ([] ++ own p.front) [])
-
       unfoldable pub rest_three : Rest format w3 c3 s3 parts
       unfolding front_rest
       rest_three = record {
@@ -220,7 +218,7 @@ module _ {A : Type 0} (format : Format) {w : NodeWriter A} {c : Content} {s s1 :
               (with_first (tree_of format p.seam) (entries_to format p.back p.tail)))
               (cells-append format copied.copies
               (record { at = r2; child = child; key = key; value = value } ∷ []))
-              ∙ entries-front (cells_of format copied.copies)
+              ∙ with_entries-append (cells_of format copied.copies)
               (cells_of format
               (record { at = r2; child = child; key = key; value = value } ∷ []))
               (with_first (tree_of format p.seam) (entries_to format p.back p.tail))

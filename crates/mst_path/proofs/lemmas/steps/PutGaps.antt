@@ -57,14 +57,7 @@ module _ (format : Format) (c : Content) (s : State) (link : ℕ) (t : RisingTre
     (l : ℕ) (k : List ℕ) (l_is : l ≡ layer_in format k) where
   abbrev pub whole_split : height (tree_of format t.tree.placed) ≤ l → ToSplit format c s link k
   whole_split low = record {
-    tree = record {
-      placed = t.tree.placed;
-      at = t.tree.at;
-      piece = t.tree.piece;
-      once =
-          t.tree.once;
-    };
-    mst = t.tree.search;
+    tree = t.tree;
     rises = t.rises;
     under = under_height (layer_in format k) (tree_of format t.tree.placed)
         (omega (arith, low, l_is));
@@ -151,14 +144,7 @@ module _ (format : Format) (c : Content) (s : State) (link : ℕ) (t : RisingTre
     pub puts_between : frame.layer ≡ l → PutsBetween format c s link t l k child frame
     puts_between level = record {
       inner = record {
-        tree = record {
-          placed = o.inner.placed;
-          at = o.inner.at;
-          piece = o.inner.piece;
-          once =
-              o.inner.once;
-        };
-        mst = o.inner.search;
+        tree = o.inner;
         rises = inner_rises;
         under = under_height (layer_in format k) inside (omega (arith, o.falls, tall, level, l_is));
       };

@@ -1,8 +1,8 @@
 -- What becomes of a node whose tree loses a key, by where the key stands among its entries.
 use Rattle.mst_key.specs.declared.format.Format.{Format}
-use Rattle.std.proofs.Common.{◌≡◌, ℕ, ◌+◌, ◌-◌, ◌<◌, eqb, false, List, [], ◌∷◌, ◌++◌, length, Some, None, refl, sym, ◌∙◌, ap, subst, arith, length-append}
+use Rattle.std.proofs.Common.{◌≡◌, ℕ, ◌+◌, ◌-◌, ◌<◌, eqb, false, List, [], ◌∷◌, ◌++◌, length, Option, Some, None, refl, sym, ◌∙◌, ap, subst, arith, length-append}
 use Rattle.std.proofs.lemmas.List.{length-map}
-use Rattle.mst_node.specs.Tree.{Entries, entry, entry_count, IsMstEntries}
+use Rattle.mst_node.specs.Tree.{Tree, Entries, entry, entry_count, IsMstEntries}
 use Rattle.mst_node.specs.Shape.{TreeEntry, with_entries}
 use Rattle.mst_arena.specs.Content.{Content, part_at}
 use Rattle.mst_arena.specs.Lives.{State}
@@ -19,10 +19,12 @@ use Rattle.mst_change.specs.Cost.{side_rows, join_rows, remove_rows}
 use Rattle.mst_path.specs.Moves.{IsOld}
 use Rattle.mst_path.specs.Runs.{OldPiece, Run, own, gaps_used, EachGap}
 use Rattle.mst_path.specs.Making.{BackRun, cell_of, cells_of, entries_to, others, tail_behind}
-use Rattle.mst_path.specs.Cutting.{gap_before, CutGap, CutHeld}
-use Rattle.mst_path.specs.RemovePath.{SearchTree, in_tree, StepsDown, StepsHere}
-use Rattle.mst_path.specs.Frames.{Framed}
-use Rattle.mst_path.specs.Joining.{TwoTrees, in_both}
+use Rattle.mst_path.specs.Cutting.{gap_before, CutGap, CutFound}
+use Rattle.mst_path.specs.RemovePath.{SearchTree, in_tree, without, without_rows}
+use Rattle.mst_path.specs.Frames.{Framed, tree_round, frame_rows}
+use Rattle.mst_path.specs.declared.frames.Frame.{Frame}
+use Rattle.mst_path.specs.declared.joining.Meeting.{Meeting}
+use Rattle.mst_path.specs.Joining.{TwoTrees, in_both, both_joined, both_rows}
 use Rattle.mst_path.specs.Gaps.{OpensGap, OpensEntry}
 use Rattle.mst_path.specs.Writing.{PlacedEntry, link_from}
 use Rattle.mst_path.proofs.lemmas.rows.CopyRows.{at_self, old_alive}
@@ -41,6 +43,17 @@ module _ (format : Format) (c : Content) (s : State) (link : ℕ) (t : SearchTre
 
     abbrev pub all : Entries
     all = entries_to format top.entries top.tail
+
+    -- what is left of the node round these runs
+    abbrev frame_of : RunOf → RunOf → ℕ → Option ℕ → Frame
+    frame_of front back tail_link other = record {
+      layer = h.layer;
+      front = front;
+      back = back;
+      tail = tail_link;
+      head = link - 1;
+      other = other;
+    }
 
     module _ (front back : RunOf) (child tail_link : ℕ)
         (cut : CutGap format k top.entries top.tail front child back)
@@ -97,16 +110,8 @@ module _ (format : Format) (c : Content) (s : State) (link : ℕ) (t : SearchTre
         once = λ x. omega (arith, t.once x, gap_used x);
       }
 
-      abbrev gap_framed : Framed format c s
-          (record {
-            layer = h.layer;
-            front = front;
-            back = back;
-            tail = tail_link;
-            head =
-                link - 1;
-            other = None;
-          }) (in_tree format gap_inner)
+      abbrev gap_framed : Framed format c s (frame_of front back tail_link None)
+          (in_tree format gap_inner)
       gap_framed = record {
         front = cut.before;
         behind = link_from 0 cut.behind;
@@ -122,55 +127,8 @@ module _ (format : Format) (c : Content) (s : State) (link : ℕ) (t : SearchTre
         once = λ x. omega (arith, t.once x, gap_used x);
       }
 
-      pub steps_down : StepsDown format c s link t k child
-          (record {
-            layer = h.layer;
-            front = front;
-            back = back;
-            tail = tail_link;
-            head =
-                link - 1;
-            other = None;
-          })
-      steps_down = record {
-        inner = gap_inner;
-        framed = gap_framed;
-        is =
-            ap (λ u. tree_remove u k) top.tree
-            ∙ remove_step k all (cells_of format cut.before) (entries_to format cut.behind top.tail)
-            cut.gap format h.layer
-            ∙ ap (λ u. node_of format h.layer
-            (with_entries (cells_of format cut.before)
-            (with_first (tree_remove u k) (entries_to format cut.behind top.tail))))
-            gap_behind.first
-            ∙ ap (λ v. node_of format h.layer (with_entries (cells_of format cut.before) v))
-            (gap_behind.same (tree_remove (tree_of format (gap_before cut.behind top.tail)) k));
-        rows =
-            let all_rows = ap (λ u. remove_rows u k) top.tree
-            ∙ remove_rows_step k all (cells_of format cut.before)
-            (entries_to format cut.behind top.tail) cut.gap format h.layer
-            ∙ ap (λ n. side_rows n false + remove_rows
-            (first_child (entries_to format cut.behind top.tail)) k) gap_counts
-            ∙ ap (λ u. side_rows (front.count + back.count) false + remove_rows u k)
-            gap_behind.first
-            in
-            omega (arith, all_rows);
-        given = λ x. omega (arith, gap_used x);
-        falls =
-            omega (arith, gap_behind.gap_low, tall format c s t.placed (link - 1) h top t.search);
-        low = low_layer format c s t.placed (link - 1) h top t.search;
-      }
-
       pub opens_gap : OpensGap format c s link t k child
-          (record {
-            layer = h.layer;
-            front = front;
-            back = back;
-            tail = tail_link;
-            head =
-                link - 1;
-            other = None;
-          })
+          (frame_of front back tail_link None)
       opens_gap = record {
         inner = gap_inner;
         framed = gap_framed;
@@ -189,7 +147,7 @@ module _ (format : Format) (c : Content) (s : State) (link : ℕ) (t : SearchTre
       }
 
     module _ (front back : RunOf) (row child right tail_link : ℕ)
-        (cut : CutHeld format k top.entries top.tail front row child back)
+        (cut : CutFound format k top.entries top.tail front row child back)
         (right_is : link_of (gap_before cut.behind top.tail) ≡ right)
         (tail_is : tail_link ≡ tail_behind back.count h.tail) where
       held_run : Run format c s h.first h.count 0 (cut.before ++ cut.here ∷ cut.behind)
@@ -269,16 +227,8 @@ module _ (format : Format) (c : Content) (s : State) (link : ℕ) (t : SearchTre
         once = λ x. omega (arith, t.once x, held_used x);
       }
 
-      abbrev held_framed : Framed format c s
-          (record {
-            layer = h.layer;
-            front = front;
-            back = back;
-            tail = tail_link;
-            head =
-                link - 1;
-            other = Some row;
-          }) (in_both format held_inner)
+      abbrev held_framed : Framed format c s (frame_of front back tail_link (Some row))
+          (in_both format held_inner)
       held_framed = record {
         front = cut.before;
         behind = row + 1;
@@ -297,64 +247,8 @@ module _ (format : Format) (c : Content) (s : State) (link : ℕ) (t : SearchTre
         once = λ x. omega (arith, t.once x, held_used x);
       }
 
-      pub steps_here : StepsHere format c s link t k
-          (record {
-            left = child;
-            right = right;
-            frame =
-                record {
-                  layer = h.layer;
-                  front = front;
-                  back = back;
-                  tail = tail_link;
-                  head =
-                      link - 1;
-                  other = Some row;
-                };
-          })
-      steps_here = record {
-        inner = held_inner;
-        framed = held_framed;
-        is =
-            ap (λ u. tree_remove u k) top.tree
-            ∙ remove_here k all (cells_of format cut.before) (tree_of format cut.here.child)
-            cut.here.value (entries_to format cut.behind top.tail) cut.at format h.layer
-            ∙ ap (λ u. node_of format h.layer
-            (with_entries (cells_of format cut.before)
-            (with_first (join (tree_of format cut.here.child) u)
-            (entries_to format cut.behind top.tail)))) held_behind.first
-            ∙ ap (λ v. node_of format h.layer (with_entries (cells_of format cut.before) v))
-            (held_behind.same
-            (join (tree_of format cut.here.child)
-            (tree_of format (gap_before cut.behind top.tail))));
-        rows =
-            let all_rows = ap (λ u. remove_rows u k) top.tree
-            ∙ remove_rows_here k all (cells_of format cut.before) (tree_of format cut.here.child)
-            cut.here.value (entries_to format cut.behind top.tail) cut.at format h.layer
-            ∙ ap (λ n. side_rows n false + join_rows (tree_of format cut.here.child)
-            (first_child (entries_to format cut.behind top.tail))) held_counts
-            ∙ ap (λ u. side_rows (front.count + back.count) false + join_rows
-            (tree_of format cut.here.child) u) held_behind.first in
-            omega (arith, all_rows);
-        given = λ x. omega (arith, held_used x);
-        low = low_layer format c s t.placed (link - 1) h top t.search;
-      }
-
       pub opens_entry : OpensEntry format c s link t k
-          (record {
-            left = child;
-            right = right;
-            frame =
-                record {
-                  layer = h.layer;
-                  front = front;
-                  back = back;
-                  tail = tail_link;
-                  head =
-                      link - 1;
-                  other = Some row;
-                };
-          })
+          (record { left = child; right = right; frame = frame_of front back tail_link (Some row) })
       opens_entry = record {
         inner = held_inner;
         framed = held_framed;
@@ -376,3 +270,62 @@ module _ (format : Format) (c : Content) (s : State) (link : ℕ) (t : SearchTre
         given = λ x. omega (arith, held_used x);
         low = low_layer format c s t.placed (link - 1) h top t.search;
       }
+
+-- ---- the tree without the key
+
+module _ {format : Format} {c : Content} {s : State} {link : ℕ} {t : SearchTree format c s link}
+    {k : List ℕ} where
+  -- the tree in the gap loses it
+  module _ {child : ℕ} {frame : Frame} (o : OpensGap format c s link t k child frame) where
+    abbrev gap_front : List TreeEntry
+    gap_front = cells_of format o.framed.front
+
+    pub without_below : without format t k ≡ tree_round format o.framed (without format o.inner k)
+    without_below =
+        ap (λ u. tree_remove u k) o.top
+        ∙ remove_step k o.entries gap_front o.behind o.gap format frame.layer
+        ∙ ap (λ u. node_of format frame.layer
+        (with_entries gap_front (with_first (tree_remove u k) o.behind))) o.first
+        ∙ ap (λ v. node_of format frame.layer (with_entries gap_front v))
+        (o.same (without format o.inner k))
+
+    pub rows_below : without_rows format t k ≡ without_rows format o.inner k + frame_rows frame
+    rows_below =
+        let all = ap (λ u. remove_rows u k) o.top
+        ∙ remove_rows_step k o.entries gap_front o.behind o.gap format frame.layer
+        ∙ ap (λ n. side_rows n false + remove_rows (first_child o.behind) k) o.counted
+        ∙ ap (λ u. frame_rows frame + remove_rows u k) o.first in
+        omega (arith, all)
+
+  -- its entry goes, and the trees beside it are joined
+  module _ {m : Meeting} (o : OpensEntry format c s link t k m) where
+    abbrev entry_front : List TreeEntry
+    entry_front = cells_of format o.framed.front
+
+    abbrev lower : Tree
+    lower = tree_of format o.inner.a
+
+    pub without_here : without format t k ≡ tree_round format o.framed (both_joined format o.inner)
+    without_here =
+        ap (λ u. tree_remove u k) o.top
+        ∙ remove_here k o.entries entry_front lower o.value o.behind o.at format m.frame.layer
+        ∙ ap (λ u. node_of format m.frame.layer
+        (with_entries entry_front (with_first (join lower u) o.behind))) o.first
+        ∙ ap (λ v. node_of format m.frame.layer (with_entries entry_front v))
+        (o.same (both_joined format o.inner))
+
+    pub rows_here : without_rows format t k ≡ both_rows format o.inner + frame_rows m.frame
+    rows_here =
+        let left : length entry_front + entry_count o.behind ≡ m.frame.front.count
+        + m.frame.back.count =
+        omega (
+          arith,
+          o.counted,
+          ap entry_count o.at.whole,
+          with_entries_count entry_front (entry lower k o.value o.behind),
+        ) in
+        let all = ap (λ u. remove_rows u k) o.top
+        ∙ remove_rows_here k o.entries entry_front lower o.value o.behind o.at format m.frame.layer
+        ∙ ap (λ n. side_rows n false + join_rows lower (first_child o.behind)) left
+        ∙ ap (λ u. frame_rows m.frame + join_rows lower u) o.first in
+        omega (arith, all)

@@ -14,7 +14,8 @@ use Rattle.mst_path.specs.Making.{Grown}
 use Rattle.mst_path.specs.Writing.{IsRootOf}
 use Rattle.mst_path.specs.Frames.{Framed, in_frame, tree_round, frame_rows}
 use Rattle.mst_path.specs.Joining.{height_at}
-use Rattle.mst_path.specs.RemovePath.{SearchTree, in_tree, without, without_rows, StepsDown}
+use Rattle.mst_path.specs.RemovePath.{SearchTree, in_tree, without, without_rows}
+use Rattle.mst_path.specs.Gaps.{OpensGap}
 use Rattle.mst_path.proofs.lemmas.steps.Framing.{framed_after, grown_round}
 use Rattle.mst_path.proofs.lemmas.trees.Meetings.{height_there}
 use Rattle.mst_path.proofs.lemmas.trees.Joined.{placed_none, unchanged}
@@ -72,11 +73,7 @@ module _ (format : Format) (c : Content) (s : State) (link : ℕ) (t : SearchTre
       (in_tree format t) (λ x. refl) (without_rows format t k)
       (ap (λ p. remove_rows (tree_of format p) k) gone)
 
-  pub none_rows : link ≡ 0 → without_rows format t k ≡ 0
-  none_rows no_link = ap (λ p. remove_rows (tree_of format p) k)
-      (placed_none t.placed link t.at no_link)
-
-  module _ (child : ℕ) (frame : Frame) (down : StepsDown format c s link t k child frame) where
+  module _ (child : ℕ) (frame : Frame) (down : OpensGap format c s link t k child frame) where
     pub lower_tree : height_at c child < height_at c link
     lower_tree =
         omega (

@@ -18,17 +18,19 @@ use Rattle.mst_path.specs.Runs.{Piece, OldPiece, own, gaps_used}
 use Rattle.mst_path.specs.Writing.{PlacedEntry, chain_of, link_from, entries_used, ahead, IsAhead, IsWritten, IsRootOf}
 use Rattle.mst_path.specs.Copying.{Going, Copying, Copied}
 use Rattle.mst_path.specs.Making.{cells_of, entries_to, others, BackRun, Rest, Finished}
-use Rattle.mst_path.specs.declared.making.Parts.{Parts}
+use Rattle.mst_path.specs.declared.making.NodeParts.{NodeParts}
 use Rattle.mst_path.specs.declared.node_writer.NodeWriter.{NodeWriter}
 use Rattle.mst_path.proofs.lemmas.rows.Moving.{not_in, out_of_times, times_of_out, moves_then, alive_stays, alive_out, old_stays}
 use Rattle.mst_path.proofs.lemmas.trees.Made.{made_old, new_stays, piece_alive}
 use Rattle.mst_path.proofs.lemmas.rows.CopyRows.{at_self, kept_at, all_in, new_not_old, new_alive, old_alive, own_frame, gaps_frame, gaps_old}
-use Rattle.mst_path.proofs.lemmas.steps.Finishing.{used_more, going_more, cells-append, copies_cells, chain_entries, entries-front, all_used, head_piece, used_entries, entries_used-append, copies_gaps}
+use Rattle.mst_path.proofs.lemmas.steps.Finishing.{used_more, going_more, copies_cells, chain_entries, all_used, head_piece, used_entries, entries_used-append, copies_gaps}
+use Rattle.mst_path.proofs.lemmas.trees.Cutting.{cells-append}
+use Rattle.mst_change.proofs.Parts.{with_entries-append}
 
 -- ---- the first entry at the back
 
 pub record FirstBack {A : Type 0} (format : Format) (w : NodeWriter A) (c : Content) (s : State)
-    (parts : Parts)
+    (parts : NodeParts)
     (r : Rest format w c s parts) : Type 0 where
   pub entry : PlacedEntry
   pub more : List PlacedEntry
@@ -40,7 +42,7 @@ pub record FirstBack {A : Type 0} (format : Format) (w : NodeWriter A) (c : Cont
   pub old : IsOld s (parts.back.first - 1)
 
 pub first_back : {A : Type 0} (format : Format) (w : NodeWriter A) (c : Content) (s : State)
-    (parts : Parts)
+    (parts : NodeParts)
     (r : Rest format w c s parts) → 0 < parts.back.count → FirstBack format w c s parts r
 first_back format w c s parts r some = go r.back refl r.back_run
   where
@@ -63,7 +65,7 @@ first_back format w c s parts r some = go r.back refl r.back_run
 -- the entries after it are at the link.
 pub record Seamed {A : Type 0} (format : Format) (w w1 : NodeWriter A) (c c1 : Content)
     (s s1 : State)
-    (parts : Parts) (r : Rest format w c s parts) (link : ℕ) : Type 0 where
+    (parts : NodeParts) (r : Rest format w c s parts) (link : ℕ) : Type 0 where
   pub back : FirstBack format w c s parts r
   pub row : ℕ
   pub next_is : w.next ≡ Some row
@@ -75,7 +77,7 @@ pub record Seamed {A : Type 0} (format : Format) (w w1 : NodeWriter A) (c c1 : C
   pub begins : link ≡ link_from 0 back.more
 
 module _ {A : Type 0} (format : Format) {w w1 : NodeWriter A} {c c1 : Content} {s s1 : State}
-    {parts : Parts}
+    {parts : NodeParts}
     {r : Rest format w c s parts} {link : ℕ} (m : Seamed format w w1 c c1 s s1 parts r link) where
   -- the entries that are written then
   abbrev pub with_seam : List PlacedEntry
@@ -240,7 +242,7 @@ module _ {A : Type 0} (format : Format) {w w1 : NodeWriter A} {c c1 : Content} {
             (cells-append format with_seam copied.copies
             ∙ ap (λ (cs : List TreeEntry). cells_of format with_seam ++ cs)
             (copies_cells format copied.copies m.back.more copied.same))
-            ∙ entries-front (cells_of format with_seam) (cells_of format m.back.more)
+            ∙ with_entries-append (cells_of format with_seam) (cells_of format m.back.more)
             (last (tree_of format r.tail))
             ∙ ap (λ (cs : List TreeEntry). with_entries cs (entries_to format m.back.more r.tail))
             (cells-append format r.ws
@@ -251,7 +253,7 @@ module _ {A : Type 0} (format : Format) {w w1 : NodeWriter A} {c c1 : Content} {
               value =
                   m.back.entry.value;
             } ∷ []))
-            ∙ entries-front (cells_of format r.ws)
+            ∙ with_entries-append (cells_of format r.ws)
             (cells_of format
             (record {
               at = m.row;
@@ -307,7 +309,7 @@ module _ {A : Type 0} (format : Format) {w w1 : NodeWriter A} {c c1 : Content} {
 
 -- the new row is none of those that are written, nor of the seam
 pub seam_out : {A : Type 0} (format : Format) (w : NodeWriter A) (c : Content) (s : State)
-    (parts : Parts)
+    (parts : NodeParts)
     (r : Rest format w c s parts) (r0 : ℕ) → w.next ≡ Some r0
     → IsOut r0 (entries_used r.ws ++ used r.seam)
 seam_out format w c s parts r r0 is =

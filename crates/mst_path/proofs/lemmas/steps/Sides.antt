@@ -15,7 +15,7 @@ use Rattle.mst_path.specs.Runs.{Piece, own, gaps_used}
 use Rattle.mst_path.specs.Writing.{PlacedEntry}
 use Rattle.mst_path.specs.Making.{others, HasTail, PartsStand, in_parts, cells_of, entries_to, Grown, Split}
 use Rattle.mst_path.specs.Splitting.{side_of, BothStand, in_both}
-use Rattle.mst_path.specs.declared.making.Parts.{Parts}
+use Rattle.mst_path.specs.declared.making.NodeParts.{NodeParts}
 use Rattle.mst_path.proofs.lemmas.rows.CopyRows.{at_self, old_alive}
 use Rattle.mst_arena.proofs.ListLemmas.{one_row}
 use Rattle.mst_path.proofs.lemmas.rows.Moving.{moves_none}
@@ -23,7 +23,7 @@ use Rattle.mst_path.proofs.lemmas.trees.Made.{piece_alive}
 use Rattle.mst_path.proofs.lemmas.steps.Steps.{Step, step_grown, step_kill, step_then, piece_after, old_after, apart_after, parts_after, parts_alive}
 
 -- parts with no entries
-pub seam_alone : (format : Format) (c : Content) (s : State) (parts : Parts)
+pub seam_alone : (format : Format) (c : Content) (s : State) (parts : NodeParts)
     (p : PartsStand format c s parts) → parts.front.count + parts.back.count ≡ 0
     → Grown format c c s s (side_of format p) parts.seam (in_parts format p)
     (side_rows (parts.front.count + parts.back.count) false)
@@ -54,7 +54,7 @@ seam_alone format c s parts p empty = go p.front p.front_run.counted p.back p.ba
       counted = sym (ap (λ n. side_rows n false) empty);
     }
 
-module _ (format : Format) (c0 c1 : Content) (s0 s1 : State) (row : ℕ) (left right : Parts)
+module _ (format : Format) (c0 c1 : Content) (s0 s1 : State) (row : ℕ) (left right : NodeParts)
     (b : BothStand format c0 s0 row left right) (lower : Root) (n : ℕ)
     (one : Grown format c0 c1 s0 s1 (side_of format b.lower) lower (in_parts format b.lower) n)
   where
@@ -133,9 +133,6 @@ module _ (format : Format) (c0 c1 : Content) (s0 s1 : State) (row : ℕ) (left r
             (killed : s3 ≡ with_life s2 row (ended_life (next s2) (slice_get s2.lives row))) where
           third : Step c2 c2 s2 s3 (λ x. times x (row ∷ [])) (λ x. 0) 0
           third = step_kill c2 s2 s3 row row_still_old killed
-
-          sides : ℕ → ℕ
-          sides x = times x (used one.placed) + times x (used two.placed)
 
           whole : Step c0 c2 s0 s3 (in_both format b)
               (λ x. times x (used one.placed) + times x (used two.placed)) ((n + m) + 0)

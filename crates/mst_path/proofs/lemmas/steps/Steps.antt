@@ -1,11 +1,11 @@
 -- Steps of a change, one after another, and what they leave alone.
 use Rattle.mst_key.specs.declared.format.Format.{Format}
-use Rattle.std.proofs.Common.{◌≡◌, ℕ, zero, suc, ◌+◌, ◌<◌, ◌≤◌, List, [], ◌∷◌, ◌++◌, length, refl, sym, ◌∙◌, subst, arith, inl, inr, length-append}
+use Rattle.std.proofs.Common.{◌≡◌, ℕ, zero, suc, ◌+◌, ◌<◌, ◌≤◌, List, [], ◌∷◌, ◌++◌, length, refl, sym, ◌∙◌, subst, arith, length-append}
 use Rattle.std.specs.Prelude.{slice_get}
 use Rattle.mst_node.specs.Tree.{Tree}
 use Rattle.mst_arena.specs.Content.{Content}
 use Rattle.mst_arena.specs.Lives.{State, next, with_life, ended_life}
-use Rattle.mst_arena.specs.Lists.{In, times}
+use Rattle.mst_arena.specs.Lists.{times}
 use Rattle.mst_arena.specs.declared.row.Root.{Root}
 use Rattle.mst_arena.specs.Standing.{Placed, used}
 use Rattle.mst_arena.proofs.ListLemmas.{times-append}
@@ -15,11 +15,10 @@ use Rattle.mst_path.specs.Moves.{IsAlive, IsOld, Moves}
 use Rattle.mst_path.specs.Runs.{Piece, OldPiece, Run, own, gaps_used, EachGap}
 use Rattle.mst_path.specs.Writing.{PlacedEntry}
 use Rattle.mst_path.specs.Making.{others, BackRun, PartsStand, in_parts, Grown, Split}
-use Rattle.mst_path.specs.declared.making.Parts.{Parts}
-use Rattle.mst_arena.proofs.ListLemmas.{in_either}
-use Rattle.mst_path.proofs.lemmas.rows.Moving.{out_of_times, times_of_out, moves_none, moves_kill, moves_then, alive_stays, old_stays, alive_out}
+use Rattle.mst_path.specs.declared.making.NodeParts.{NodeParts}
+use Rattle.mst_path.proofs.lemmas.rows.Moving.{out_of_times, times_of_out, moves_kill, moves_then, old_stays, alive_out}
 use Rattle.mst_path.proofs.lemmas.trees.Made.{made_stays, piece_alive}
-use Rattle.mst_path.proofs.lemmas.rows.CopyRows.{all_in, kept_at, old_alive, own_frame, gaps_frame}
+use Rattle.mst_path.proofs.lemmas.rows.CopyRows.{all_in, kept_at, old_alive, own_frame, gaps_frame, gaps_old}
 
 -- So many rows were taken, and only these were written; of what was given and taken some is used,
 -- and the other rows were killed.
@@ -59,18 +58,6 @@ step_split format c c' s s' t u left right given count g =
       counted = g.counted;
     }
 
-pub step_none : (c : Content) (s : State) (given : ℕ → ℕ) → Step c c s s given given 0
-step_none c s given =
-    record {
-      taken = [];
-      killed = [];
-      moves = moves_none s;
-      keeps = λ x out. refl;
-      rows =
-          λ x. refl;
-      counted = refl;
-    }
-
 pub step_kill : (c : Content) (s s' : State) (r : ℕ) → IsOld s r → s' ≡ with_life s r
     (ended_life (next s) (slice_get s.lives r)) → Step c c s s' (λ x. times x (r ∷ [])) (λ x. 0) 0
 step_kill c s s' r old is = record {
@@ -108,14 +95,6 @@ step_then a b c s t u g g' v v' given spent n m one two sum = record {
 
 -- ---- what is not given to a step stays
 
-pub gap_old : (format : Format) (s : State) (c : Content) (es : List PlacedEntry)
-    → EachGap (OldPiece format c s) es → (x : ℕ) → In x (gaps_used es) → IsOld s x
-gap_old format s c [] each x i = absurd (omega arith)
-gap_old format s c (e ∷ es) each x i = elim (in_either x (used e.child) (gaps_used es) i) [
-  | inl k ↦ each.0.old x k
-  | inr k ↦ gap_old format s c es each.1 x k
-]
-
 module _ (format : Format) (c c' : Content) (s s' : State) (given spent : ℕ → ℕ) (count : ℕ)
     (one : Step c c' s s' given spent count) where
   -- a row that is alive and was not given was not killed
@@ -126,10 +105,6 @@ module _ (format : Format) (c c' : Content) (s s' : State) (given spent : ℕ �
   pub row_stays : (x : ℕ) → IsAlive s x → c' x ≡ c x
   row_stays x alive =
       kept_at c c' one.taken x one.keeps (alive_out s s' one.taken one.killed one.moves x alive)
-
-  pub alive_after : (x : ℕ) → IsAlive s x → given x ≡ 0 → IsAlive s' x
-  alive_after x alive out = alive_stays s s' one.taken one.killed one.moves x alive
-      (spared x alive out)
 
   pub old_after : (x : ℕ) → IsOld s x → given x ≡ 0 → IsOld s' x
   old_after x old out = old_stays s s' one.taken one.killed one.moves x old
@@ -157,7 +132,7 @@ module _ (format : Format) (c c' : Content) (s s' : State) (given spent : ℕ �
   gaps_after : (es : List PlacedEntry) → ((x : ℕ) → times x (gaps_used es) + given x ≤ 1)
       → EachGap (OldPiece format c s) es → EachGap (OldPiece format c' s') es
   gaps_after es apart gaps = gaps_frame format c c' s s' es
-      (λ x i. row_stays x (old_alive s x (gap_old format s c es gaps x i)))
+      (λ x i. row_stays x (old_alive s x (gaps_old format c s x es gaps i)))
       (λ x i old. old_after x old (omega (arith, i, apart x)))
       gaps
 
@@ -204,7 +179,7 @@ module _ (format : Format) (c c' : Content) (s s' : State) (given spent : ℕ �
           nothing zero never = refl
           nothing (suc n) never = absurd (never (omega arith))
 
-  abbrev pub parts_after : (parts : Parts) (p : PartsStand format c s parts)
+  abbrev pub parts_after : (parts : NodeParts) (p : PartsStand format c s parts)
       → ((x : ℕ) → in_parts format p x + given x ≤ 1) → PartsStand format c' s' parts
   parts_after parts p apart = record {
     front = p.front;
@@ -222,7 +197,7 @@ module _ (format : Format) (c c' : Content) (s s' : State) (given spent : ℕ �
   }
 
 -- the rows of parts are alive
-pub parts_alive : (format : Format) (c : Content) (s : State) (parts : Parts)
+pub parts_alive : (format : Format) (c : Content) (s : State) (parts : NodeParts)
     (p : PartsStand format c s parts) (x : ℕ) → 0 < in_parts format p x → IsAlive s x
 parts_alive format c s parts p x some = go (times x (used p.seam)) refl (times x (used p.tail)) refl
     (times x (own p.front)) refl (times x (gaps_used p.front)) refl (times x (own p.back)) refl
@@ -234,8 +209,8 @@ parts_alive format c s parts p x some = go (times x (used p.seam)) refl (times x
     go zero i (suc b) j d k e l f m = old_alive s x (p.back_run.tail_piece.old x (omega (arith, j)))
     go zero i zero j (suc d) k e l f m = old_alive s x (p.front_run.old x (omega (arith, k)))
     go zero i zero j zero k (suc e) l f m =
-        old_alive s x (gap_old format s c p.front p.front_run.gaps x (omega (arith, l)))
+        old_alive s x (gaps_old format c s x p.front p.front_run.gaps (omega (arith, l)))
     go zero i zero j zero k zero l (suc f) m = old_alive s x (p.back_run.old x (omega (arith, m)))
     go zero i zero j zero k zero l zero m =
         old_alive s x
-        (gap_old format s c (others p.back) p.back_run.gaps x (omega (arith, some, i, j, k, l, m)))
+        (gaps_old format c s x (others p.back) p.back_run.gaps (omega (arith, some, i, j, k, l, m)))

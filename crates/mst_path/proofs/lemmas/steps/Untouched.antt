@@ -1,30 +1,21 @@
 -- What a step neither kills nor writes stands as before.
 use Rattle.mst_key.specs.declared.format.Format.{Format}
-use Rattle.std.proofs.Common.{◌≡◌, ℕ, List, [], ◌∷◌, arith, inl, inr}
+use Rattle.std.proofs.Common.{◌≡◌, ℕ, List}
 use Rattle.mst_arena.specs.Content.{Content}
 use Rattle.mst_arena.specs.Lives.{State}
 use Rattle.mst_arena.specs.Lists.{In, times}
 use Rattle.mst_arena.specs.Standing.{Placed, used}
 use Rattle.mst_arena.proofs.Stands.{placed_frame}
 use Rattle.mst_path.specs.Takes.{KeepsBut}
-use Rattle.mst_path.specs.Moves.{IsAlive, IsOld, Moves}
-use Rattle.mst_path.specs.Runs.{Piece, OldPiece, Run, own, gaps_used, EachGap}
+use Rattle.mst_path.specs.Moves.{IsAlive, Moves}
+use Rattle.mst_path.specs.Runs.{Piece, OldPiece, Run, own, gaps_used}
 use Rattle.mst_path.specs.Writing.{PlacedEntry}
 use Rattle.mst_path.specs.Making.{others, BackRun}
-use Rattle.mst_arena.proofs.ListLemmas.{in_either}
 use Rattle.mst_path.proofs.lemmas.rows.Moving.{old_stays}
-use Rattle.mst_path.proofs.lemmas.rows.CopyRows.{kept_at, all_in, old_alive, own_frame, gaps_frame}
+use Rattle.mst_path.proofs.lemmas.rows.CopyRows.{kept_at, all_in, old_alive, own_frame, gaps_frame, gaps_old}
 use Rattle.mst_path.proofs.lemmas.trees.Made.{made_stays, piece_alive}
 
 -- ---- what stands stays
-
-pub gap_rows_old : (format : Format) (c : Content) (s : State) (x : ℕ) (es : List PlacedEntry)
-    → EachGap (OldPiece format c s) es → In x (gaps_used es) → IsOld s x
-gap_rows_old format c s x [] each i = absurd (omega arith)
-gap_rows_old format c s x (y ∷ es) each i = elim (in_either x (used y.child) (gaps_used es) i) [
-  | inl k ↦ each.0.old x k
-  | inr k ↦ gap_rows_old format c s x es each.1 k
-]
 
 -- what a step neither kills nor writes
 module _ (format : Format) (c c' : Content) (s s' : State) (t k ks : List ℕ) (m : Moves s s' t k)
@@ -60,7 +51,7 @@ module _ (format : Format) (c c' : Content) (s s' : State) (t k ks : List ℕ) (
     old = λ x i. old_stays s s' t k m x (run.old x i) (out x i);
     gaps =
         gaps_frame format c c' s s' es
-        (λ x i. kept_row x (old_alive s x (gap_rows_old format c s x es run.gaps i)))
+        (λ x i. kept_row x (old_alive s x (gaps_old format c s x es run.gaps i)))
         (λ x i old. old_stays s s' t k m x old (gaps_out x i)) run.gaps;
   }
 
@@ -76,7 +67,7 @@ module _ (format : Format) (c c' : Content) (s s' : State) (t k ks : List ℕ) (
     old = λ x i. old_stays s s' t k m x (run.old x i) (out x i);
     gaps =
         gaps_frame format c c' s s' (others es)
-        (λ x i. kept_row x (old_alive s x (gap_rows_old format c s x (others es) run.gaps i)))
+        (λ x i. kept_row x (old_alive s x (gaps_old format c s x (others es) run.gaps i)))
         (λ x i old. old_stays s s' t k m x old (gaps_out x i)) run.gaps;
     tail_at = run.tail_at;
     tail_piece = old_piece_later tail tail_out run.tail_piece;

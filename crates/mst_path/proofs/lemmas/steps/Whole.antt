@@ -17,13 +17,13 @@ use Rattle.mst_path.specs.Runs.{Piece, own, gaps_used}
 use Rattle.mst_path.specs.Writing.{entries_used, ahead, IsWritten}
 use Rattle.mst_path.specs.Copying.{Going, Copying, Copied}
 use Rattle.mst_path.specs.Making.{cells_of, entries_to, others, PartsStand, in_parts, Grown, Rest, Finished}
-use Rattle.mst_path.specs.declared.making.Parts.{Parts}
+use Rattle.mst_path.specs.declared.making.NodeParts.{NodeParts}
 use Rattle.mst_path.specs.declared.node_writer.NodeWriter.{NodeWriter}
 use Rattle.mst_path.proofs.lemmas.rows.Moving.{not_in, out_of_times, times_of_out, moves_takes, moves_then, alive_out, old_stays}
-use Rattle.mst_path.proofs.lemmas.rows.CopyRows.{at_self, new_not_old, old_alive}
+use Rattle.mst_path.proofs.lemmas.rows.CopyRows.{at_self, new_not_old, old_alive, gaps_old}
 use Rattle.mst_path.proofs.lemmas.trees.Made.{new_stays, piece_alive}
 use Rattle.mst_path.proofs.lemmas.steps.Finishing.{used_entries, copies_gaps, copies_cells}
-use Rattle.mst_path.proofs.lemmas.steps.Untouched.{gap_rows_old, piece_later, run_later, back_later}
+use Rattle.mst_path.proofs.lemmas.steps.Untouched.{piece_later, run_later, back_later}
 
 -- ---- a node begins
 
@@ -40,7 +40,7 @@ begun_by format {w = w} {s = s} {s1 = s1} takes written c =
     record { moves = moves_takes s s1 (w.head ∷ ahead w.next) takes; written = written c }
 
 module _ {A : Type 0} (format : Format) {w : NodeWriter A} {c : Content} {s s1 : State}
-    {parts : Parts}
+    {parts : NodeParts}
     (p : PartsStand format c s parts) (begun : Begun format w c s s1) where
   begin_next : next s1 ≡ next s
   begin_next = let v : version s1 ≡ version s = rw (begun.moves.current, begun.moves.versions) in
@@ -81,14 +81,14 @@ module _ {A : Type 0} (format : Format) {w : NodeWriter A} {c : Content} {s s1 :
           → times x (gaps_used (others p.back)) ≡ f → IsAlive s x
       go (suc a) ae b be d de e ee f fe = old_alive s x (p.front_run.old x (omega (arith, ae)))
       go zero ae (suc b) be d de e ee f fe =
-          old_alive s x (gap_rows_old format c s x p.front p.front_run.gaps (omega (arith, be)))
+          old_alive s x (gaps_old format c s x p.front p.front_run.gaps (omega (arith, be)))
       go zero ae zero be (suc d) de e ee f fe =
           piece_alive format p.seam_piece x (omega (arith, de))
       go zero ae zero be zero de (suc e) ee f fe =
           old_alive s x (p.back_run.old x (omega (arith, ee)))
       go zero ae zero be zero de zero ee (suc f) fe =
           old_alive s x
-          (gap_rows_old format c s x (others p.back) p.back_run.gaps (omega (arith, fe)))
+          (gaps_old format c s x (others p.back) p.back_run.gaps (omega (arith, fe)))
       go zero ae zero be zero de zero ee zero fe =
           old_alive s x (p.back_run.tail_piece.old x (omega (arith, some, ae, be, de, ee, fe)))
 

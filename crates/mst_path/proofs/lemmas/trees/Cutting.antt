@@ -18,7 +18,7 @@ use Rattle.mst_change.specs.Gap.{CellsBelow}
 use Rattle.mst_path.specs.Runs.{own_rows}
 use Rattle.mst_path.specs.Writing.{PlacedEntry, link_from}
 use Rattle.mst_path.specs.Making.{cell_of, cells_of, entries_to}
-use Rattle.mst_path.specs.Cutting.{EntriesLie, CutGap, CutHeld}
+use Rattle.mst_path.specs.Cutting.{EntriesLie, CutGap, CutFound}
 use Rattle.mst_change.proofs.Parts.{with_entries-append}
 use Rattle.mst_path.proofs.lemmas.rows.CopyRows.{links_are}
 
@@ -210,10 +210,10 @@ module _ (format : Format) (content : Content) (k : List ℕ) (links : HeadLinks
     }
 
     -- the entry has the key
-    pub cut_held : (tail : Placed) → key_cmp k e.key ≡ Equal → CutHeld format k es tail
+    pub cut_found : (tail : Placed) → key_cmp k e.key ≡ Equal → CutFound format k es tail
         (record { first = links.first; count = done }) (link - 1) e.child
         (record { first = e.next; count = links.count - done - 1 })
-    cut_held tail equal =
+    cut_found tail equal =
         let same : a.here.key ≡ k = sym read.2 ∙ sym (same_from_equal k e.key equal) in
         record {
           before = o.before;

@@ -76,11 +76,6 @@ pub ahead_none : (next : Option ℕ) (left : ℕ) → IsAhead next left → left
 ahead_none None left is all = refl
 ahead_none (Some r) left is all = absurd (omega (arith, is, all))
 
-pub ahead_some : (next : Option ℕ) (left : ℕ) → IsAhead next left → 0 < left → (r : ℕ)
-    × (next ≡ Some r)
-ahead_some None left is some = absurd (omega (arith, is, some))
-ahead_some (Some r) left is some = (r, refl)
-
 pub ahead_all : (P : ℕ → Type 0) (next : Option ℕ) → AllByRecursion P (ahead next) → IfSome next P
 ahead_all P None all = tt
 ahead_all P (Some r) all = all.0

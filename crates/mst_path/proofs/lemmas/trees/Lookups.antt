@@ -18,17 +18,17 @@ use Rattle.mst_path.specs.declared.making.Run.{Run as RunOf}
 use Rattle.mst_path.specs.declared.cut.Cut.{Cut}
 use Rattle.mst_change.specs.Parts.{first_child}
 use Rattle.mst_change.specs.Gap.{CellsBelow, FallsFirst, IsGap, IsAt}
-use Rattle.mst_path.specs.Making.{cells_of, entries_to}
-use Rattle.mst_path.specs.Cutting.{EntriesLie, gap_before, IsCut, CutGap, CutHeld}
+use Rattle.mst_path.specs.Making.{cells_of, entries_to, tail_behind}
+use Rattle.mst_path.specs.Cutting.{EntriesLie, IsCut, CutGap, CutFound}
 use Rattle.mst_path.specs.Joining.{height_at}
 use Rattle.mst_path.specs.RemovePath.{SearchTree}
 use Rattle.mst_path.specs.Writing.{PlacedEntry, link_from}
 use Rattle.mst_change.proofs.Split.Pairs.{behind_above, before_below, before_same}
 use Rattle.mst_change.proofs.Split.Trees.{rest_rises}
 use Rattle.mst_path.proofs.lemmas.trees.Heights.{gap_rises}
-use Rattle.mst_path.proofs.lemmas.trees.Meetings.{height_there, tall}
+use Rattle.mst_path.proofs.lemmas.trees.Meetings.{height_there}
 use Rattle.mst_path.proofs.lemmas.trees.Parting.{back_rows}
-use Rattle.mst_path.proofs.lemmas.steps.Removals.{top, gap_behind, gap_used}
+use Rattle.mst_path.proofs.lemmas.steps.Removals.{top, opens_gap}
 
 -- ---- in a tree
 
@@ -76,12 +76,6 @@ module _ (k : List ℕ) where
       ∙ map_get-right (pairs child) ((k, value) ∷ entries_pairs back) k
       (before_same (pairs child) (k, value) (entries_pairs back) k behind refl)
       ∙ map_get-here (k, value) (entries_pairs back) k refl
-
--- the tree before these entries
-first_before : (format : Format) (es : List PlacedEntry) (tail : Placed)
-    → first_child (entries_to format es tail) ≡ tree_of format (gap_before es tail)
-first_before format [] tail = refl
-first_before format (e ∷ es) tail = refl
 
 -- ---- in rows
 
@@ -137,41 +131,28 @@ module _ (format : Format) (c : Content) (s : State) (link : ℕ) (t : SearchTre
           (top format c s link t k h some read).entries (top format c s link t k h some read).tail
           front child back → FindsBelow format c s link t k child
       finds_below front back child cut =
-          let o = top format c s link t k h some read in
-          let b = gap_behind format c s link t k h some read front back child
-          (Rattle.mst_path.specs.Making.tail_behind back.count h.tail) cut refl in
-          let counts = gap_used format c s link t k h some read front back child
-          (Rattle.mst_path.specs.Making.tail_behind back.count h.tail) cut refl in
-          let first = first_before format cut.behind o.tail in
-          let inside = gap_rises format h.layer (entries_to format cut.behind o.tail)
-          (cells_of format cut.before)
-          (subst (λ (fs : Entries). IsAscending (entries_pairs fs)) cut.gap.whole all_rise) in
+          let o = opens_gap format c s link t k h some read front back child
+          (tail_behind back.count h.tail) cut refl in
+          let all = subst IsAscending (ap pairs o.top) rise in
+          let inside = gap_rises format h.layer o.behind (cells_of format o.framed.front)
+          (subst (λ (fs : Entries). IsAscending (entries_pairs fs)) o.gap.whole all) in
           record {
-            inner = record {
-              placed = gap_before cut.behind o.tail;
-              at = cut.child_at;
-              piece = b.gap_piece;
-              search = b.gap_search;
-              once = λ x. omega (arith, t.once x, counts x);
-            };
-            rise = subst (λ (u : Tree). IsAscending (pairs u)) first inside;
+            inner = o.inner;
+            rise = subst (λ (u : Tree). IsAscending (pairs u)) o.first inside;
             same =
-                ap (λ (u : Tree). map_get (pairs u) k) o.tree
-                ∙ gap_look k (entries_to format o.entries o.tail) (cells_of format cut.before)
-                (entries_to format cut.behind o.tail) cut.gap all_rise
-                ∙ ap (λ (u : Tree). map_get (pairs u) k) first;
+                ap (λ (u : Tree). map_get (pairs u) k) o.top
+                ∙ gap_look k o.entries (cells_of format o.framed.front) o.behind o.gap all
+                ∙ ap (λ (u : Tree). map_get (pairs u) k) o.first;
             falls =
                 omega (
                   arith,
-                  b.gap_low,
-                  tall format c s t.placed (link - 1) h o t.search,
-                  height_there format c (gap_before cut.behind o.tail) child cut.child_at
-                      b.gap_piece.rows,
+                  o.falls,
+                  height_there format c o.inner.placed child o.inner.at o.inner.piece.rows,
                   height_there format c t.placed link t.at t.piece.rows,
                 );
           }
 
-      pub finds_here : (front back : RunOf) (row child : ℕ) → CutHeld format k
+      pub finds_here : (front back : RunOf) (row child : ℕ) → CutFound format k
           (top format c s link t k h some read).entries (top format c s link t k h some read).tail
           front row child back → FindsHere format c s link t k row
       finds_here front back row child cut =

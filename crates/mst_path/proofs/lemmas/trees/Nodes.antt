@@ -13,6 +13,7 @@ use Rattle.mst_node.specs.declared.node.Node.{Node, out-Node}
 use Rattle.mst_node.specs.declared.node.Entry.{Entry, out-Entry}
 use Rattle.mst_node.proofs.NodeShapes.{tree_of_out, tree_entry_out}
 use Rattle.mst_arena.specs.Standing.{Placed, none, head, Chain, end, cell, tree_of, entries_of, used, chain_used}
+use Rattle.mst_arena.specs.Limits.{highest_layer}
 use Rattle.mst_path.specs.Planting.{node_count, entries_node_count, rows_needed}
 
 -- ---- how many rows
@@ -104,7 +105,7 @@ digits_length Two [] = omega arith
 digits_length One (b ∷ bs) = omega (arith, digits_length One bs)
 digits_length Two (b ∷ bs) = omega (arith, digits_length Two bs)
 
-pub layer_le : (format : Format) (key : List ℕ) → layer_in format key ≤ 128
+pub layer_le : (format : Format) (key : List ℕ) → layer_in format key ≤ highest_layer
 unfolding layer_in
 layer_le format key =
     omega (
@@ -115,7 +116,7 @@ layer_le format key =
     )
 
 pub layer_of_entries : (format : Format) (l : ℕ) (es : Entries) → 0 < entry_count es
-    → IsMstEntries format l es → l ≤ 128
+    → IsMstEntries format l es → l ≤ highest_layer
 layer_of_entries format l (last child) some mst = absurd (omega arith)
 layer_of_entries format l (entry child key value rest) some mst =
     omega (arith, layer_le format key, mst.2)
@@ -174,7 +175,7 @@ module _ (format : Format) (A : Type 0) (n : Node A) where
             {B = TreeEntry} items (tree_entry format),
       )
 
-  pub node_layer : IsMst format (tree_of_node format n) → (out-Node A n).layer ≤ 128
+  pub node_layer : IsMst format (tree_of_node format n) → (out-Node A n).layer ≤ highest_layer
   node_layer mst =
       let is = node_mst mst in
       layer_of_entries format (out-Node A n).layer

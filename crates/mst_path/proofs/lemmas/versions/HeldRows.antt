@@ -6,23 +6,12 @@ use Rattle.std.specs.Prelude.{◌↔◌}
 use Rattle.std.proofs.lemmas.Bool.Decides.{nat_tests}
 use Rattle.mst_arena.specs.Lists.{times}
 use Rattle.mst_arena.proofs.ListLemmas.{times-append}
+use Rattle.std.proofs.lemmas.Bool.{or_cases, or_parts, and_parts}
 
 -- none, or some
 by_zero : (n : ℕ) (A : Type 0) → (n ≡ 0 → A) → (0 < n → A) → A
 by_zero zero A is_zero is_more = is_zero refl
 by_zero (suc n) A is_zero is_more = is_more (omega arith)
-
-or_true : (a b : Bool) → (a || b) ≡ true → (a ≡ true) ⊎ (b ≡ true)
-or_true true b i = inl refl
-or_true false b i = inr i
-
-or_false : (a b : Bool) → (a || b) ≡ false → (a ≡ false) × (b ≡ false)
-or_false true b i = cc
-or_false false b i = (refl, i)
-
-and_true : (a b : Bool) → (a && b) ≡ true → (a ≡ true) × (b ≡ true)
-and_true true b i = (refl, i)
-and_true false b i = cc
 
 and_false : (a b : Bool) → (a && b) ≡ false → a ≡ true → b ≡ false
 and_false true b i on = i
@@ -106,16 +95,16 @@ module _ (N : Type 0) (rows : N → List ℕ) (nodes : ℕ → List N) (lasts : 
         × (lasts u w t ≡ true)
     met_of zero w t is = cc
     met_of (suc n) w t is = ⊎_elim
-        (λ (h : (live n && lasts n w t) ≡ true). let b = and_true (live n) (lasts n w t) h in
+        (λ (h : (live n && lasts n w t) ≡ true). let b = and_parts (live n) (lasts n w t) h in
         (n, omega arith, b.0, b.1))
         (λ (h : met_below n w t ≡ true). let r = met_of n w t h in
         (r.0, (let m = r.1 in omega arith), r.2, r.3))
-        (or_true (live n && lasts n w t) (met_below n w t) is)
+        (or_cases (live n && lasts n w t) (met_below n w t) is)
 
     unmet : (n w : ℕ) (t : N) → met_below n w t ≡ false → (u : ℕ) → u < n → live u ≡ true
         → lasts u w t ≡ false
     unmet zero w t is u l on = absurd (omega (arith, l))
-    unmet (suc n) w t is u l on = let b = or_false (live n && lasts n w t) (met_below n w t) is in
+    unmet (suc n) w t is u l on = let b = or_parts (live n && lasts n w t) (met_below n w t) is in
         ⊎_elim
         (λ (same : u ≡ n). ap (λ (z : ℕ). lasts z w t) same ∙ and_false (live n) (lasts n w t) b.0
         (sym (ap live same) ∙ on))

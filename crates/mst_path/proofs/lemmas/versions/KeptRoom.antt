@@ -1,5 +1,5 @@
 -- The rows that kept versions of a history reach together are as many as these versions hold.
-use Rattle.std.proofs.Common.{◌≡◌, ℕ, zero, suc, ◌+◌, ◌<◌, ◌≤◌, ◌⊎◌, inl, inr, eqb, nat_lt, Bool, true, false, not, ◌&&◌, ◌||◌, cond, List, [], ◌∷◌, ◌++◌, length, take, refl, sym, ◌∙◌, ap, subst, arith, true≢false}
+use Rattle.std.proofs.Common.{◌≡◌, ℕ, zero, suc, ◌+◌, ◌<◌, ◌≤◌, inl, inr, eqb, nat_lt, Bool, true, false, not, ◌&&◌, ◌||◌, cond, List, [], ◌∷◌, ◌++◌, length, take, refl, sym, ◌∙◌, ap, subst, arith, true≢false}
 use Rattle.std.specs.Prelude.{◌↔◌, ◌==◌}
 use Rattle.std.specs.List.{AllByRecursion, list_any}
 use Rattle.std.proofs.lemmas.Bool.Decides.{nat_tests}
@@ -23,6 +23,7 @@ use Rattle.mst_path.proofs.lemmas.rows.FreeCounts.{count_swept, any_in}
 use Rattle.mst_path.proofs.lemmas.versions.HeldRows as counting
 use Rattle.mst_path.proofs.lemmas.versions.NodeSums.{own_length}
 use Rattle.mst_path.proofs.lemmas.versions.Reached.{has_in}
+use Rattle.std.proofs.lemmas.Bool.{and_parts, and_from, or_cases, or_left, or_right}
 
 -- ---- the nodes of a tree have its rows
 
@@ -113,26 +114,6 @@ same_bool true false f g = sym (f refl)
 same_bool false true f g = g refl
 same_bool false false f g = refl
 
-and_true : (a b : Bool) → (a && b) ≡ true → (a ≡ true) × (b ≡ true)
-and_true true b e = (refl, e)
-and_true false b e = absurd (true≢false (sym e))
-
-true_and : (a b : Bool) → a ≡ true → b ≡ true → (a && b) ≡ true
-true_and true b e f = f
-true_and false b e f = e
-
-or_true : (a b : Bool) → (a || b) ≡ true → (a ≡ true) ⊎ (b ≡ true)
-or_true true b e = inl refl
-or_true false b e = inr e
-
-true_left : (a b : Bool) → a ≡ true → (a || b) ≡ true
-true_left true b e = refl
-true_left false b e = absurd (true≢false (sym e))
-
-true_right : (a b : Bool) → b ≡ true → (a || b) ≡ true
-true_right true b e = refl
-true_right false b e = e
-
 -- ---- the versions that are kept
 
 kept_in : (live : List ℕ) (v : ℕ) → is_kept live v ≡ true → In v live
@@ -149,8 +130,8 @@ any_from p (u ∷ live) v i is = go (eqb v u) refl i (λ j. any_from p live v j 
     go : (b : Bool) → eqb v u ≡ b → 0 < bit b + times v live → (In v live → list_any p live ≡ true)
         → (p u || list_any p live) ≡ true
     go true e j more = let same : v ≡ u = grind (arith, nat_tests, e) in
-        true_left (p u) (list_any p live) (ap p (sym same) ∙ is)
-    go false e j more = true_right (p u) (list_any p live) (more (omega (arith, j)))
+        or_left (p u) (list_any p live) (ap p (sym same) ∙ is)
+    go false e j more = or_right (p u) (list_any p live) (more (omega (arith, j)))
 
 module _ (first : Format) (lives : List Life) (h : History) (live : List ℕ)
     (places : (v : ℕ) → In v live → (v ≤ length h) × HasPlace first lives h v) where
@@ -246,8 +227,8 @@ module _ (first : Format) (lives : List Life) (h : History) (live : List ℕ)
   met_in : (m w : ℕ) (p : Placed) → met m w p ≡ true → (u : ℕ) × (u < m) × (kept u ≡ true)
       × (run u w p ≡ true)
   met_in zero w p is = absurd (true≢false (sym is))
-  met_in (suc m) w p is = elim (or_true (kept m && run m w p) (met m w p) is) [
-    | inl here ↦ let both = and_true (kept m) (run m w p) here in (m, omega arith, both.0, both.1)
+  met_in (suc m) w p is = elim (or_cases (kept m && run m w p) (met m w p) is) [
+    | inl here ↦ let both = and_parts (kept m) (run m w p) here in (m, omega arith, both.0, both.1)
     | inr back ↦ let r = met_in m w p back in (r.0, (let l = r.1 in omega (arith, l)), r.2, r.3)
   ]
 
@@ -259,19 +240,19 @@ module _ (first : Format) (lives : List Life) (h : History) (live : List ℕ)
       go : (b : Bool) → (u == m) ≡ b → (u < m → met m w p ≡ true)
           → ((kept m && run m w p) || met m w p) ≡ true
       go true e back = let same : u ≡ m = grind (arith, nat_tests, e) in
-          true_left (kept m && run m w p) (met m w p)
-          (true_and (kept m) (run m w p) (ap kept (sym same) ∙ is)
+          or_left (kept m && run m w p) (met m w p)
+          (and_from (kept m) (run m w p) (ap kept (sym same) ∙ is)
           (ap (λ (n : ℕ). run n w p) (sym same) ∙ long))
       go false e back = let other : u ≡ m → ⊥ = grind (arith, nat_tests, e) in
-          true_right (kept m && run m w p) (met m w p) (back (omega (arith, lt, other)))
+          or_right (kept m && run m w p) (met m w p) (back (omega (arith, lt, other)))
 
   met_stayed : (w : ℕ) (p : Placed) → met w w p ≡ has_stayed first h live w (tree_of (form w) p)
   met_stayed w p = same_bool (met w w p) (has_stayed first h live w (tree_of (form w) p))
       (λ is. let m = met_in w w p is in let e : nat_lt m.0 w ≡ true =
       below m.0 m.1 in any_from (λ u. nat_lt u w && lasts first h u w (tree_of (form w) p)) live
-      m.0 (kept_in live m.0 m.2) (true_and (nat_lt m.0 w) (run m.0 w p) e m.3))
+      m.0 (kept_in live m.0 m.2) (and_from (nat_lt m.0 w) (run m.0 w p) e m.3))
       (λ is. let found = any_in (λ u. nat_lt u w && lasts first h u w (tree_of (form w) p)) live is
-      in let both = and_true (nat_lt found.0 w) (run found.0 w p) found.2 in
+      in let both = and_parts (nat_lt found.0 w) (run found.0 w p) found.2 in
       in_met w w p found.0 (above found.0 both.0) (has_in found.0 live found.1) both.1)
     where
       below : (u : ℕ) → u < w → nat_lt u w ≡ true

@@ -1,6 +1,6 @@
 -- A whole tree is planted beside the one that stands, which is felled: what that does to lives, and
 -- how old the rows of the new tree are if it is of another format.
-use Rattle.std.proofs.Common.{◌≡◌, ℕ, ◌+◌, Bool, true, false, ◌&&◌, ◌||◌, List, [], ◌∷◌, ◌++◌, Some, inl, inr, refl, sym, ◌∙◌, ap, subst, true≢false}
+use Rattle.std.proofs.Common.{◌≡◌, ℕ, ◌+◌, Bool, false, ◌&&◌, ◌||◌, List, [], ◌++◌, Some, inl, inr, refl, sym, ◌∙◌, ap, subst}
 use Rattle.std.specs.Prelude.{Contains, ◌==◌}
 use Rattle.std.specs.List.{AllByRecursion, list_any}
 use Rattle.std.proofs.lemmas.List.{append-nil}
@@ -22,6 +22,8 @@ use Rattle.mst_path.specs.Takes.{Takes}
 use Rattle.mst_path.proofs.lemmas.rows.Moving.{moves_takes, moves_then, not_in}
 use Rattle.mst_arena.proofs.NodeRows.{all_contained, top_inside}
 use Rattle.mst_path.proofs.lemmas.versions.Reached.{by_in}
+use Rattle.std.proofs.lemmas.List.Folds.{list_any-append}
+use Rattle.std.proofs.lemmas.Bool.{or_from}
 
 -- ---- what was taken stands after it, and what was killed before it
 
@@ -74,14 +76,7 @@ moved old mid new taken killed takes fells =
 
 none_either : (p : Tree → Bool) (xs ys : List Tree) → list_any p xs ≡ false → list_any p ys ≡ false
     → list_any p (xs ++ ys) ≡ false
-none_either p [] ys a b = b
-none_either p (x ∷ xs) ys a b = go (p x) a (λ c. none_either p xs ys c b)
-  where
-    go : (t : Bool) → (t || list_any p xs) ≡ false
-        → (list_any p xs ≡ false → list_any p (xs ++ ys) ≡ false) → (t || list_any p (xs ++ ys))
-        ≡ false
-    go true c more = absurd (true≢false c)
-    go false c more = more c
+none_either p xs ys a b = list_any-append p xs ys ∙ or_from (list_any p xs) (list_any p ys) a b
 
 module _ (f g : Format) (other : same_format g f ≡ false) (l : ℕ) (es : Entries) where
   not_same : (k : ℕ) (fs : Entries) → same_tree (node g l es) (node f k fs) ≡ false

@@ -7,8 +7,10 @@ use Rattle.mst_path.specs.Takes.{IsWritable}
 use Rattle.mst_path.specs.Making.{Grown}
 use Rattle.mst_path.specs.Frames.{Framed, in_frame, tree_round, frame_rows}
 use Rattle.mst_path.specs.Joining.{TwoTrees, in_both, both_joined, both_rows, height_at}
-use Rattle.mst_path.specs.RemovePath.{SearchTree, in_tree, without, without_rows, IsStep, StepsDown, StepsHere}
+use Rattle.mst_path.specs.RemovePath.{SearchTree, in_tree, without, without_rows}
+use Rattle.mst_path.specs.Gaps.{IsOpened, OpensGap, OpensEntry}
 use Rattle.mst_path.proofs.lemmas.rows.CopyRows.{still_writable}
+use Rattle.mst_path.proofs.lemmas.steps.Removals.{without_below, rows_below, without_here, rows_here}
 use Rattle.mst_path.proofs.lemmas.steps.Rounds.{regrown, frame_after, room_after, closed_round, none_without, lower_tree}
 use Rattle.mst_path.proofs.remove_path.+remove_at.Given.{Over}
 use Rattle.mst_path.proofs.remove_path.+remove_at.Goals.{In-Down, After-remove_at-seam, In-Here}
@@ -29,15 +31,16 @@ returns-then-link-eq0-clause-removed g t c = λ z.
 module _ (g : Over) (n : ℕ) (c : goal.In-Down g n)
     (z : SearchTree c.args.format (g.R.Rows.content c.args.rows.now) c.args.desk.now c.args.link)
   where
-    down : StepsDown c.args.format (g.R.Rows.content c.args.rows.now) c.args.desk.now c.args.link z
+    down : OpensGap c.args.format (g.R.Rows.content c.args.rows.now) c.args.desk.now c.args.link z
         c.args.key.now c.in-Down.child c.in-Down.frame
     down =
-        subst (IsStep c.args.format (g.R.Rows.content c.args.rows.now) c.args.desk.now c.args.link z
-        c.args.key.now) c.in-Down.is (c.top_step.ensures.step c.args.format c.args.desk.now z)
+        subst (IsOpened c.args.format (g.R.Rows.content c.args.rows.now) c.args.desk.now c.args.link
+        z
+        c.args.key.now) c.in-Down.is (c.top_step.ensures.opened c.args.format c.args.desk.now z)
 
 module _ (g : Over) (n : ℕ) (c : goal.After-remove_at-seam g n)
     (z : SearchTree c.args.format (g.R.Rows.content c.args.rows.now) c.args.desk.now c.args.link)
-    (d : StepsDown c.args.format (g.R.Rows.content c.args.rows.now) c.args.desk.now c.args.link z
+    (d : OpensGap c.args.format (g.R.Rows.content c.args.rows.now) c.args.desk.now c.args.link z
     c.args.key.now c.in-Down.child c.in-Down.frame) where
   grown : Grown c.args.format (g.R.Rows.content c.args.rows.now)
       (g.R.Rows.content c.remove_at-seam.new.rows) c.args.desk.now c.remove_at-seam.new.desk
@@ -55,7 +58,7 @@ module _ (g : Over) (n : ℕ) (c : goal.After-remove_at-seam g n)
 
   room : without_rows c.args.format z c.args.key.now ≤ free_count c.args.desk.now.lives
       → frame_rows c.in-Down.frame ≤ free_count c.remove_at-seam.new.desk.lives
-  room enough = room_after c.args.format grown d.framed (omega (arith, enough, d.rows))
+  room enough = room_after c.args.format grown d.framed (omega (arith, enough, rows_below d))
 
   ready : IsWritable c.remove_at-seam.new.desk.lives (g.R.Rows.blank c.remove_at-seam.new.rows)
   ready = still_writable c.args.desk.now c.remove_at-seam.new.desk grown.taken grown.killed _ _
@@ -80,7 +83,7 @@ remove_at-seam-requires g t c κs within =
           (
             subst (λ (x : Content). (y : SearchTree c.args.format x c.args.desk.now c.in-Down.child)
                 × (without_rows c.args.format y c.args.key.now ≤ free_count c.args.desk.now.lives))
-                (sym same) (d.inner, omega (arith, c.requires.tree.1, d.rows)),
+                (sym same) (d.inner, omega (arith, c.requires.tree.1, rows_below d)),
             subst (IsWritable c.args.desk.now.lives)
                 (sym (ap g.R.Rows.blank c.top_step.ensures.same)) c.requires.ready,
           ),
@@ -126,18 +129,19 @@ returns-in-Down-clause-removed g t c = λ z.
     (λ x. in_tree c.args.format d.inner x + in_frame c.args.format d.framed x)
     (in_tree c.args.format z)
     (without_rows c.args.format d.inner c.args.key.now + frame_rows c.in-Down.frame)
-    (without_rows c.args.format z c.args.key.now) all d.is d.given d.rows
+    (without_rows c.args.format z c.args.key.now) all (without_below d) d.given (rows_below d)
 
 -- ---- the node has the key's entry
 
 module _ (g : Over) (n : ℕ) (c : goal.In-Here g n)
     (z : SearchTree c.args.format (g.R.Rows.content c.args.rows.now) c.args.desk.now c.args.link)
   where
-    here : StepsHere c.args.format (g.R.Rows.content c.args.rows.now) c.args.desk.now c.args.link z
+    here : OpensEntry c.args.format (g.R.Rows.content c.args.rows.now) c.args.desk.now c.args.link z
         c.args.key.now c.in-Here.meeting
     here =
-        subst (IsStep c.args.format (g.R.Rows.content c.args.rows.now) c.args.desk.now c.args.link z
-        c.args.key.now) c.in-Here.is (c.top_step.ensures.step c.args.format c.args.desk.now z)
+        subst (IsOpened c.args.format (g.R.Rows.content c.args.rows.now) c.args.desk.now c.args.link
+        z
+        c.args.key.now) c.in-Here.is (c.top_step.ensures.opened c.args.format c.args.desk.now z)
 
 pub join_round-requires-clause-met : goal.join_round-requires-clause-met
 join_round-requires-clause-met g t c =
@@ -148,7 +152,7 @@ join_round-requires-clause-met g t c =
     (in_both c.args.format y)
     × (both_rows c.args.format y + frame_rows c.in-Here.meeting.frame ≤ free_count
     c.args.desk.now.lives)) (sym (ap g.R.Rows.content c.top_step.ensures.same))
-    (h.inner, h.framed, omega (arith, c.requires.tree.1, h.rows))
+    (h.inner, h.framed, omega (arith, c.requires.tree.1, rows_here h))
 
 pub join_round-requires-clause-low : goal.join_round-requires-clause-low
 join_round-requires-clause-low g t c =
@@ -171,4 +175,4 @@ returns-in-Here-clause-removed g t c = λ z.
     (without c.args.format z c.args.key.now) _
     (λ x. in_both c.args.format h.inner x + in_frame c.args.format h.framed x)
     (in_tree c.args.format z) (both_rows c.args.format h.inner + frame_rows m.frame)
-    (without_rows c.args.format z c.args.key.now) all h.is h.given h.rows
+    (without_rows c.args.format z c.args.key.now) all (without_here h) h.given (rows_here h)

@@ -3,7 +3,9 @@ use Rattle.std.proofs.Common.{◌≡◌, ◌≤◌, ◌<◌, ℕ, sym, ap, subst
 use Rattle.mst_arena.specs.Content.{Content}
 use Rattle.mst_arena.specs.Lives.{State}
 use Rattle.mst_path.specs.Joining.{TwoTrees, both_rows, height_at}
-use Rattle.mst_path.specs.RemovePath.{SearchTree, without_rows, IsStep, StepsDown, StepsHere}
+use Rattle.mst_path.specs.RemovePath.{SearchTree, without_rows}
+use Rattle.mst_path.specs.Gaps.{IsOpened, OpensGap, OpensEntry}
+use Rattle.mst_path.proofs.lemmas.steps.Removals.{rows_below, rows_here}
 use Rattle.mst_path.proofs.lemmas.steps.Rounds.{lower_tree}
 use Rattle.mst_path.proofs.remove_path.+remove_cost.Given.{Over}
 use Rattle.mst_path.proofs.remove_path.+remove_cost.Goals.{In-Down, After-remove_cost-inner, In-Here, After-join_cost-joined}
@@ -13,10 +15,10 @@ use Rattle.mst_path.proofs.remove_path.+remove_cost.Goals as goal
 
 module _ (g : Over) (n : ℕ) (c : goal.In-Down g n) (format : Format) (s : State)
     (z : SearchTree format (g.R.Rows.content c.args.rows.now) s c.args.link) where
-  down : StepsDown format (g.R.Rows.content c.args.rows.now) s c.args.link z c.args.key.now
+  down : OpensGap format (g.R.Rows.content c.args.rows.now) s c.args.link z c.args.key.now
       c.in-Down.child c.in-Down.frame
-  down = subst (IsStep format (g.R.Rows.content c.args.rows.now) s c.args.link z c.args.key.now)
-      c.in-Down.is (c.top_step.ensures.step format s z)
+  down = subst (IsOpened format (g.R.Rows.content c.args.rows.now) s c.args.link z c.args.key.now)
+      c.in-Down.is (c.top_step.ensures.opened format s z)
 
 module _ (g : Over) (n : ℕ) (c : goal.After-remove_cost-inner g n) (format : Format) (s : State)
     (inner : SearchTree format (g.R.Rows.content c.args.rows.now) s c.in-Down.child) where
@@ -44,7 +46,7 @@ remove_cost-inner-requires g t c κs within =
         search rules,
         subst (λ (x : Content). (f : Format) × (q : State)
             × (y : SearchTree f x q c.in-Down.child) × (without_rows f y c.args.key.now ≤ 65535))
-            (sym same) (format, s, d.inner, omega (arith, c.requires.tree.3, d.rows)),
+            (sym same) (format, s, d.inner, omega (arith, c.requires.tree.3, rows_below d)),
       ),
     )
 
@@ -56,8 +58,8 @@ rows-requires g t c =
           omega (
             arith,
             c.requires.tree.3,
-            (down g t (goal.at.rows-requires g t c).In-Down format c.requires.tree.1
-                c.requires.tree.2).rows,
+            rows_below (down g t (goal.at.rows-requires g t c).In-Down format c.requires.tree.1
+                c.requires.tree.2),
           );
     }
 
@@ -70,7 +72,7 @@ overflow_add-result g t c =
       arith,
       cost_in_gap g t at.After-remove_cost-inner format c.requires.tree.1 d.inner,
       c.rows.ensures.rows,
-      d.rows,
+      rows_below d,
       c.requires.tree.3,
     )
 
@@ -82,17 +84,17 @@ returns-in-Down-clause-cost g t c = λ format s z.
       arith,
       cost_in_gap g t at.After-remove_cost-inner format s d.inner,
       c.rows.ensures.rows,
-      d.rows,
+      rows_below d,
     )
 
 -- ---- the node has the key's entry
 
 module _ (g : Over) (n : ℕ) (c : goal.In-Here g n) (format : Format) (s : State)
     (z : SearchTree format (g.R.Rows.content c.args.rows.now) s c.args.link) where
-  here : StepsHere format (g.R.Rows.content c.args.rows.now) s c.args.link z c.args.key.now
+  here : OpensEntry format (g.R.Rows.content c.args.rows.now) s c.args.link z c.args.key.now
       c.in-Here.meeting
-  here = subst (IsStep format (g.R.Rows.content c.args.rows.now) s c.args.link z c.args.key.now)
-      c.in-Here.is (c.top_step.ensures.step format s z)
+  here = subst (IsOpened format (g.R.Rows.content c.args.rows.now) s c.args.link z c.args.key.now)
+      c.in-Here.is (c.top_step.ensures.opened format s z)
 
 module _ (g : Over) (n : ℕ) (c : goal.After-join_cost-joined g n) (format : Format) (s : State)
     (trees : TwoTrees format (g.R.Rows.content c.args.rows.now) s c.in-Here.meeting.left
@@ -114,7 +116,7 @@ join_cost-joined-requires g t c =
           subst (λ (x : Content). (f : Format) × (q : State)
           × (y : TwoTrees f x q c.in-Here.meeting.left c.in-Here.meeting.right)
           × (both_rows f y ≤ 65535)) (sym (ap g.R.Rows.content c.top_step.ensures.same))
-          (format, c.requires.tree.1, h.inner, omega (arith, c.requires.tree.3, h.rows));
+          (format, c.requires.tree.1, h.inner, omega (arith, c.requires.tree.3, rows_here h));
     }
 
 pub rows-requires-in-Here : goal.rows-requires-in-Here
@@ -125,8 +127,8 @@ rows-requires-in-Here g t c =
           omega (
             arith,
             c.requires.tree.3,
-            (here g t (goal.at.rows-requires-in-Here g t c).In-Here format c.requires.tree.1
-                c.requires.tree.2).rows,
+            rows_here (here g t (goal.at.rows-requires-in-Here g t c).In-Here format
+                c.requires.tree.1 c.requires.tree.2),
           );
     }
 
@@ -139,7 +141,7 @@ overflow_add-result-in-Here g t c =
       arith,
       cost_of_both g t at.After-join_cost-joined format c.requires.tree.1 h.inner,
       c.rows-in-Here.ensures.rows,
-      h.rows,
+      rows_here h,
       c.requires.tree.3,
     )
 
@@ -151,5 +153,5 @@ returns-in-Here-clause-cost g t c = λ format s z.
       arith,
       cost_of_both g t at.After-join_cost-joined format s h.inner,
       c.rows-in-Here.ensures.rows,
-      h.rows,
+      rows_here h,
     )

@@ -1,6 +1,6 @@
-use Rattle.mst_path.proofs.lemmas.trees.Heights.{height}
+use Rattle.mst_path.specs.Joining.{height_at}
 use Rattle.mst_path.proofs.split.+split.Given as goal
 
 -- layers fall
 abbrev pub decreases-split : goal.decreases-split
-decreases-split g l = height (g.R.Rows.content l.rows.now) l.link
+decreases-split g l = height_at (g.R.Rows.content l.rows.now) l.link

@@ -13,9 +13,9 @@ use Rattle.mst_path.specs.Writing.{ahead, entries_used}
 use Rattle.mst_path.specs.Planting.{rows_needed, Planted}
 use Rattle.mst_path.proofs.lemmas.rows.Taking.{takes_none, takes_length, taken_blank}
 use Rattle.mst_path.proofs.lemmas.rows.Moving.{moves_takes}
-use Rattle.mst_path.proofs.lemmas.rows.CopyRows.{still_writable}
+use Rattle.mst_path.proofs.lemmas.rows.CopyRows.{still_writable, next_some}
 use Rattle.mst_path.proofs.lemmas.trees.Nodes.{items, tail, entries_needed, needed_ahead, needed_least, take_all, node_out, node_needed, node_some, node_layer, node_child, node_last, entries_more}
-use Rattle.mst_path.proofs.lemmas.trees.Growing.{PlantedSoFar, ahead_count, ahead_none, ahead_some, ahead_all, root_small, free_now, free_beside, entry_more, node_whole}
+use Rattle.mst_path.proofs.lemmas.trees.Growing.{PlantedSoFar, ahead_count, ahead_none, ahead_all, root_small, free_now, free_beside, entry_more, node_whole}
 use Rattle.mst_path.proofs.whole_tree.+plant.Given.{Over}
 use Rattle.mst_path.proofs.whole_tree.+plant.Goals.{plant_node-After-len, plant_node-After-entry-item, plant_node-After-loop-entry}
 use Rattle.mst_path.proofs.whole_tree.+plant.Goals as goal
@@ -206,7 +206,7 @@ plant_node-entry-requires-clause-child g t c =
 pub plant_node-loop-entry-preserved : goal.plant_node-loop-entry-preserved
 plant_node-loop-entry-preserved g t c =
     let here = (goal.at.plant_node-loop-entry-preserved g t c).After-entry-item in
-    let row = ahead_some c.loop-entry.writer.next c.loop-entry.writer.left
+    let row = next_some c.loop-entry.writer.next c.loop-entry.writer.left
     c.loop-entry.invariant.writer.reserved
     (omega (arith, c.loop-entry.invariant.left, inside g t here)) in
     record {
