@@ -1,13 +1,18 @@
-//! The text of an entry of format 1, of any lengths, made of the words of its row.
+//! The text of an entry of any lengths, made of the words of its row.
 //!
-//! It is laid into an array, the key as 32 bytes and the value as 64, whatever their lengths: so
-//! the compiled code stores words, and copies bytes whose number it does not know once, at the end.
+//! In format 1 it is laid into an array, the key as 32 bytes and the value as 64, whatever their
+//! lengths: so the compiled code stores words, and copies bytes whose number it does not know once,
+//! at the end.
 ghost use Rattle.std.specs.Prelude.{◌≡◌, ◌≤◌, ◌+◌, ◌/◌, ◌%◌, ◌++◌, ℕ, List, take};
-ghost use Rattle.mst_node.specs.Text.{child_text, counted};
+ghost use Rattle.mst_node.specs.Text.{child_text, counted, held_of, held_text};
+ghost use Rattle.mst_prefix.specs.Kept.{HasTaken};
 ghost use Rattle.mst_arena.specs.Words.{bytes_in, length_radix};
 
 use crate::parts::{LENGTH_RADIX, bytes_of_eight, bytes_of_four};
+use mst_key::Format;
 use mst_node::TextSink;
+use mst_prefix::TextHasher;
+use std::alloc::Allocator;
 
 /// The most bytes that an entry has in a text of format 1: a byte and a digest, and the longest key
 /// and the longest value, each after its length.
@@ -66,4 +71,28 @@ pub fn take_words<S: TextSink>(
     let behind = lay(&mut text, behind, &[size as u8], 1);
     let end = lay(&mut text, behind, &bytes_of_eight(value), size as usize);
     sink.take(&text[..end]);
+}
+
+/// Hands over an entry that was copied to the hash of its new node's text, in any format. The words
+/// of its row are as in [`take_words`].
+#[inline(always)]
+pub fn hash_copied<A: Allocator>(
+    hasher: &mut TextHasher<A>,
+    format: Format,
+    child: Option<[u8; 32]>,
+    lengths: u64,
+    key: &[u64; 4],
+    value: &[u64; 8],
+)
+    requires key { lengths % length_radix ≤ 32 }
+    requires value { lengths / length_radix ≤ 64 }
+    ensures entry { (m : List ℕ) → HasTaken hasher.old m
+        → HasTaken hasher.new (m ++ child_text child
+        ++ counted (take (lengths % length_radix) (bytes_in key.now))
+        ++ held_text format (held_of format (take (lengths / length_radix) (bytes_in value.now)))) }
+{
+    let (len, size) = (lengths % LENGTH_RADIX, lengths / LENGTH_RADIX);
+    let key = bytes_of_four(key);
+    let value = bytes_of_eight(value);
+    hasher.copied_entry(format, child, &key[..len as usize], &value[..size as usize]);
 }

@@ -41,7 +41,7 @@ mod words;
 
 pub use desk::{Desk, VersionsSpent};
 pub use entry_text::take_common;
-pub use entry_words::take_words;
+pub use entry_words::{hash_copied, take_words};
 pub use laws::{life_laws, standing_laws, words_laws};
 pub use life::Life;
 pub use parts::LENGTH_RADIX;

@@ -3,6 +3,7 @@ ghost use Rattle.std.specs.Prelude.{◌≡◌, ◌≤◌, ◌<◌, ◌++◌, ◌
 ghost use Rattle.mst_key.specs.Bytes.{IsKey, IsValue};
 ghost use Rattle.mst_key.specs.Map.{Pair};
 ghost use Rattle.mst_node.specs.Text.{child_text, counted, held_of, held_text};
+ghost use Rattle.mst_prefix.specs.Kept.{HasTaken};
 ghost use Rattle.mst_arena.specs.Limits.{highest_link};
 ghost use Rattle.mst_arena.specs.Row.{IsRow, IsHead, head_links, head_digest, keyed_links, bare_links, entry_pair, entry_value};
 ghost use Rattle.mst_arena.specs.Content.{part_at, Writes, relinked};
@@ -13,6 +14,7 @@ use crate::row::{BareLinks, HeadLinks, KeyedLinks, Row};
 use crate::sought::{Sought, Stop, Way};
 use mst_key::{Format, Key, Value};
 use mst_node::TextSink;
+use mst_prefix::TextHasher;
 use std::alloc::Allocator;
 
 /// Rows that the holder may read, and blank rows that it may write.
@@ -51,33 +53,41 @@ pub trait Rows {
         ensures blank { blank self.new ≡ blank self.old }
         ensures kept { kept self.new ≡ kept self.old };
 
-    /// Copies the entry at a number into a blank row, with another child and another next. It
-    /// returns the entry's value, so that a caller does not load its words once more.
-    fn copy_entry(&mut self, from: u32, to: u32, child: u32, next: u32) -> Value
+    /// Copies the entry at a number into a blank row, with other links, and hands it over, after a
+    /// child, to the hash of its new node's text. It is one call, so that an implementation that
+    /// sees the entry's lengths first loads its words once, and tests them no more.
+    fn copy_entry<B: Allocator>(
+        &mut self,
+        from: u32,
+        to: u32,
+        links: BareLinks,
+        format: Format,
+        child: Option<[u8; 32]>,
+        hasher: &mut TextHasher<B>,
+    )
         requires there { IsSome (part_at keyed_links (content self.old) from) }
         requires blank { IsTrue (blank self.old to) }
-        requires child { child ≤ highest_link }
-        requires next { next ≤ highest_link }
-        ensures writes { IfSome (content self.old from)
-            (λ entry. Writes (content self.old) (content self.new) to (relinked child next entry)) }
-        ensures value { part_at entry_value (content self.old) from ≡ Some result }
+        requires child { links.child ≤ highest_link }
+        requires next { links.next ≤ highest_link }
+        ensures writes { IfSome (content self.old from) (λ entry.
+            Writes (content self.old) (content self.new) to
+            (relinked links.child links.next entry)) }
+        ensures entry { (pair : Pair) → part_at entry_pair (content self.old) from ≡ Some pair
+            → (m : List ℕ) → HasTaken hasher.old m
+            → HasTaken hasher.new (m ++ child_text child ++ counted pair.0
+            ++ held_text format (held_of format pair.1)) }
         ensures blank { blank self.new ≡ blank self.old }
         ensures kept { kept self.new ≡ kept self.old }
     {
-        match self.read(from) {
-            Row::Entry { key, value, .. } => {
-                let answer = value.copy();
-                let entry = Row::Entry {
-                    child,
-                    next,
-                    key,
-                    value,
-                };
-                self.write(to, &entry);
-                answer
-            }
-            Row::Head { .. } => unreachable!(),
-        }
+        let (key, value) = self.pair(from);
+        hasher.copied_entry(format, child, key.bytes(), value.bytes());
+        let entry = Row::Entry {
+            child: links.child,
+            next: links.next,
+            key,
+            value,
+        };
+        self.write(to, &entry);
     }
 
     /// The layer, the count and the links of the head at this number.

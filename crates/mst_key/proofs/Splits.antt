@@ -120,7 +120,6 @@ remove-first back k k' w equal above =
 
 module _ (m front back : List Pair) (k : List ℕ) (split : m ≡ front ++ back)
     (below : AllBelow front k) (above : AllAbove back k) where
-
   pub put-between : (v : List ℕ) → put m k v ≡ front ++ (k, v) ∷ back
   put-between v = ap (λ (l : List Pair). put l k v) split ∙ put-right front back k v below
       ∙ ap (λ (l : List Pair). front ++ l) (put-before back k v above)
@@ -129,7 +128,6 @@ module _ (m front back : List Pair) (k : List ℕ) (split : m ≡ front ++ back)
 
 module _ (m front back : List Pair) (k k' w : List ℕ) (split : m ≡ front ++ (k', w) ∷ back)
     (equal : key_cmp k' k ≡ Equal) (below : AllBelow front k) (above : AllAbove back k) where
-
   pub put-at : (v : List ℕ) → put m k v ≡ front ++ (k, v) ∷ back
   put-at v = ap (λ (l : List Pair). put l k v) split ∙ put-right front ((k', w) ∷ back) k v below
       ∙ ap (λ (l : List Pair). front ++ l) (put-first back k k' v w equal above)

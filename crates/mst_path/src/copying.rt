@@ -1,10 +1,11 @@
 //! Entries of a node, copied into a node that is being written.
-ghost use Rattle.std.specs.Prelude.{◌≡◌, ◌≤◌, ◌<◌, ◌+◌, ℕ, List, [], ◌∷◌, ◌++◌, Some};
+ghost use Rattle.std.specs.Prelude.{◌≡◌, ◌≤◌, ◌<◌, ◌+◌, ℕ, List, [], ◌∷◌, ◌++◌, Some, IsSome};
+ghost use Rattle.mst_key.specs.Map.{Pair};
 ghost use Rattle.mst_key.specs.declared.format.Format.{Format};
 ghost use Rattle.mst_arena.specs.Limits.{highest_link};
 ghost use Rattle.mst_arena.specs.Lives.{free_count};
 ghost use Rattle.mst_arena.specs.Content.{part_at};
-ghost use Rattle.mst_arena.specs.Row.{keyed_links, entry_value};
+ghost use Rattle.mst_arena.specs.Row.{keyed_links, entry_pair};
 ghost use Rattle.mst_arena.specs.Standing.{Placed, link_of, rows_of, used, HasRows};
 ghost use Rattle.mst_path.specs.Takes.{IsOut, KeepsBut, FewRows, IsWritable, StaysBeside};
 ghost use Rattle.mst_path.specs.Writing.{PlacedEntry, entries_used, IsRootOf, ahead, IsNextBlank, IsWriter, IsWritten};
@@ -12,7 +13,7 @@ ghost use Rattle.mst_path.specs.Moves.{IsOld, Moves};
 ghost use Rattle.mst_path.specs.Copying.{Copying, Copied};
 
 use crate::node_writer::NodeWriter;
-use mst_arena::{Desk, KeyedLinks, Root, Rows};
+use mst_arena::{Desk, Root, Rows};
 use mst_node::empty_digest;
 use std::alloc::Allocator;
 
@@ -36,15 +37,14 @@ pub fn root_at<R: Rows>(rows: &mut R, link: u32) -> Root
     }
 }
 
-/// Moves the entry in a row, which has these links and this key, into the node, with a tree in the
-/// gap before it: it is copied, and the row dies.
+/// Moves the entry in a row into the node, with a tree in the gap before it: it is copied, and the
+/// row dies.
 #[inline(always)]
 pub(crate) fn move_entry<R: Rows, A: Allocator>(
     rows: &mut R,
     desk: &mut Desk<A>,
     writer: &mut NodeWriter<A>,
     row: u32,
-    entry: &KeyedLinks,
     child: &Root,
 )
     requires writer { IsWriter writer.old }
@@ -53,22 +53,22 @@ pub(crate) fn move_entry<R: Rows, A: Allocator>(
     requires few { FewRows desk.old.lives }
     requires blank { IsNextBlank writer.old.next (R.blank rows.old) }
     requires child { child.now.link ≤ highest_link }
-    requires entry { part_at keyed_links (R.content rows.old) row ≡ Some entry.now }
+    requires entry { IsSome (part_at keyed_links (R.content rows.old) row) }
     requires old { IsOld desk.old row }
     ensures writer { IsWriter writer.new }
-    ensures written { (format : Format) (es : List PlacedEntry) (p : Placed) (r : ℕ) (v : List ℕ)
-        → writer.old.next ≡ Some r → part_at entry_value (R.content rows.old) row ≡ Some v
+    ensures written { (format : Format) (es : List PlacedEntry) (p : Placed) (r : ℕ) (pair : Pair)
+        → writer.old.next ≡ Some r → part_at entry_pair (R.content rows.old) row ≡ Some pair
         → IsWritten format writer.old (R.content rows.old) es → IsRootOf format p child.now
         → HasRows (R.content rows.old) (rows_of format p) → IsOut r (entries_used es ++ used p)
         → IsWritten format writer.new (R.content rows.new)
-        (es ++ record { at = r; child = p; key = entry.now.key; value = v } ∷ []) }
+        (es ++ record { at = r; child = p; key = pair.0; value = pair.1 } ∷ []) }
     ensures node { (writer.new.layer ≡ writer.old.layer) × (writer.new.count ≡ writer.old.count)
         × (writer.new.left + 1 ≡ writer.old.left) × (writer.new.head ≡ writer.old.head) }
     ensures moves { Moves desk.old desk.new (ahead writer.new.next) (row ∷ []) }
     ensures keeps { KeepsBut (ahead writer.old.next) (R.content rows.old) (R.content rows.new) }
     ensures beside { StaysBeside R.blank R.kept rows.old rows.new }
 {
-    writer.copy(rows, desk, child, row, entry);
+    writer.copy(rows, desk, child, row);
     desk.kill(row);
 }
 
@@ -102,10 +102,10 @@ pub(crate) fn move_run<R: Rows, A: Allocator>(
     let mut link = from;
     for _ in 0..count {
         let row = link - 1;
-        let entry = rows.entry(row);
-        let child = root_at(rows, entry.child);
-        move_entry(rows, desk, writer, row, &entry, &child);
-        link = entry.next;
+        let links = rows.links(row);
+        let child = root_at(rows, links.child);
+        move_entry(rows, desk, writer, row, &child);
+        link = links.next;
     }
     link
 }

@@ -180,9 +180,9 @@ fn finish_with_back<R: Rows, A: Allocator>(
     ensures beside { StaysBeside R.blank R.kept rows.old rows.new }
 {
     let row = parts.back.first - 1;
-    let entry = rows.entry(row);
-    move_entry(rows, desk, &mut writer, row, &entry, &parts.seam);
-    move_run(rows, desk, &mut writer, entry.next, parts.back.count - 1);
+    let links = rows.links(row);
+    move_entry(rows, desk, &mut writer, row, &parts.seam);
+    move_run(rows, desk, &mut writer, links.next, parts.back.count - 1);
     let tail = root_at(rows, parts.tail);
     writer.finish(rows, desk, &tail)
 }

@@ -1,17 +1,18 @@
 //! One node, written into rows entry by entry.
-ghost use Rattle.std.specs.Prelude.{◌≡◌, ◌≤◌, ◌<◌, ◌+◌, ℕ, List, [], ◌∷◌, ◌++◌, Some, IsTrue};
+ghost use Rattle.std.specs.Prelude.{◌≡◌, ◌≤◌, ◌<◌, ◌+◌, ℕ, List, [], ◌∷◌, ◌++◌, Some, IsSome, IsTrue};
 ghost use Rattle.mst_node.specs.Text.{child_digest};
+ghost use Rattle.mst_key.specs.Map.{Pair};
 ghost use Rattle.mst_key.specs.declared.format.Format.{Format};
 ghost use Rattle.mst_prefix.specs.Kept.{HasTaken};
 ghost use Rattle.mst_arena.specs.Limits.{highest_layer, highest_link, most_entries};
 ghost use Rattle.mst_arena.specs.Lives.{free_count};
 ghost use Rattle.mst_arena.specs.Content.{Content, part_at};
-ghost use Rattle.mst_arena.specs.Row.{keyed_links, entry_value};
+ghost use Rattle.mst_arena.specs.Row.{keyed_links, entry_pair};
 ghost use Rattle.mst_arena.specs.Standing.{Placed, head, tree_of, rows_of, used, HasRows};
 ghost use Rattle.mst_path.specs.Takes.{Takes, IsOut, KeepsBut, FewRows, StaysBeside};
 ghost use Rattle.mst_path.specs.Writing.{PlacedEntry, chain_of, entries_used, IsRootOf, ahead, IsNextBlank, IsAhead, IsWriter, IsWritten};
 
-use mst_arena::{Desk, KeyedLinks, Root, Row, Rows};
+use mst_arena::{BareLinks, Desk, Root, Row, Rows};
 use mst_key::{Format, Key, Value};
 use mst_node::TextSink;
 use mst_prefix::TextHasher;
@@ -181,31 +182,24 @@ impl<A: Allocator> NodeWriter<A> {
             .copied_entry(self.format, digest_at(child), key, value);
     }
 
-    /// Writes the next entry, after the tree at `child`, as a copy of the entry in a row, which has
-    /// these links and this key. It takes a row if a further entry is left.
-    pub fn copy<R: Rows>(
-        &mut self,
-        rows: &mut R,
-        desk: &mut Desk<A>,
-        child: &Root,
-        from: u32,
-        entry: &KeyedLinks,
-    )
+    /// Writes the next entry, after the tree at `child`, as a copy of the entry in a row. It takes
+    /// a row if a further entry is left.
+    pub fn copy<R: Rows>(&mut self, rows: &mut R, desk: &mut Desk<A>, child: &Root, from: u32)
         requires writer { IsWriter self.old }
         requires some { 0 < self.old.left }
         requires room { 1 < self.old.left → 0 < free_count desk.old.lives }
         requires few { FewRows desk.old.lives }
         requires blank { IsNextBlank self.old.next (R.blank rows.old) }
         requires child { child.now.link ≤ highest_link }
-        requires entry { part_at keyed_links (R.content rows.old) from ≡ Some entry.now }
+        requires entry { IsSome (part_at keyed_links (R.content rows.old) from) }
         ensures writer { IsWriter self.new }
         ensures written { (format : Format) (es : List PlacedEntry) (p : Placed) (r : ℕ)
-            (v : List ℕ) → self.old.next ≡ Some r
-            → part_at entry_value (R.content rows.old) from ≡ Some v
+            (pair : Pair) → self.old.next ≡ Some r
+            → part_at entry_pair (R.content rows.old) from ≡ Some pair
             → IsWritten format self.old (R.content rows.old) es → IsRootOf format p child.now
             → HasRows (R.content rows.old) (rows_of format p) → IsOut r (entries_used es ++ used p)
             → IsWritten format self.new (R.content rows.new)
-            (es ++ record { at = r; child = p; key = entry.now.key; value = v } ∷ []) }
+            (es ++ record { at = r; child = p; key = pair.0; value = pair.1 } ∷ []) }
         ensures node { (self.new.layer ≡ self.old.layer) × (self.new.count ≡ self.old.count)
             × (self.new.left + 1 ≡ self.old.left) × (self.new.head ≡ self.old.head) }
         ensures takes { Takes desk.old desk.new (ahead self.new.next) }
@@ -220,10 +214,12 @@ impl<A: Allocator> NodeWriter<A> {
             Some(row) => row + 1,
             None => 0,
         };
-        let value = rows.copy_entry(from, to, child.link, next);
-        let (key, value_bytes) = (entry.key.bytes(), value.bytes());
-        self.hasher
-            .copied_entry(self.format, digest_at(child), key, value_bytes);
+        let links = BareLinks {
+            child: child.link,
+            next,
+        };
+        let digest = digest_at(child);
+        rows.copy_entry(from, to, links, self.format, digest, &mut self.hasher);
     }
 
     /// Writes the head, once all entries are written, with the tree at `tail` in the last gap.

@@ -1,11 +1,9 @@
 -- The words of an entry behind a key of 16 bytes, and behind a value of 32, are 0.
-use Rattle.std.proofs.Common.{◌≡◌, ℕ, zero, suc, ◌+◌, ◌*◌, ◌<◌, ◌≤◌, ◌/◌, ◌%◌, List, [], ◌∷◌, length, Bool, true, false, Option, Some, None, map, refl, subst, sym, ◌∙◌, ap, arith, if◌then◌else◌}
-use Rattle.std.specs.Prelude.{slice_index, slice_index_or, slice_range, option_and_then, IsSome}
-use Rattle.std.specs.List.{range_with_len}
+use Rattle.std.proofs.Common.{◌≡◌, ℕ, zero, suc, ◌+◌, ◌*◌, ◌<◌, ◌≤◌, ◌/◌, ◌%◌, List, [], ◌∷◌, length, Bool, true, false, Some, None, refl, sym, ◌∙◌, ap, arith, if◌then◌else◌}
+use Rattle.std.specs.Prelude.{slice_index, slice_index_or, option_and_then, IsSome}
 use Rattle.mst_arena.specs.Content.{part_at}
 use Rattle.mst_arena.specs.Row.{HasBytes, keyed_links, bare_links, entry_value}
-use Rattle.mst_arena.specs.Words.{words_of, word_from, part_in}
-use Rattle.mst_arena.specs.declared.row.Row.{Row}
+use Rattle.mst_arena.specs.Words.{words_of, word_from}
 use Rattle.mst_arena.specs.declared.row.Row.TheVariants.{Entry}
 use Rattle.mst_arena.proofs.Packing.{past_word}
 use Rattle.mst_arena.proofs.Readers.{EntryIn, entry_with}
@@ -154,24 +152,6 @@ source_of v x some = go (may_read v x) refl some
           };
         }
     go false e some = cc
-
--- the value that was read of the words of an entry
-pub value_read : (v : View) (x lengths : ℕ) (words : List ℕ) (value : Option (List ℕ))
-    → IsSome (part_at keyed_links (content_of v) x) → lengths ≡ row v.known_words x 3
-    → words ≡ map (row v.known_words x) (range_with_len 8 8)
-    → ((all : List ℕ) → lengths ≡ slice_index all 3 → words ≡ slice_range all 8 16
-    → IsSome (part_in entry_value all) → part_in entry_value all ≡ value)
-    → part_at entry_value (content_of v) x ≡ value
-value_read v x lengths words value some size is reads = go (may_read v x) some
-  where
-    go : (b : Bool)
-        → IsSome (option_and_then keyed_links (if b then rows_in (row v.known_words) x else None))
-        → option_and_then entry_value (if b then rows_in (row v.known_words) x else None) ≡ value
-    go true some =
-        let i = entry_with keyed_links _ (λ layer count first tail digest. refl) some in
-        reads _ size is (subst (λ (o : Option Row). IsSome (option_and_then entry_value o))
-        (sym i.row) refl)
-    go false some = cc
 
 -- its links are small, and stand in words 1 and 2
 pub record LinksAt (v : View) (x : ℕ) : Type 0 where

@@ -26,6 +26,7 @@
 #![tactic(auto)]
 
 mod board;
+mod copying;
 mod couriers;
 mod doing;
 mod laws;

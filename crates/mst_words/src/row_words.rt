@@ -256,6 +256,7 @@ impl<A: Allocator + Copy> Board<A> {
     /// Each word is stored as soon as it is loaded, so no list of them is filled first and read
     /// again. The loops have a fixed number of turns and no choice in them: so the compiler lays
     /// them out without a loop.
+    #[inline(always)]
     fn copy_part<const N: usize, const M: usize>(
         &self,
         seat: &mut Token<A>,
@@ -292,15 +293,24 @@ impl<A: Allocator + Copy> Board<A> {
         words
     }
 
-    /// Copies the words of an entry's key and value into a blank row, and returns those of the
-    /// value. In an entry with a key of 16 bytes and a value of 32, six of them are 0, and not
-    /// loaded, and the others are almost always other words than those of the blank row.
-    fn copy_bytes(&self, seat: &mut Token<A>, from: u32, to: u32, lengths: u64) -> [u64; 8]
+    /// Copies the words of an entry's key and value into a blank row, and returns them. In an entry
+    /// with a key of 16 bytes and a value of 32, six of them are 0, and not loaded, and the others
+    /// are almost always other words than those of the blank row.
+    #[inline(always)]
+    fn copy_bytes(
+        &self,
+        seat: &mut Token<A>,
+        from: u32,
+        to: u32,
+        lengths: u64,
+    ) -> ([u64; 4], [u64; 8])
         requires own { IsAt self.now seat.old.table_id seat.old.me.0.rows }
         requires readable { may_read seat.old.me.0 from ≡ true }
         requires blank { IsTrue (may_write seat.old.me.0 to) }
         requires ends { IsPadded lengths (records.row seat.old.me.0.known_words from) }
-        ensures value { result
+        ensures key { result.0
+            ≡ map (records.row seat.old.me.0.known_words from) (range_with_len first_key_word 4) }
+        ensures value { result.1
             ≡ map (records.row seat.old.me.0.known_words from) (range_with_len first_value_word 8) }
         ensures same { (seat.new.table_id ≡ seat.old.table_id) × (seat.new.id ≡ seat.old.id)
             × (seat.new.me ≡ (
@@ -312,44 +322,46 @@ impl<A: Allocator + Copy> Board<A> {
             seat.old.me.0.known_words seat.new.me.0.known_words }
     {
         if lengths == COMMON_LENGTHS {
-            self.copy_part::<2, 2>(seat, from, to, FIRST_KEY_WORD, Storing::Each);
-            let [a, b, c, d] = self.copy_part::<4, 4>(
+            let [a, b] = self.copy_part::<2, 2>(seat, from, to, FIRST_KEY_WORD, Storing::Each);
+            let [c, d, e, f] = self.copy_part::<4, 4>(
                 seat,
                 from,
                 to,
                 FIRST_VALUE_WORD,
                 Storing::Each,
             );
-            [a, b, c, d, 0, 0, 0, 0]
+            ([a, b, 0, 0], [c, d, e, f, 0, 0, 0, 0])
         } else {
-            let [_, _, _, _, a, b, c, d, e, f, g, h] = self.copy_part::<12, 0>(
+            let [a, b, c, d, e, f, g, h, i, j, k, l] = self.copy_part::<12, 0>(
                 seat,
                 from,
                 to,
                 FIRST_KEY_WORD,
                 Storing::Changed,
             );
-            [a, b, c, d, e, f, g, h]
+            ([a, b, c, d], [e, f, g, h, i, j, k, l])
         }
     }
 
-    /// Copies the words of an entry into a blank row, with another child and another next. It
-    /// returns the word of its lengths, and those of its value.
+    /// Copies the words of an entry of these lengths into a blank row, with other links. It returns
+    /// those of its key and its value.
+    #[inline(always)]
     pub(crate) fn copy_words(
         &self,
         seat: &mut Token<A>,
         from: u32,
         to: u32,
-        child: u32,
-        next: u32,
-    ) -> (u64, [u64; 8])
+        links: BareLinks,
+        lengths: u64,
+    ) -> ([u64; 4], [u64; 8])
         requires own { IsAt self.now seat.old.table_id seat.old.me.0.rows }
         requires readable { may_read seat.old.me.0 from ≡ true }
         requires blank { IsTrue (may_write seat.old.me.0 to) }
         requires kind { records.row seat.old.me.0.known_words from 0 ≡ 1 }
-        requires ends { IsPadded (records.row seat.old.me.0.known_words from lengths_word)
-            (records.row seat.old.me.0.known_words from) }
-        ensures lengths { result.0 ≡ records.row seat.old.me.0.known_words from lengths_word }
+        requires ends { IsPadded lengths (records.row seat.old.me.0.known_words from) }
+        requires lengths { lengths ≡ records.row seat.old.me.0.known_words from lengths_word }
+        ensures key { result.0
+            ≡ map (records.row seat.old.me.0.known_words from) (range_with_len first_key_word 4) }
         ensures value { result.1
             ≡ map (records.row seat.old.me.0.known_words from) (range_with_len first_value_word 8) }
         ensures same { (seat.new.table_id ≡ seat.old.table_id) × (seat.new.id ≡ seat.old.id)
@@ -358,13 +370,11 @@ impl<A: Allocator + Copy> Board<A> {
               seat.old.me.1,
             )) }
         ensures stored { RowStored to row_words
-            (relinked_list (records.row seat.old.me.0.known_words from) child next)
+            (relinked_list (records.row seat.old.me.0.known_words from) links.child links.next)
             seat.old.me.0.known_words seat.new.me.0.known_words }
     {
-        let lengths = self.word(seat, from, LENGTHS_WORD);
-        let front = [1, u64::from(child), u64::from(next), lengths];
+        let front = [1, u64::from(links.child), u64::from(links.next), lengths];
         self.store_words(seat, to, &front);
-        let value = self.copy_bytes(seat, from, to, lengths);
-        (lengths, value)
+        self.copy_bytes(seat, from, to, lengths)
     }
 }

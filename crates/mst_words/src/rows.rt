@@ -2,12 +2,12 @@
 ghost use Rattle.std.specs.Prelude.{◌≡◌, ◌+◌, ◌<◌, ◌≤◌, map, true, IsTrue, IsSome, Some};
 ghost use Rattle.std.specs.List.{range_with_len};
 ghost use Rattle.mst_arena.specs.Content.{Writes, part_at};
-ghost use Rattle.mst_arena.specs.Row.{keyed_links, entry_value};
-ghost use Rattle.mst_arena.specs.Words.{row_in, lengths_word, first_value_word};
+ghost use Rattle.mst_arena.specs.Row.{keyed_links};
+ghost use Rattle.mst_arena.specs.Words.{row_in};
 ghost use Rattle.mst_arena.specs.declared.row.Row.{Row};
 ghost use Rattle.mst_words.specs.Layout.{row_words};
 ghost use Rattle.mst_words.specs.Records as records;
-ghost use Rattle.mst_words.specs.Access.{may_read, may_write, content_of, beside, relinked_list};
+ghost use Rattle.mst_words.specs.Access.{may_read, may_write, content_of, beside};
 
 use crate::layout::{
     CHILD_WORD, FIRST_DIGEST_WORD, FIRST_KEY_WORD, LAYER_WORD, LENGTHS_WORD, ROW_WORDS,
@@ -16,6 +16,7 @@ use crate::seat::PassSeat;
 use mst_arena::{BareLinks, HeadLinks, KeyedLinks, Row, Rows, Sought, Stop, Way};
 use mst_key::{Format, Key, Value};
 use mst_node::TextSink;
+use mst_prefix::TextHasher;
 use std::alloc::Allocator;
 
 impl<'a, A: Allocator + Copy> PassSeat<'a, A> {
@@ -68,25 +69,6 @@ impl<'a, A: Allocator + Copy> PassSeat<'a, A> {
     {
         self.board.store_words(&mut self.token, row, words);
     }
-
-    // Copies an entry's words into a blank row, with another child and another next. It returns
-    // the word of its lengths, and those of its value.
-    fn copy_words(&mut self, from: u32, to: u32, child: u32, next: u32) -> (u64, [u64; 8])
-        requires there { IsSome (part_at keyed_links (content_of self.old.me.0) from) }
-        requires blank { IsTrue (may_write self.old.me.0 to) }
-        ensures lengths { result.0 ≡ records.row self.old.me.0.known_words from lengths_word }
-        ensures value { result.1
-            ≡ map (records.row self.old.me.0.known_words from) (range_with_len first_value_word 8) }
-        ensures writes { (value : Row)
-            → row_in (relinked_list (records.row self.old.me.0.known_words from) child next)
-            ≡ Some value
-            → Writes (content_of self.old.me.0) (content_of self.new.me.0) to value }
-        ensures blank { may_write self.new.me.0 ≡ may_write self.old.me.0 }
-        ensures kept { beside self.new ≡ beside self.old }
-    {
-        self.board
-            .copy_words(&mut self.token, from, to, child, next)
-    }
 }
 
 impl<'a, A: Allocator + Copy> Rows for PassSeat<'a, A> {
@@ -113,12 +95,17 @@ impl<'a, A: Allocator + Copy> Rows for PassSeat<'a, A> {
     }
 
     #[inline(always)]
-    fn copy_entry(&mut self, from: u32, to: u32, child: u32, next: u32) -> Value {
-        let (lengths, words) = self.copy_words(from, to, child, next);
-        match Row::read_value(lengths, &words) {
-            Some(value) => value,
-            None => unreachable!(),
-        }
+    fn copy_entry<B: Allocator>(
+        &mut self,
+        from: u32,
+        to: u32,
+        links: BareLinks,
+        format: Format,
+        child: Option<[u8; 32]>,
+        hasher: &mut TextHasher<B>,
+    ) {
+        self.board
+            .copy_entry(&mut self.token, from, to, links, format, child, hasher);
     }
 
     fn head(&mut self, row: u32) -> HeadLinks {

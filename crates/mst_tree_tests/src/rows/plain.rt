@@ -9,7 +9,9 @@ use crate::confirming::{confirm, confirm_at};
 use crate::heaps::{heap_of, is_made};
 use crate::pairs::{key_of, pair, prints};
 use linked_list_allocator::LocalHeap;
-use mst_arena::{Desk, HeadLinks, PlainRows, Row, Rows, Sought, VersionsSpent, Way};
+use mst_arena::{BareLinks, Desk, HeadLinks, PlainRows, Row, Rows, Sought, VersionsSpent, Way};
+use mst_key::Format;
+use mst_prefix::TextHasher;
 use std::alloc::Global;
 use std::process::Abort;
 
@@ -62,7 +64,12 @@ fn copied_entry_has_other_links_alone(rt: HostRuntime) {
     };
     let mut rows = PlainRows::new(rt.alloc(), 2).expect(&rt, "memory");
     rows.write(1, &row);
-    rows.copy_entry(1, 0, 65_535, 0);
+    let mut hasher = TextHasher::<Global>::alone();
+    let links = BareLinks {
+        child: 65_535,
+        next: 0,
+    };
+    rows.copy_entry(1, 0, links, Format::One, None, &mut hasher);
     let copied = entry_is(&mut rows, 0, (65_535, 0), &[0x6b; 32], &[0x76; 64]);
     confirm(&rt, copied, "the copy");
     let stays = row_is(&mut rows, 1, &row);

@@ -48,8 +48,8 @@ pub returns-clause-writer : goal.returns-clause-writer
 returns-clause-writer g c = search rules
 
 pub returns-clause-written : goal.returns-clause-written
-returns-clause-written g c format es p r v next has_value w root has out =
-    c.copy.ensures.written format es p r v next has_value w root has out
+returns-clause-written g c format es p r pair next has_pair w root has out =
+    c.copy.ensures.written format es p r pair next has_pair w root has out
 
 pub returns-clause-node : goal.returns-clause-node
 returns-clause-node g c = search rules

@@ -1,4 +1,4 @@
-use Rattle.std.proofs.Common.{◌≡◌, ◌+◌, ◌-◌, ℕ, Bool, List, [], ◌∷◌, ◌++◌, Some, IfSome, IsTrue, refl, sym, ◌∙◌, ap, subst, arith}
+use Rattle.std.proofs.Common.{◌≡◌, ◌+◌, ◌-◌, ℕ, Bool, [], ◌∷◌, ◌++◌, IfSome, IsSome, IsTrue, refl, sym, ◌∙◌, ap, subst, arith}
 use Rattle.mst_key.specs.declared.format.Format.{Format}
 use Rattle.mst_arena.specs.Content.{Content, part_at}
 use Rattle.mst_arena.specs.Row.{keyed_links}
@@ -8,9 +8,9 @@ use Rattle.mst_path.specs.Moves.{Moves}
 use Rattle.mst_path.specs.Writing.{ahead, link_from, IsWritten, IsRootOf}
 use Rattle.mst_path.specs.Copying.{Copying}
 use Rattle.mst_path.proofs.lemmas.rows.CopyRuns.{Progress, Next, starts, ends, some_left, steps, next_run, link_is, link_less, row_there, row_old}
-use Rattle.mst_path.proofs.lemmas.rows.CopyRows.{links_there, links_are, value_there, next_some, one_ahead, row_out, small_link, old_alive, still_writable, blank_taken, blank_ahead}
+use Rattle.mst_path.proofs.lemmas.rows.CopyRows.{links_there, ends_are, pair_there, next_some, one_ahead, row_out, small_link, old_alive, still_writable, blank_taken, blank_ahead}
 use Rattle.mst_path.proofs.copying.move_run.Given.{Over}
-use Rattle.mst_path.proofs.copying.move_run.Goals.{In-loop, After-entry-entry, After-root_at-child}
+use Rattle.mst_path.proofs.copying.move_run.Goals.{In-loop, After-links-links, After-root_at-child}
 use Rattle.mst_path.proofs.copying.move_run.Goals as goal
 
 pub loop-init : goal.loop-init
@@ -43,32 +43,31 @@ overflow_sub-row g c =
           (next g (goal.at.overflow_sub-row g c).In-loop format c.requires.copying.1),
     )
 
-pub entry-entry-requires : goal.entry-entry-requires
-entry-entry-requires g c =
+pub links-links-requires : goal.links-links-requires
+links-links-requires g c =
     let format = c.requires.copying.0 in
     record {
       there =
           links_there _ _ _ _ _
           (row_there format c.requires.copying.1
-          (next g (goal.at.entry-entry-requires g c).In-loop format c.requires.copying.1));
+          (next g (goal.at.links-links-requires g c).In-loop format c.requires.copying.1));
     }
 
 -- ---- it is read
 
-module _ (g : Over) (c : goal.After-entry-entry g) (format : Format)
+module _ (g : Over) (c : goal.After-links-links g) (format : Format)
     (k : Copying format c.args.writer.now (g.R.Rows.content c.args.rows.now) c.args.desk.now
     c.args.from c.args.count)
     (n : Next format k c.loop.counter c.loop.writer (g.R.Rows.content c.loop.rows) c.loop.desk
     c.loop.link (c.loop.invariant.progress format k)) where
-  links : (c.entry-entry.result.child ≡ link_of n.entry.child)
-      × (c.entry-entry.result.next ≡ link_from k.behind n.more)
-      × (c.entry-entry.result.key ≡ n.entry.key)
-  links = links_are _ c.entry-entry.result _ _ _ _ (row_there format k n)
-      c.entry-entry.ensures.value
+  links : (c.links-links.result.child ≡ link_of n.entry.child)
+      × (c.links-links.result.next ≡ link_from k.behind n.more)
+  links = ends_are _ c.links-links.result _ _ _ _ (row_there format k n)
+      c.links-links.ensures.value
 
-  child_there : HasRows (g.R.Rows.content c.entry-entry.new.self) (rows_of format n.entry.child)
+  child_there : HasRows (g.R.Rows.content c.links-links.new.self) (rows_of format n.entry.child)
   child_there = subst (λ (x : Content). HasRows x (rows_of format n.entry.child))
-      (sym (ap g.R.Rows.content c.entry-entry.ensures.same)) (next_run format k n).gaps.0.rows
+      (sym (ap g.R.Rows.content c.links-links.ensures.same)) (next_run format k n).gaps.0.rows
 
 pub root_at-child-requires : goal.root_at-child-requires
 root_at-child-requires g c =
@@ -79,8 +78,8 @@ root_at-child-requires g c =
       stands = (
         format,
         n.entry.child,
-        sym (links g at.After-entry-entry format c.requires.copying.1 n).0,
-        child_there g at.After-entry-entry format c.requires.copying.1 n,
+        sym (links g at.After-links-links format c.requires.copying.1 n).0,
+        child_there g at.After-links-links format c.requires.copying.1 n,
       );
     }
 
@@ -89,8 +88,8 @@ module _ (g : Over) (c : goal.After-root_at-child g) (format : Format)
     c.args.from c.args.count)
     (n : Next format k c.loop.counter c.loop.writer (g.R.Rows.content c.loop.rows) c.loop.desk
     c.loop.link (c.loop.invariant.progress format k)) where
-  child_root : c.entry-entry.result.child ≡ link_of n.entry.child
-      → HasRows (g.R.Rows.content c.entry-entry.new.self) (rows_of format n.entry.child)
+  child_root : c.links-links.result.child ≡ link_of n.entry.child
+      → HasRows (g.R.Rows.content c.links-links.new.self) (rows_of format n.entry.child)
       → IsRootOf format n.entry.child c.root_at-child.result
   child_root link there = c.root_at-child.ensures.root format n.entry.child (sym link) there
 
@@ -110,7 +109,7 @@ move_entry-requires-clause-few g c = c.loop.invariant.ready.few
 pub move_entry-requires-clause-blank : goal.move_entry-requires-clause-blank
 move_entry-requires-clause-blank g c =
     subst (λ (b : ℕ → Bool). IfSome c.loop.writer.next (λ r. IsTrue (b r)))
-    (sym (ap g.R.Rows.blank (c.root_at-child.ensures.same ∙ c.entry-entry.ensures.same)))
+    (sym (ap g.R.Rows.blank (c.root_at-child.ensures.same ∙ c.links-links.ensures.same)))
     c.loop.invariant.next
 
 pub move_entry-requires-clause-child : goal.move_entry-requires-clause-child
@@ -120,8 +119,8 @@ move_entry-requires-clause-child g c =
     let at = goal.at.move_entry-requires-clause-child g c in
     let child = next g at.In-loop format k in
     let root = child_root g at.After-root_at-child format k child
-    (links g at.After-entry-entry format k child).0
-    (child_there g at.After-entry-entry format k child) in
+    (links g at.After-links-links format k child).0
+    (child_there g at.After-links-links format k child) in
     omega (
       arith,
       root.link,
@@ -138,7 +137,7 @@ move_entry-requires-clause-old g c =
 
 pub loop-preserved : goal.loop-preserved
 loop-preserved g c =
-    let same = c.root_at-child.ensures.same ∙ c.entry-entry.ensures.same in
+    let same = c.root_at-child.ensures.same ∙ c.links-links.ensures.same in
     let content : g.R.Rows.content c.root_at-child.new.rows ≡ g.R.Rows.content c.loop.rows =
     ap g.R.Rows.content same in
     let moves = c.move_entry.ensures.moves in
@@ -175,17 +174,17 @@ loop-preserved g c =
       progress = λ format k.
           let at = goal.at.loop-preserved g c in
           let n = next g at.In-loop format k in
-          let read = links g at.After-entry-entry format k n in
+          let read = links g at.After-links-links format k n in
           let root = child_root g at.After-root_at-child format k n read.0
-          (child_there g at.After-entry-entry format k n) in
+          (child_there g at.After-links-links format k n) in
           let row = next_some c.loop.writer.next c.loop.writer.left c.loop.invariant.writer.reserved
           (omega (arith, c.loop.invariant.left, c.requires.left, c.loop-test.true)) in
           let before = (c.loop.invariant.progress format k).copied in
           let child = (next_run format k n).gaps.0 in
           let ws = k.ws ++ before.copies in
-          let written = c.move_entry.ensures.written format ws n.entry.child row.0 n.entry.value
-          row.1
-          (value_there _ _ _ _ _
+          let written = c.move_entry.ensures.written format ws n.entry.child row.0
+          (n.entry.key, n.entry.value) row.1
+          (pair_there _ _ _ _ _
           (ap (λ (x : Content). x (c.loop.link - 1)) content ∙ row_there format k n))
           (subst (λ (x : Content). IsWritten format c.loop.writer x ws) (sym content)
           before.going.written)
@@ -200,10 +199,7 @@ loop-preserved g c =
           (ahead c.move_entry.new.writer.next) (r ∷ [])) (link_less format k n) moves)
           (subst (λ (x : Content). KeepsBut (ahead c.loop.writer.next) x
           (g.R.Rows.content c.move_entry.new.rows)) content c.move_entry.ensures.keeps)
-          (subst (λ (key : List ℕ). IsWritten format c.move_entry.new.writer
-          (g.R.Rows.content c.move_entry.new.rows)
-          (ws ++ record { at = row.0; child = n.entry.child; key = key; value = n.entry.value }
-          ∷ [])) read.2 written) in
+          written in
           subst (λ (l : ℕ). Progress format k (c.loop.counter + 1) c.move_entry.new.writer
           (g.R.Rows.content c.move_entry.new.rows) c.move_entry.new.desk l) (sym read.1)
           stepped;
@@ -234,6 +230,9 @@ returns-clause-next g c = c.loop.invariant.next
 
 pub move_entry-requires-clause-entry : goal.move_entry-requires-clause-entry
 move_entry-requires-clause-entry g c =
-    subst (λ (x : Content). part_at keyed_links x (c.loop.link - 1) ≡ Some c.entry-entry.result)
-    (sym (ap g.R.Rows.content (c.root_at-child.ensures.same ∙ c.entry-entry.ensures.same)))
-    c.entry-entry.ensures.value
+    let format = c.requires.copying.0 in
+    let n = next g (goal.at.move_entry-requires-clause-entry g c).In-loop format
+    c.requires.copying.1 in
+    subst (λ (x : Content). IsSome (part_at keyed_links x (c.loop.link - 1)))
+    (sym (ap g.R.Rows.content (c.root_at-child.ensures.same ∙ c.links-links.ensures.same)))
+    (links_there _ _ _ _ _ (row_there format c.requires.copying.1 n))

@@ -2,8 +2,9 @@
 use Rattle.mst_key.specs.declared.format.Format.{Format}
 use Rattle.std.proofs.Common.{◌≡◌, ℕ, zero, suc, ◌+◌, ◌-◌, ◌<◌, ◌≤◌, Bool, true, eqb, List, [], ◌∷◌, ◌++◌, length, Option, Some, None, refl, sym, ◌∙◌, ap, subst, arith, inl, inr, IsTrue, IfSome, IsSome}
 use Rattle.std.specs.Prelude.{slice_get, option_and_then}
-use Rattle.mst_arena.specs.Row.{keyed_links, entry_value}
+use Rattle.mst_arena.specs.Row.{keyed_links, bare_links, entry_pair}
 use Rattle.mst_arena.specs.declared.row.KeyedLinks.{KeyedLinks}
+use Rattle.mst_arena.specs.declared.row.BareLinks.{BareLinks}
 use Rattle.std.specs.List.{AllByRecursion}
 use Rattle.std.proofs.lemmas.Bool.Decides.{nat_tests}
 use Rattle.mst_arena.specs.Content.{Content}
@@ -146,9 +147,9 @@ pub links_there : (o : Option Row) (child nxt : ℕ) (key value : List ℕ)
 links_there o child nxt key value is =
     subst (λ (r : Option Row). IsSome (option_and_then keyed_links r)) (sym is) refl
 
-pub value_there : (o : Option Row) (child nxt : ℕ) (key value : List ℕ)
-    → o ≡ Some (Entry child nxt key value) → option_and_then entry_value o ≡ Some value
-value_there o child nxt key value is = ap (option_and_then entry_value) is
+pub pair_there : (o : Option Row) (child nxt : ℕ) (key value : List ℕ)
+    → o ≡ Some (Entry child nxt key value) → option_and_then entry_pair o ≡ Some (key, value)
+pair_there o child nxt key value is = ap (option_and_then entry_pair) is
 
 pub links_are : (o : Option Row) (l : KeyedLinks) (child nxt : ℕ) (key value : List ℕ)
     → o ≡ Some (Entry child nxt key value) → option_and_then keyed_links o ≡ Some l
@@ -160,6 +161,17 @@ links_are o l child nxt key value is read =
       sym (ap (λ (x : KeyedLinks). x.child) same),
       sym (ap (λ (x : KeyedLinks). x.next) same),
       sym (ap (λ (x : KeyedLinks). x.key) same),
+    )
+
+pub ends_are : (o : Option Row) (l : BareLinks) (child nxt : ℕ) (key value : List ℕ)
+    → o ≡ Some (Entry child nxt key value) → option_and_then bare_links o ≡ Some l
+    → (l.child ≡ child) × (l.next ≡ nxt)
+ends_are o l child nxt key value is read =
+    let e : Some (record { child = child; next = nxt }) ≡ Some l =
+    sym (ap (option_and_then bare_links) is) ∙ read in
+    let same : record { child = child; next = nxt } ≡ l = cc in (
+      sym (ap (λ (x : BareLinks). x.child) same),
+      sym (ap (λ (x : BareLinks). x.next) same),
     )
 
 -- ---- the row for the next entry

@@ -5,11 +5,11 @@ use Rattle.std.specs.Prelude.{option_and_then}
 use Rattle.std.specs.List.{AllByRecursion}
 use Rattle.std.proofs.lemmas.List.{append-nil, map-append, length-map}
 use Rattle.std.proofs.lemmas.Grind.{flat_map-append}
+use Rattle.mst_key.specs.Map.{Pair}
 use Rattle.mst_node.specs.Tree as tree
 use Rattle.mst_node.specs.Text.{child_text, child_digest, counted, flat_entries, tail_digest, spelling, text, held_of, held_text}
 use Rattle.mst_arena.specs.Content.{Content, Writes, part_at, relinked}
-use Rattle.mst_arena.specs.Row.{keyed_links, entry_value}
-use Rattle.mst_arena.specs.declared.row.KeyedLinks.{KeyedLinks}
+use Rattle.mst_arena.specs.Row.{keyed_links, entry_pair}
 use Rattle.mst_arena.specs.declared.row.Row.{Row}
 use Rattle.mst_arena.specs.declared.row.Row.TheVariants.{Entry, Head}
 use Rattle.mst_arena.specs.Standing.{Placed, tree_of, entries_of, link_of, first_of, tail_of, count_of, rows_of, chain_rows, used, chain_used, HasRows}
@@ -129,35 +129,35 @@ text_chain form layer es p =
 
 -- ---- an entry that is copied
 
-pub is_there : {A : Type 0} (o : Option A) (x : A) → o ≡ Some x → IsSome o
-is_there o x e = cc
+pub pair_in : (o : Option Row) → IsSome (option_and_then keyed_links o)
+    → (pair : Pair) × (option_and_then entry_pair o ≡ Some pair)
+pair_in None some = absurd (cc)
+pair_in (Some (Head layer count first tail digest)) some = absurd (cc)
+pair_in (Some (Entry child next key value)) some = ((key, value), refl)
 
 -- what is written is the entry of these parts with other links
-pub copy_is : (old new : Content) (from to child next : ℕ) (links : KeyedLinks) (value : List ℕ)
-    → part_at keyed_links old from ≡ Some links → part_at entry_value old from ≡ Some value
+pub copy_is : (old new : Content) (from to child next : ℕ) (pair : Pair)
+    → part_at entry_pair old from ≡ Some pair
     → IfSome (old from) (λ entry. Writes old new to (relinked child next entry)) → Writes old new to
-    (Entry child next links.key value)
-copy_is old new from to child next links value is_links is_value writes =
-    go (old from) is_links is_value writes
+    (Entry child next pair.0 pair.1)
+copy_is old new from to child next pair is writes = go (old from) is writes
   where
-    go : (o : Option Row) → option_and_then keyed_links o ≡ Some links → option_and_then entry_value
-        o ≡ Some value → IfSome o (λ entry. Writes old new to (relinked child next entry))
-        → Writes old new to (Entry child next links.key value)
-    go None l v writes = absurd (cc)
-    go (Some (Head layer count first tail digest)) l v writes = absurd (cc)
-    go (Some (Entry c n k w)) l v writes =
-        let same : record { child = c; next = n; key = k } ≡ links = cc in
-        let same_value : w ≡ value = cc in
-        subst (λ (x : List ℕ). Writes old new to (Entry child next links.key x)) same_value
-        (subst (λ (x : KeyedLinks). Writes old new to (Entry child next x.key w)) same writes)
+    go : (o : Option Row) → option_and_then entry_pair o ≡ Some pair
+        → IfSome o (λ entry. Writes old new to (relinked child next entry))
+        → Writes old new to (Entry child next pair.0 pair.1)
+    go None is writes = absurd (cc)
+    go (Some (Head layer count first tail digest)) is writes = absurd (cc)
+    go (Some (Entry c n k v)) is writes =
+        let same : (k, v) ≡ pair = cc in
+        subst (λ (x : Pair). Writes old new to (Entry child next x.0 x.1)) same writes
 
 -- and it leaves all else
-pub copy_keeps : (old new : Content) (from to child next : ℕ) (links : KeyedLinks)
-    → part_at keyed_links old from ≡ Some links → IfSome (old from)
+pub copy_keeps : (old new : Content) (from to child next : ℕ)
+    → IsSome (part_at keyed_links old from) → IfSome (old from)
     (λ entry. Writes old new to (relinked child next entry)) → (k : ℕ) → k ≢ to → new k ≡ old k
-copy_keeps old new from to child next links is writes k other = go (old from) is writes
+copy_keeps old new from to child next some writes k other = go (old from) some writes
   where
-    go : (o : Option Row) → option_and_then keyed_links o ≡ Some links
+    go : (o : Option Row) → IsSome (option_and_then keyed_links o)
         → IfSome o (λ entry. Writes old new to (relinked child next entry)) → new k ≡ old k
-    go None l writes = absurd (cc)
-    go (Some row) l writes = writes.others k other
+    go None some writes = absurd (cc)
+    go (Some row) some writes = writes.others k other

@@ -1,4 +1,4 @@
-use Rattle.std.proofs.Common.{◌≡◌, ◌-◌, ℕ, List, [], ◌∷◌, ◌++◌, length, Option, Some, sym, ◌∙◌, ap, subst, arith}
+use Rattle.std.proofs.Common.{◌≡◌, ◌-◌, ℕ, [], ◌∷◌, ◌++◌, length, Option, IsSome, sym, ◌∙◌, ap, subst, arith}
 use Rattle.mst_key.specs.declared.format.Format.{Format}
 use Rattle.mst_arena.specs.Content.{Content, part_at}
 use Rattle.mst_arena.specs.Row.{keyed_links}
@@ -10,7 +10,7 @@ use Rattle.mst_path.specs.Runs.{OldPiece}
 use Rattle.mst_path.specs.Writing.{ahead, IsWritten, IsRootOf}
 use Rattle.mst_path.specs.Copying.{Copied}
 use Rattle.mst_path.specs.Making.{Rest, Finished}
-use Rattle.mst_path.proofs.lemmas.rows.CopyRows.{small_link, old_alive, links_are, value_there, next_some}
+use Rattle.mst_path.proofs.lemmas.rows.CopyRows.{small_link, old_alive, links_there, ends_are, pair_there, next_some}
 use Rattle.mst_path.proofs.lemmas.steps.Seams.{first_back, no_length, seam_out, Seamed, with_seam, back_copying, tail_stays, back_head_out, with_back}
 use Rattle.mst_path.proofs.lemmas.steps.Finishing.{none_ahead}
 use Rattle.mst_path.proofs.lemmas.trees.Made.{piece_alive}
@@ -37,21 +37,22 @@ move_entry-requires-clause-old g c =
 
 pub move_entry-requires-clause-entry : goal.move_entry-requires-clause-entry
 move_entry-requires-clause-entry g c =
-    subst (λ (x : Content). part_at keyed_links x (c.args.parts.now.back.first - 1) ≡ Some
-    c.entry-entry.result) (sym (ap g.R.Rows.content c.entry-entry.ensures.same))
-    c.entry-entry.ensures.value
+    let format = c.requires.rest.0 in
+    subst (λ (x : Content). IsSome (part_at keyed_links x (c.args.parts.now.back.first - 1)))
+    (sym (ap g.R.Rows.content c.links-links.ensures.same))
+    (links_there _ _ _ _ _ (first_back format _ _ _ _ c.requires.rest.1 c.requires.some).row)
 
 module _ (g : Over) (c : goal.After-move_entry g) (format : Format)
     (r : Rest format c.args.writer (g.R.Rows.content c.args.rows.now) c.args.desk.now
     c.args.parts.now) where
   seamed : Seamed format c.args.writer c.move_entry.new.writer (g.R.Rows.content c.args.rows.now)
       (g.R.Rows.content c.move_entry.new.rows) c.args.desk.now c.move_entry.new.desk
-      c.args.parts.now r c.entry-entry.result.next
+      c.args.parts.now r c.links-links.result.next
   seamed =
       let b = first_back format _ _ _ _ r c.requires.some in
-      let read : g.R.Rows.content c.entry-entry.new.self ≡ g.R.Rows.content c.args.rows.now =
-      ap g.R.Rows.content c.entry-entry.ensures.same in
-      let links = links_are _ c.entry-entry.result _ _ _ _ b.row c.entry-entry.ensures.value in
+      let read : g.R.Rows.content c.links-links.new.self ≡ g.R.Rows.content c.args.rows.now =
+      ap g.R.Rows.content c.links-links.ensures.same in
+      let links = ends_are _ c.links-links.result _ _ _ _ b.row c.links-links.ensures.value in
       let next = next_some c.args.writer.next c.args.writer.left c.requires.writer.reserved
       (omega (arith, c.requires.left, c.requires.some)) in
       record {
@@ -65,19 +66,16 @@ module _ (g : Over) (c : goal.After-move_entry g) (format : Format)
             subst (λ (x : Content). KeepsBut (ahead c.args.writer.next) x
             (g.R.Rows.content c.move_entry.new.rows)) read c.move_entry.ensures.keeps;
         written =
-            subst (λ (key : List ℕ). IsWritten format c.move_entry.new.writer
-            (g.R.Rows.content c.move_entry.new.rows)
-            (r.ws ++ record { at = next.0; child = r.seam; key = key; value = b.entry.value } ∷ []))
-            links.2
-            (c.move_entry.ensures.written format r.ws r.seam next.0 b.entry.value next.1
-            (value_there _ _ _ _ _ (ap (λ (x : Content). x (c.args.parts.now.back.first - 1)) read
+            c.move_entry.ensures.written format r.ws r.seam next.0
+            (b.entry.key, b.entry.value) next.1
+            (pair_there _ _ _ _ _ (ap (λ (x : Content). x (c.args.parts.now.back.first - 1)) read
             ∙ b.row))
             (subst (λ (x : Content). IsWritten format c.args.writer x r.ws) (sym read)
             r.going.written)
             r.seam_at
             (subst (λ (x : Content). HasRows x (rows_of format r.seam)) (sym read)
             r.seam_piece.rows)
-            (seam_out format _ _ _ _ r next.0 next.1));
+            (seam_out format _ _ _ _ r next.0 next.1);
         begins = links.1;
       }
 
@@ -118,7 +116,7 @@ module _ (g : Over) (c : goal.After-move_run g) where
       c.args.parts.now)
       (m : Seamed format c.args.writer c.move_entry.new.writer (g.R.Rows.content c.args.rows.now)
       (g.R.Rows.content c.move_entry.new.rows) c.args.desk.now c.move_entry.new.desk
-      c.args.parts.now r c.entry-entry.result.next) where
+      c.args.parts.now r c.links-links.result.next) where
     copied : Copied format c.move_entry.new.writer c.move_run.new.writer
         (g.R.Rows.content c.move_entry.new.rows) (g.R.Rows.content c.move_run.new.rows)
         c.move_entry.new.desk c.move_run.new.desk (with_seam format m) m.back.more

@@ -10,7 +10,7 @@ use Rattle.mst_arena.proofs.Stands.{all-append, placed_frame, same_of_write}
 use Rattle.mst_path.specs.Takes.{IsOut}
 use Rattle.mst_path.specs.Writing.{PlacedEntry, link_from, link_to, entry_rows, entries_used, ahead}
 use Rattle.mst_path.proofs.lemmas.rows.Taking.{out_front, out_back, out_flip}
-use Rattle.mst_path.proofs.lemmas.rows.Entries.{link_from-push, entry_rows-push, text_up_to-push, entries_frame, is_there, copy_is, copy_keeps}
+use Rattle.mst_path.proofs.lemmas.rows.Entries.{link_from-push, entry_rows-push, text_up_to-push, entries_frame, pair_in, copy_is, copy_keeps}
 use Rattle.mst_path.proofs.node_writer.NodeWriter.copy.Goals as goal
 use Rattle.mst_path.proofs.node_writer.NodeWriter.copy.Goals.{in-Some-next, in-None}
 
@@ -19,16 +19,14 @@ same_entry : (a b n m : ℕ) (k v : List ℕ) → a ≡ b → n ≡ m → Some (
 same_entry a b n m k v ab nm = cc
 
 pub returns-clause-written : goal.returns-clause-written
-returns-clause-written g c format es p r v next has_value w root has out =
+returns-clause-written g c format es p r pair next has_pair w root has out =
     let old = g.R.Rows.content c.args.rows.now in
-    let new = g.R.Rows.content c.copy_entry-value.new.self in
-    let k = c.args.entry.now.key in
+    let new = g.R.Rows.content c.copy_entry.new.self in
+    let k = pair.0 in
+    let v = pair.1 in
     let layer = c.args.self.now.layer in
     let count = c.args.self.now.count in
     let e : PlacedEntry = record { at = r; child = p; key = k; value = v } in
-    let both : Some c.copy_entry-value.result ≡ Some v = sym c.copy_entry-value.ensures.value
-    ∙ has_value in
-    let read : c.copy_entry-value.result ≡ v = cc in
     let row : c.in-Some.to ≡ r = cc (c.in-Some.is, next) in
     let link : c.match-self-2.next ≡ link_to c.take_next-self.result = elim c.match-self-2.branch [
       | in-Some-next b ↦ b.next-is ∙ sym (ap link_to b.in-Some-next.is)
@@ -36,8 +34,7 @@ returns-clause-written g c format es p r v next has_value w root has out =
     ] in
     let writes : Writes old new c.in-Some.to (Entry c.args.child.now.link c.match-self-2.next k v) =
     copy_is old new c.args.from c.in-Some.to c.args.child.now.link c.match-self-2.next
-    c.args.entry.now v c.requires.entry has_value
-    c.copy_entry-value.ensures.writes in
+    pair has_pair c.copy_entry.ensures.writes in
     let begins : link_from (r + 1) es ≡ c.args.self.now.first + 1 =
     subst (λ (o : Option ℕ). link_from (link_to o) es ≡ c.args.self.now.first + 1) next w.begins
     in
@@ -47,19 +44,13 @@ returns-clause-written g c format es p r v next has_value w root has out =
     (subst (λ (n : ℕ). AllByRecursion (λ x. x ≢ n) ns) (sym row) (out_flip r ns o)) in
     let here : new r ≡ Some (Entry (link_of p) (link_to c.take_next-self.result) k v) =
     ap new (sym row) ∙ writes.here ∙ same_entry _ _ _ _ k v root.link link in
-    let fed = c.copied_entry.ensures.entry _ (c.move_kept.ensures.same _ w.fed) in
+    let fed = c.copy_entry.ensures.entry pair has_pair _ (c.move_kept.ensures.same _ w.fed) in
     record {
       format_is = w.format_is;
       counted = omega (arith, w.counted, length-append es (e ∷ []), c.requires.some);
       begins = link_from-push (link_to c.take_next-self.result) es e ∙ begins;
-      fed = subst (HasTaken c.copied_entry.new.self) (sym (text_up_to-push format layer count es e))
-          (rw (
-            c.digest_at.ensures.digest format p root,
-            c.bytes-key.ensures.bytes,
-            c.bytes-value_bytes.ensures.bytes,
-            read,
-            w.format_is,
-          ) at fed);
+      fed = subst (HasTaken c.copy_entry.new.hasher) (sym (text_up_to-push format layer count es e))
+          (rw (c.digest_at-digest.ensures.digest format p root, w.format_is) at fed);
       rows =
           subst (HasRows new) (sym (entry_rows-push format (link_to c.take_next-self.result) es e))
           (all-append _ (entry_rows format (r + 1) es)
@@ -74,9 +65,9 @@ returns-clause-written g c format es p r v next has_value w root has out =
 
 pub returns-clause-keeps : goal.returns-clause-keeps
 returns-clause-keeps g c = λ k out.
-    copy_keeps (g.R.Rows.content c.args.rows.now) (g.R.Rows.content c.copy_entry-value.new.self)
-    c.args.from c.in-Some.to c.args.child.now.link c.match-self-2.next c.args.entry.now
-    c.requires.entry c.copy_entry-value.ensures.writes k
+    copy_keeps (g.R.Rows.content c.args.rows.now) (g.R.Rows.content c.copy_entry.new.self)
+    c.args.from c.in-Some.to c.args.child.now.link c.match-self-2.next
+    c.requires.entry c.copy_entry.ensures.writes k
     (subst (λ (o : Option ℕ). IsOut k (ahead o)) c.in-Some.is out).0
 
 pub overflow_sub-self : goal.overflow_sub-self
@@ -88,26 +79,24 @@ take_next-self-requires g c = search rules
 pub overflow_add-next : goal.overflow_add-next
 overflow_add-next g c = grind (arith, elements)
 
-pub copy_entry-value-requires-clause-there : goal.copy_entry-value-requires-clause-there
-copy_entry-value-requires-clause-there g c = is_there _ _ c.requires.entry
+pub copy_entry-requires-clause-there : goal.copy_entry-requires-clause-there
+copy_entry-requires-clause-there g c = c.requires.entry
 
-pub copy_entry-value-requires-clause-blank : goal.copy_entry-value-requires-clause-blank
-copy_entry-value-requires-clause-blank g c =
+pub copy_entry-requires-clause-blank : goal.copy_entry-requires-clause-blank
+copy_entry-requires-clause-blank g c =
     subst (λ (o : Option ℕ). IfSome o (λ r. IsTrue (g.R.Rows.blank c.args.rows.now r)))
     c.in-Some.is c.requires.blank
 
-pub copy_entry-value-requires-clause-child : goal.copy_entry-value-requires-clause-child
-copy_entry-value-requires-clause-child g c = search rules
+pub copy_entry-requires-clause-child : goal.copy_entry-requires-clause-child
+copy_entry-requires-clause-child g c = search rules
 
-pub copy_entry-value-requires-clause-next : goal.copy_entry-value-requires-clause-next
-copy_entry-value-requires-clause-next g c = grind (arith, elements)
-
-pub copied_entry-requires : goal.copied_entry-requires
-copied_entry-requires g c = search rules
+pub copy_entry-requires-clause-next : goal.copy_entry-requires-clause-next
+copy_entry-requires-clause-next g c = grind (arith, elements)
 
 pub returns-clause-writer : goal.returns-clause-writer
 returns-clause-writer g c =
     let writer = c.requires.writer in
+    let pair = pair_in (g.R.Rows.content c.args.rows.now c.args.from) c.requires.entry in
     record {
       low = writer.low;
       some = writer.some;
@@ -116,7 +105,7 @@ returns-clause-writer g c =
       reserved = c.take_next-self.ensures.ahead;
       hashes = (
         _,
-        c.copied_entry.ensures.entry writer.hashes.0
+        c.copy_entry.ensures.entry pair.0 pair.1 writer.hashes.0
             (c.move_kept.ensures.same writer.hashes.0 writer.hashes.1),
       );
     }
@@ -128,4 +117,4 @@ pub returns-clause-takes : goal.returns-clause-takes
 returns-clause-takes g c = search rules
 
 pub returns-clause-beside : goal.returns-clause-beside
-returns-clause-beside g c = (c.copy_entry-value.ensures.blank, c.copy_entry-value.ensures.kept)
+returns-clause-beside g c = (c.copy_entry.ensures.blank, c.copy_entry.ensures.kept)

@@ -1,8 +1,15 @@
 use Rattle.std.proofs.Common.{◌∙◌, ℕ, List, arith, sym}
 use Rattle.mst_words.specs.Records as records
 use Rattle.mst_words.proofs.Copied.{beyond, parts_joined, same_words}
-use Rattle.mst_words.proofs.ShortRows.{value_words}
+use Rattle.mst_words.proofs.ShortRows.{key_four, value_words}
 use Rattle.mst_words.proofs.board.Board.copy_bytes.Goals as goal
+
+pub returns-then-lengths-eq-COMMON_LENGTHS-clause-key :
+    goal.returns-then-lengths-eq-COMMON_LENGTHS-clause-key
+returns-then-lengths-eq-COMMON_LENGTHS-clause-key g c =
+    let zero = c.requires.ends.key c.if-lengths-eq-COMMON_LENGTHS.true in
+    key_four (records.row c.args.seat.now.me.0.known_words c.args.from) c.copy_part.result
+    c.copy_part.ensures.words (sym (zero 0 (omega arith)), sym (zero 1 (omega arith)))
 
 pub returns-then-lengths-eq-COMMON_LENGTHS-clause-value :
     goal.returns-then-lengths-eq-COMMON_LENGTHS-clause-value

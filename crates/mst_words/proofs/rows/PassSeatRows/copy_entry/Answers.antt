@@ -1,28 +1,84 @@
-use Rattle.std.proofs.Common.{rules}
-use Rattle.std.proofs.Common.{◌∙◌, refl}
-use Rattle.mst_words.specs.Access.{Seated, content_of}
-use Rattle.mst_arena.specs.Content.{Writes}
-use Rattle.mst_words.proofs.Accesses.{entry_copied}
-use Rattle.mst_words.proofs.ShortRows.{value_read}
+use Rattle.std.proofs.Common.{◌≡◌, ◌∙◌, Option, Some, ap, refl, sym, arith, rules, subst}
+use Rattle.std.specs.Prelude.{IsSome}
+use Rattle.atomic_table.specs.Table.{Me}
+use Rattle.mst_arena.specs.Content.{Writes, part_at}
+use Rattle.mst_arena.specs.Lives as lives
+use Rattle.mst_arena.specs.Row.{keyed_links, entry_pair}
+use Rattle.mst_words.specs.declared.view.View.{View}
+use Rattle.mst_words.specs.Records as records
+use Rattle.mst_words.specs.Access.{Seated, with_words, content_of, RowStored, relinked_list}
+use Rattle.mst_words.proofs.Accesses.{entry_copied, row_written, blank_stays, blank_parts, beside_stays, same_seated}
+use Rattle.mst_words.proofs.rows.PassSeatRows.copy_entry.Given.{Over}
 use Rattle.mst_words.proofs.rows.PassSeatRows.copy_entry.Goals as goal
+
+-- what the board says of the token, said of the seat
+module _ (g : Over) (c : goal.After-copy_entry g) where
+  same_me : c.self.inside.token.me ≡ c.args.self.now.me
+  same_me = ap (λ (z : Seated). z.me) c.self.view_is
+
+  kept : c.copy_entry.new.seat.me ≡ (
+    record c.args.self.now.me.0 { known_words = c.copy_entry.new.seat.me.0.known_words },
+    c.args.self.now.me.1,
+  )
+  kept = subst (λ (m : Me (Option lives.State) View). c.copy_entry.new.seat.me
+      ≡ (record m.0 { known_words = c.copy_entry.new.seat.me.0.known_words }, m.1)) same_me
+      c.copy_entry.ensures.same.2
+
+  stored : RowStored c.args.to 16
+      (relinked_list (records.row c.args.self.now.me.0.known_words c.args.from) c.args.links.child
+      c.args.links.next) c.args.self.now.me.0.known_words c.copy_entry.new.seat.me.0.known_words
+  stored = subst (λ (m : Me (Option lives.State) View). RowStored c.args.to 16
+      (relinked_list (records.row m.0.known_words c.args.from) c.args.links.child c.args.links.next)
+      m.0.known_words c.copy_entry.new.seat.me.0.known_words) same_me c.copy_entry.ensures.stored
 
 pub returns-clause-writes : goal.returns-clause-writes
 returns-clause-writes g c =
-    let old : Seated = c.args.self.now in
-    let new : Seated = c.copy_words-lengths.new.self in
-    entry_copied old.me.0 c.args.from c.args.child c.args.next _
-    (λ value. Writes (content_of old.me.0) (content_of new.me.0) c.args.to value)
-    c.requires.there refl c.requires.child c.requires.next c.copy_words-lengths.ensures.writes
+    let old : Me (Option lives.State) View = c.args.self.now.me in
+    let new : Me (Option lives.State) View = c.copy_entry.new.seat.me in
+    let linked = relinked_list (records.row old.0.known_words c.args.from) c.args.links.child
+    c.args.links.next in
+    entry_copied old.0 c.args.from c.args.links.child c.args.links.next _
+    (λ value. Writes (content_of old.0) (content_of new.0) c.args.to value)
+    c.requires.there refl c.requires.child c.requires.next
+    (λ value spelt. row_written old new c.args.to value linked (kept g c) c.requires.blank
+    (search rules) spelt (stored g c))
 
-pub returns-clause-value : goal.returns-clause-value
-returns-clause-value g c =
-    let copied = c.copy_words-lengths in
-    value_read c.args.self.now.me.0 c.args.from copied.result.0 copied.result.1 _
-    c.requires.there copied.ensures.lengths copied.ensures.value c.read_value.ensures.part
-    ∙ c.in-Some.is
+pub returns-clause-entry : goal.returns-clause-entry
+returns-clause-entry g c pair is =
+    let there : part_at entry_pair (content_of c.self.inside.token.me.0) c.args.from ≡ Some pair
+    = ap (λ s. part_at entry_pair (content_of s.me.0) c.args.from) c.self.view_is ∙ is in
+    c.copy_entry.ensures.entry pair there
 
 pub returns-clause-blank : goal.returns-clause-blank
-returns-clause-blank g c = search rules
+returns-clause-blank g c =
+    blank_stays c.args.self.now.me.0 c.copy_entry.new.seat.me.0
+    (ap (λ (z : Me (Option lives.State) View). z.0) (kept g c)) (stored g c).long
 
 pub returns-clause-kept : goal.returns-clause-kept
-returns-clause-kept g c = search rules
+returns-clause-kept g c =
+    let s = c.copy_entry.ensures.same in
+    let seat = c.copy_entry.new.seat in
+    let new : Seated = record { table = seat.table_id; id = seat.id; me = seat.me } in
+    let known = (blank_parts c.args.self.now.me.0 c.args.to c.requires.blank).known in
+    beside_stays c.args.self.now new c.args.to
+    (relinked_list (records.row c.args.self.now.me.0.known_words c.args.from) c.args.links.child
+    c.args.links.next)
+    (same_seated (with_words seat.me.0.known_words c.args.self.now) seat.table_id seat.id seat.me
+    (s.0 ∙ ap (λ (z : Seated). z.table) c.self.view_is)
+    (s.1 ∙ ap (λ (z : Seated). z.id) c.self.view_is) (kept g c)) (omega (arith, known))
+    (stored g c)
+
+pub copy_entry-requires-clause-own : goal.copy_entry-requires-clause-own
+copy_entry-requires-clause-own g c = search rules
+
+pub copy_entry-requires-clause-there : goal.copy_entry-requires-clause-there
+copy_entry-requires-clause-there g c =
+    subst (λ (m : Me (Option lives.State) View).
+    IsSome (part_at keyed_links (content_of m.0) c.args.from))
+    (sym (ap (λ (z : Seated). z.me) c.self.view_is)) c.requires.there
+
+pub copy_entry-requires-clause-blank : goal.copy_entry-requires-clause-blank
+copy_entry-requires-clause-blank g c = search rules
+
+pub invariant_of-self : goal.invariant_of-self
+invariant_of-self g c = search rules
