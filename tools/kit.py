@@ -28,8 +28,8 @@ ROOT = subprocess.run(
 ).stdout.strip()
 
 
-def crate_named(name):
-    """Returns the crate, with all crates below it built if they changed."""
+def crates_of_root():
+    """Returns all crates of the repository, as `rt` reads them."""
     made = rt.rtlib.Crate.__init__
 
     def make(self, *given, **named):
@@ -38,13 +38,30 @@ def crate_named(name):
 
     rt.rtlib.Crate.__init__ = make
     rt.rtlib.guarded()
-    crate = next((it for it in rt.rtlib.crates_below(ROOT) if it.name == name), None)
+    try:
+        return rt.rtlib.crates_below(ROOT)
+    finally:
+        rt.rtlib.Crate.__init__ = made
+
+
+def crate_named(name):
+    """Returns the crate, with all crates below it built if they changed."""
+    crate = next((it for it in crates_of_root() if it.name == name), None)
     if crate is None:
         sys.exit(f"crates.txt names no crate {name}")
     for below in crate.below():
         if below.build_rlib(["--jobs", "1"], anew=False):
             sys.exit(f"{below.name}, below {name}, is not proved")
     return crate
+
+
+# What a check takes at most, but for rare moments, in bytes.
+MEMORY = 3_000_000_000
+
+
+def lanes():
+    """How many checks can run side by side: one a processor, as far as memory holds them."""
+    return max(1, min(rt.processors(), int(rt.free() // MEMORY)))
 
 
 def kept_work(name, what):
