@@ -51,10 +51,10 @@ class Trial:
 
     def check(self, texts, flags=()):
         """A check with these texts, over a copy of the kept work: what a wrong body leaves there
-        would be checked again for the next one."""
+        would be checked again for the next one. The copy has hard links, since a check writes each
+        file anew, and then gives it the old one's name."""
         copy = f"{self.kept}-{os.getpid()}"
         shutil.rmtree(copy, ignore_errors=True)
-        # hard links do, since each file is written anew and then takes the old one's name
         subprocess.run(["cp", "-al", self.kept, copy], check=True)
         try:
             return rt.checked(self.crate, texts, ["--jobs", "1", *flags], copy)
@@ -65,7 +65,7 @@ class Trial:
         """Checks the crate as it is, and notes the names that its functions have."""
         work, before = f"{self.crate.folder}/out/incremental", seconds()
         if os.path.isdir(work) and not os.path.isdir(self.kept):
-            subprocess.run(["cp", "-a", work, self.kept], check=True)
+            subprocess.run(["cp", "-al", work, self.kept], check=True)
         os.makedirs(self.kept, exist_ok=True)
         ran = rt.checked(self.crate, {}, ["--jobs", "1"], self.kept)
         if ran.returncode:
