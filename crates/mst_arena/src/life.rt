@@ -2,7 +2,7 @@
 
 /// Whether a row is free, and if not, from which version on it is reached, and from which one on no
 /// more.
-#[derive(Clone, Copy, Debug, PartialEq, Eq)]
+#[derive(Clone, Copy)]
 pub enum Life {
     /// No version reaches the row.
     Free,

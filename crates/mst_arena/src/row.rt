@@ -22,7 +22,7 @@ pub const ROW_WORDS: usize = 16;
 /// A row: an entry of a node, or the head of a node.
 ///
 /// A link is a row number plus 1, and 0 is none. Links are at most 65,535.
-#[derive(Debug, Drop, PartialEq, Eq)]
+#[derive(Drop, PartialEq, Eq)]
 pub enum Row {
     /// A pair of a node.
     Entry {
@@ -49,7 +49,7 @@ pub enum Row {
 }
 
 /// What a search needs of a head.
-#[derive(Clone, Copy, Debug, PartialEq, Eq)]
+#[derive(Clone, Copy, PartialEq, Eq)]
 pub struct HeadLinks {
     pub layer: u8,
     pub count: u32,
@@ -58,7 +58,7 @@ pub struct HeadLinks {
 }
 
 /// What a search needs of an entry.
-#[derive(Debug, Drop, PartialEq, Eq)]
+#[derive(Drop, PartialEq, Eq)]
 pub struct KeyedLinks {
     pub child: u32,
     pub next: u32,
@@ -66,7 +66,7 @@ pub struct KeyedLinks {
 }
 
 /// What a walk needs of an entry whose key it does not read.
-#[derive(Clone, Copy, Debug, PartialEq, Eq)]
+#[derive(Clone, Copy, PartialEq, Eq)]
 pub struct BareLinks {
     /// The link of the head of the tree in the gap before the key.
     pub child: u32,
@@ -75,7 +75,7 @@ pub struct BareLinks {
 }
 
 /// Where a tree stands, and its digest.
-#[derive(Clone, Copy, Debug, PartialEq, Eq)]
+#[derive(Clone, Copy, PartialEq, Eq)]
 pub struct Root {
     /// The link of the head of the top node, or 0 for the empty tree.
     pub link: u32,

@@ -32,7 +32,7 @@ impl Model for Sought {
 }
 
 /// Where a search goes on from an entry.
-#[derive(Clone, Copy, Debug, PartialEq, Eq)]
+#[derive(Clone, Copy, PartialEq, Eq)]
 pub enum Way {
     /// Down to the tree at this link: the key is below the entry's.
     Child(u32),
@@ -43,7 +43,7 @@ pub enum Way {
 }
 
 /// Where a search among the entries of a node ends. What is left begins with the entry at the link.
-#[derive(Clone, Copy, Debug, PartialEq, Eq)]
+#[derive(Clone, Copy)]
 pub enum Stop {
     /// In the gap before the entry at this link: its key is the first that is above the key.
     Gap {

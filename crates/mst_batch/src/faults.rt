@@ -2,7 +2,7 @@
 use mst_key::Memory;
 
 /// Why a batch of edits was not made. Rows and desk are as before.
-#[derive(Clone, Copy, Debug, PartialEq, Eq)]
+#[derive(Clone, Copy)]
 pub enum NotApplied {
     /// A growth of a list or of the plan was refused.
     Memory(Memory),

@@ -6,7 +6,7 @@ use mst_key::{Key, Value};
 use std::marker::Model;
 
 /// A pair of the map after a batch, or a tree of pairs that stays as it stands.
-#[derive(Debug, Drop)]
+#[derive(Drop)]
 pub enum Item {
     /// A pair, with the layer of its key.
     Pair {
@@ -23,7 +23,7 @@ pub enum Item {
 
 /// The layer of a pair's key: 0 to 64 in format 1, 0 to 128 in format 2. With it goes a hint: what
 /// is known of the entry that had the key before.
-#[derive(Debug, Drop)]
+#[derive(Drop)]
 pub struct PairPlace {
     layer: u8,
     origin: Origin,

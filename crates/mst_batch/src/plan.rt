@@ -4,7 +4,7 @@ use mst_key::{Key, Value};
 use std::alloc::{Allocator, Global};
 
 /// What is to stand in a gap of a tree, or in place of a whole tree.
-#[derive(Debug, Drop)]
+#[derive(Drop)]
 pub enum Plan<N> {
     /// The tree that stands at a link, as it is. Link 0 is the empty tree.
     Kept(u32),
@@ -15,7 +15,7 @@ pub enum Plan<N> {
 /// A node to be made: pairs of one layer in the order of their keys, with the plans of the gaps
 /// before, between and after them.
 #[cycle(plan_node)]
-#[derive(Debug, Drop)]
+#[derive(Drop)]
 pub struct PlanNode<A: Allocator = Global> {
     /// The layer of each key of the node: 0 to 64 in format 1, 0 to 128 in format 2.
     pub layer: u8,
@@ -27,7 +27,7 @@ pub struct PlanNode<A: Allocator = Global> {
 
 /// What is known of the entry that had a pair's key before. It is a hint: nothing is promised of
 /// it, and a wrong one costs no more than time.
-#[derive(Clone, Copy, Debug)]
+#[derive(Clone, Copy)]
 pub enum Origin {
     /// Nothing.
     Unknown,
@@ -39,7 +39,7 @@ pub enum Origin {
 
 /// A pair of a node to be made, after the plan of the gap before it.
 #[cycle(plan_node)]
-#[derive(Debug, Drop)]
+#[derive(Drop)]
 pub struct PlanEntry<A: Allocator = Global> {
     /// The plan of the gap before the key.
     pub child: Plan<Box<PlanNode<A>, A>>,

@@ -8,7 +8,7 @@ use mst_report::key_in;
 use std::alloc::Allocator;
 
 /// Why a word gives no list of splits.
-#[derive(Clone, Copy, Debug, PartialEq, Eq)]
+#[derive(Clone, Copy)]
 pub enum NoSplits {
     /// A part between commas spells no key.
     Spelling,

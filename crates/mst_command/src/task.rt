@@ -4,7 +4,7 @@ use mst_report::ProofKind;
 use mst_store::Shape;
 
 /// How large the store of a script is.
-#[derive(Clone, Copy, Debug, PartialEq, Eq)]
+#[derive(Clone, Copy)]
 pub struct Size {
     /// How many rows it has.
     pub rows: u32,
@@ -13,7 +13,7 @@ pub struct Size {
 }
 
 /// The numbers of a load.
-#[derive(Clone, Copy, Debug, PartialEq, Eq)]
+#[derive(Clone, Copy)]
 pub struct Load {
     /// How many threads read.
     pub readers: u32,
@@ -24,7 +24,7 @@ pub struct Load {
 }
 
 /// What the first word after the program's name may be.
-#[derive(Clone, Copy, Debug, PartialEq, Eq)]
+#[derive(Clone, Copy)]
 pub enum Subcommand {
     /// `run`: a script.
     Run,
@@ -58,7 +58,7 @@ pub enum Task<'a> {
 }
 
 /// How a program ended that was not cut short.
-#[derive(Clone, Copy, Debug, PartialEq, Eq)]
+#[derive(Clone, Copy)]
 pub enum Ending {
     /// It did what the words ask for.
     Done,

@@ -32,7 +32,7 @@ impl Edit {
 ///
 /// They are made one after another, so of edits of one key the last decides, and a remove of a key
 /// that is not there changes nothing. No version has the edits before one of them and not that one.
-#[derive(Debug, Drop)]
+#[derive(Drop)]
 pub struct Batch<'b> {
     edits: &'b [Edit],
 }
@@ -66,7 +66,7 @@ impl<'b> Batch<'b> {
 }
 
 /// A change of one key, of the format, or of many keys at once: what one event does.
-#[derive(Debug, Drop)]
+#[derive(Drop)]
 pub enum Change<'b> {
     /// The key has this value from here on.
     Put(Key, Value),
@@ -79,7 +79,7 @@ pub enum Change<'b> {
 }
 
 /// One change of the map or its format. A history is the list of its events, the oldest first.
-#[derive(Debug, Drop)]
+#[derive(Drop)]
 pub struct Event<'b> {
     /// The number of the pass that made the change, from 1.
     pub pass: u32,

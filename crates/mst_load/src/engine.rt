@@ -26,7 +26,7 @@ use thiserror::Error;
 const ROWS: u32 = 32_768;
 
 /// What a load came to.
-#[derive(Clone, Copy, Debug, PartialEq, Eq)]
+#[derive(Clone, Copy)]
 pub struct Report {
     /// How many events there were: the number of the last version.
     pub events: u64,

@@ -18,7 +18,7 @@ use crate::sinks::format_byte;
 use mst_key::{Format, Key, Value, layer_of};
 
 /// What one reading of a node's text says of a key.
-#[derive(Debug, Drop)]
+#[derive(Drop)]
 pub struct Finding {
     /// The layer of the node.
     pub layer: u8,

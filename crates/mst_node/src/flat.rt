@@ -23,7 +23,7 @@ use std::marker::Model;
 
 /// A flat node: a node with the digests of its children in their place. It is borrowed from the
 /// bytes of its text.
-#[derive(Debug, Drop)]
+#[derive(Drop)]
 pub struct Flat<'a> {
     format: Format,
     layer: u8,

@@ -5,7 +5,7 @@ ghost use Rattle.mst_node.specs.Held.{held_as, HasSize};
 use mst_key::{Format, Value};
 
 /// What a node holds of a value.
-#[derive(Debug, Drop)]
+#[derive(Drop)]
 pub enum Held {
     /// In format 1 the value.
     Value(Value),

@@ -6,7 +6,7 @@ use mst_key::{Key, Value};
 
 /// The keys strictly between two bounds, each of them optional: those of a node, or of a gap
 /// between its entries.
-#[derive(Debug, Drop)]
+#[derive(Drop)]
 pub struct Span {
     pub low: Option<Key>,
     pub high: Option<Key>,
@@ -40,7 +40,7 @@ impl Span {
 }
 
 /// Where a key lies in a flat node.
-#[derive(Debug, Drop)]
+#[derive(Drop)]
 pub enum KeyPlace {
     /// The node holds the key, with this value.
     Found(Value),

@@ -5,7 +5,7 @@ use std::alloc::{Allocator, Global};
 /// A node of a Merkle search tree: the pairs of one layer in the order of their keys, with the
 /// trees of the gaps before, between and after them.
 #[cycle(node)]
-#[derive(Debug, Drop)]
+#[derive(Drop)]
 pub struct Node<A: Allocator = Global> {
     /// The layer of each key of the node: 0 to 64 in format 1, 0 to 128 in format 2.
     pub layer: u8,
@@ -17,7 +17,7 @@ pub struct Node<A: Allocator = Global> {
 
 /// A pair of a node, after the tree of the gap before it.
 #[cycle(node)]
-#[derive(Debug, Drop)]
+#[derive(Drop)]
 pub struct Entry<A: Allocator = Global> {
     /// The tree of the gap before the key.
     pub child: Option<Box<Node<A>, A>>,

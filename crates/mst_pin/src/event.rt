@@ -5,7 +5,7 @@ use thiserror::Error;
 
 /// An event. Passes are numbered from 1, version records and rows from 0; a number that names none
 /// of the core is refused.
-#[derive(Clone, Copy, Debug, PartialEq, Eq)]
+#[derive(Clone, Copy)]
 pub enum Event {
     /// The pass pins the current record.
     Pin(u8),

@@ -6,7 +6,7 @@ use crate::fault::ProofFault;
 use mst_key::{Format, Value};
 
 /// What the tail of a proof claims.
-#[derive(Debug, Drop)]
+#[derive(Drop)]
 pub(crate) enum Claim {
     /// There is no tail, as in format 1.
     Nothing,

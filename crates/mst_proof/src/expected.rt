@@ -9,7 +9,7 @@ use mst_key::{Format, Key, Value};
 use mst_node::{KeyPlace, Span, digest, find_in_text};
 
 /// What is expected of the next text.
-#[derive(Debug, Drop)]
+#[derive(Drop)]
 pub(crate) struct Expected {
     /// The digest of the text.
     pub digest: [u8; 32],
@@ -20,7 +20,7 @@ pub(crate) struct Expected {
 }
 
 /// What a text says of the key.
-#[derive(Debug, Drop)]
+#[derive(Drop)]
 pub(crate) enum Step {
     /// The node holds this of the key's value, or the key is absent.
     Decided(Option<Value>),

@@ -12,7 +12,7 @@ use mst_node::format_byte;
 use std::marker::Model;
 
 /// Texts, one after another, each after its length in four bytes.
-#[derive(Debug, Drop)]
+#[derive(Drop)]
 pub(crate) struct Texts<'a> {
     count: u8,
     bytes: &'a [u8],

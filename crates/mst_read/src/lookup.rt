@@ -10,7 +10,7 @@ use mst_arena::{HeadLinks, Root, Rows, Sought, Stop};
 use mst_key::{Key, Value};
 
 /// Where a search in a node ends.
-#[derive(Clone, Copy, Debug)]
+#[derive(Clone, Copy)]
 pub enum RowPlace {
     /// The row of the entry that has the key.
     Found(u32),

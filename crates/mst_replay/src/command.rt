@@ -9,7 +9,7 @@ use crate::rows::row_set;
 use mst_pin::Event;
 
 /// What a line asks for: a new core of this many passes, or an event of the core.
-#[derive(Clone, Copy, Debug, PartialEq, Eq)]
+#[derive(Clone, Copy)]
 pub enum Command {
     Open(u8),
     Take(Event),

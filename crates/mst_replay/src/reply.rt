@@ -5,7 +5,7 @@ ghost use Rattle.mst_replay.specs.Reply.{reply_of};
 
 use mst_pin::Answer;
 
-#[derive(Clone, Copy, Debug, PartialEq, Eq)]
+#[derive(Clone, Copy)]
 pub enum Reply {
     /// A new core, with this many version records.
     Records(u8),

@@ -23,7 +23,7 @@ pub const LIMIT: usize = 33_554_432;
 pub type Line = ArrayVec<u8, 144>;
 
 /// Of which maps a proof is.
-#[derive(Clone, Copy, Debug, PartialEq, Eq)]
+#[derive(Clone, Copy)]
 pub enum ProofKind {
     /// Of a map with one tree, as that of a store.
     Plain,
@@ -32,7 +32,7 @@ pub enum ProofKind {
 }
 
 /// What is said of the text of a proof.
-#[derive(Debug, Drop)]
+#[derive(Drop)]
 pub enum Report {
     /// The proof shows this value of the key.
     Present(Value),

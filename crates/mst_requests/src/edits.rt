@@ -84,7 +84,7 @@ fn batch_fault(fields: Option<&[u8]>) -> Option<Fault>
 }
 
 /// The edits of a batch, as the fields of a line spell them. None of them has a fault.
-#[derive(Debug, Drop)]
+#[derive(Drop)]
 pub struct Edits<'l> {
     fields: Option<&'l [u8]>,
 }

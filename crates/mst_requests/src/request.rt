@@ -7,7 +7,7 @@ use mst_key::{Format, Key, Value};
 ///
 /// All but `Pinning` are in the line alone; `Pinning` depends on the store, so the caller that runs
 /// the line finds it.
-#[derive(Clone, Copy, Debug, PartialEq, Eq)]
+#[derive(Clone, Copy)]
 pub enum Fault {
     /// It has more bytes than a line may have.
     LongLine,
@@ -28,7 +28,7 @@ pub enum Fault {
 }
 
 /// What a pass is asked for.
-#[derive(Debug, Drop)]
+#[derive(Drop)]
 pub enum Command<'l> {
     /// To give a key a value.
     Put(Key, Value),
@@ -61,7 +61,7 @@ pub enum Command<'l> {
 }
 
 /// What a line asks for. It borrows the line, in which the edits of a batch stand.
-#[derive(Debug, Drop)]
+#[derive(Drop)]
 pub struct Request<'l> {
     /// The number of the pass, from 1 on.
     pub pass: u32,

@@ -13,7 +13,7 @@ use std::alloc::Allocator;
 use std::marker::Model;
 
 /// Where a pass is, among the free passes or among those that pin a version.
-#[derive(Clone, Copy, Debug, PartialEq, Eq)]
+#[derive(Clone, Copy)]
 pub enum PassPlace {
     /// At this place of the free passes.
     Free(usize),

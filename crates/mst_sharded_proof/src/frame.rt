@@ -9,7 +9,7 @@ use crate::fault::ShardedFault;
 use mst_key::{Format, Key};
 
 /// The parts of a proof.
-#[derive(Debug, Drop)]
+#[derive(Drop)]
 pub(crate) struct Parts<'a> {
     /// The lower bound of the key's shard.
     pub low: Key,

@@ -11,7 +11,7 @@ use mst_requests::{Answer, put_answer};
 use std::alloc::Allocator;
 
 /// Why a batch or a migration stopped at a shard.
-#[derive(Clone, Copy, Debug, PartialEq, Eq)]
+#[derive(Clone, Copy)]
 pub enum Stop {
     /// Another handle has the turn of the shard.
     Busy,

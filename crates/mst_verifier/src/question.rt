@@ -7,7 +7,7 @@ use mst_proof::{ProofFault, verify_in};
 use mst_sharded_proof::{ShardedFault, verify_sharded};
 
 /// What a proof is of.
-#[derive(Clone, Copy, Debug)]
+#[derive(Clone, Copy)]
 pub(crate) enum Kind {
     /// One map.
     Plain,
@@ -16,7 +16,7 @@ pub(crate) enum Kind {
 }
 
 /// Why there is no answer.
-#[derive(Debug, Drop)]
+#[derive(Drop)]
 pub(crate) enum Refusal {
     /// No format has this number.
     Format,

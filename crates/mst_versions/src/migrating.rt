@@ -29,7 +29,7 @@ use mst_words::PassSeat;
 use std::alloc::Allocator;
 
 /// Why no tree of the other format was made.
-#[derive(Clone, Copy, Debug, PartialEq, Eq)]
+#[derive(Clone, Copy)]
 pub(crate) enum TreeFault {
     /// A growth of the list of the pairs or of their tree was refused.
     Memory(Memory),

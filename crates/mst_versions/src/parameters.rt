@@ -2,7 +2,7 @@
 
 /// The parameters of a pass, which it knows in addition to its seat: its number, and the size of
 /// its store.
-#[derive(Clone, Copy, Debug, PartialEq, Eq)]
+#[derive(Clone, Copy)]
 pub struct PassParameters {
     /// The number of the pass, from 1.
     pub number: u32,

@@ -17,7 +17,7 @@ use mst_words::PassSeat;
 use std::alloc::Allocator;
 
 /// Where the map of a pinned version stands.
-#[derive(Clone, Copy, Debug, PartialEq, Eq)]
+#[derive(Clone, Copy)]
 pub struct PinnedVersion {
     /// The record that is pinned.
     pub pinned: u32,

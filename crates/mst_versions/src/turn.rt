@@ -36,7 +36,7 @@ pub struct Turn<A: Allocator> {
 }
 
 /// Why no write was begun.
-#[derive(Clone, Copy, Debug, PartialEq, Eq)]
+#[derive(Clone, Copy)]
 pub enum BeginFault {
     /// Another pass has the turn.
     Busy,
