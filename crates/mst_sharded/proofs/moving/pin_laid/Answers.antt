@@ -1,4 +1,4 @@
-use Rattle.std.proofs.Common.{◌≤◌, ◌≡◌, List, [], ◌∷◌, ◌++◌, length, length-append, vec_items, sym, subst, arith}
+use Rattle.std.proofs.Common.{◌≤◌, ◌≡◌, List, [], ◌∷◌, ◌++◌, length, length-append, vec_items, ◌∙◌, sym, subst, arith}
 use Rattle.std.specs.List.{AllByRecursion}
 use Rattle.std.specs.VecDeque.{deque_items}
 use Rattle.mst_key.specs.History.{after}
@@ -6,7 +6,7 @@ use Rattle.mst_key.specs.Map.{IsMap}
 use Rattle.mst_key.proofs.Alls.{alls-append}
 use Rattle.mst_store.specs.Passes.{Known, most_rows}
 use Rattle.mst_sharded.specs.Sharding.{AllStep, PinsNow, HaveFewPairs}
-use Rattle.mst_sharded.proofs.HandingOut.{goes_on}
+use Rattle.mst_sharded.proofs.HandingOut.{goes_on, all_gone}
 use Rattle.mst_sharded.proofs.PinningAll.{all_step_more}
 use Rattle.mst_sharded.proofs.Shares.{next_low, next_own}
 use Rattle.mst_sharded.proofs.moving.pin_laid.Goals as goal
@@ -76,3 +76,24 @@ loop-laid-preserved g c =
             tt,
           )),
     )
+
+pub overflow_add-place : goal.overflow_add-place
+overflow_add-place g c =
+    let was = c.loop-laid.invariant in
+    let low = next_low c.args.stores.now (vec_items c.args.passes) was.2.0
+    (deque_items c.loop-laid.left) (deque_items c.pop_front.new.self) c.in-Some.laid
+    c.loop-laid.place c.requires.own was.2.1 c.in-Some.ensures.items was.2.3 in
+    omega (arith, low)
+
+pub returns-clause-pins : goal.returns-clause-pins
+returns-clause-pins g c =
+    let was = c.loop-laid.invariant in
+    subst (λ (l : List Known). AllStep PinsNow l (vec_items c.loop-laid.pinned))
+    (all_gone (vec_items c.args.passes) was.2.0 (deque_items c.loop-laid.left) was.2.1
+    (sym c.loop-laid.left.ok.0 ∙ c.in_default.ensures.cases.0)) was.2.2
+
+pub returns-clause-maps : goal.returns-clause-maps
+returns-clause-maps g c = c.loop-laid.invariant.3
+
+pub returns-clause-few : goal.returns-clause-few
+returns-clause-few g c = c.loop-laid.invariant.4

@@ -2,7 +2,8 @@ use Rattle.std.proofs.Common.{◌≡◌, ◌≤◌, ◌+◌, ◌∙◌, ℕ, Lis
 use Rattle.std.specs.Arc.{arc_value}
 use Rattle.mst_key.specs.declared.format.Format.{Format}
 use Rattle.mst_key.specs.Map.{Pair, map_get}
-use Rattle.mst_store.specs.Passes.{Known, Answers}
+use Rattle.mst_store.specs.Passes.{Known, Answers, StoreId}
+use Rattle.mst_sharded.specs.Shared.{AreOf}
 use Rattle.mst_sharded.specs.Sharding.{Sharding, sharding, place, Routes}
 use Rattle.mst_sharded.proofs.Listed.{answers_more}
 use Rattle.mst_sharded.proofs.Shares.{returned, routed}
@@ -73,3 +74,9 @@ returns g c =
           c.get-found.ensures.answers;
       once = routes g c (λ x y. y.asked ≡ x.asked + 1) c.get-found.ensures.once;
     }
+
+pub lift_at-pass-requires-clause-own : goal.lift_at-pass-requires-clause-own
+lift_at-pass-requires-clause-own g c =
+    let are : c.shard_stores.result.now ≡ (arc_value c.self.inside.map).stores = search rules in
+    subst (λ (l : List StoreId). AreOf l (vec_items c.self.inside.passes)) (sym are)
+    c.self.invariant.2

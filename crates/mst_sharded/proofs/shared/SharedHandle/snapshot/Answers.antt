@@ -1,6 +1,7 @@
-use Rattle.std.proofs.Common.{◌∙◌, List, vec_items}
+use Rattle.std.proofs.Common.{◌∙◌, List, vec_items, ◌≡◌, rules, sym, subst}
 use Rattle.std.specs.Arc.{arc_value}
-use Rattle.mst_store.specs.Passes.{Known}
+use Rattle.mst_store.specs.Passes.{Known, StoreId}
+use Rattle.mst_sharded.specs.Shared.{AreOf}
 use Rattle.mst_sharded.specs.Sharding.{PinsNow}
 use Rattle.mst_sharded.proofs.Listed.{listed_later}
 use Rattle.mst_sharded.proofs.PinningAll.{all_step_length, pins_more}
@@ -28,3 +29,9 @@ invariant_of-result g c =
       pins.empty,
       pins.room,
     )
+
+pub pin_laid-pinned-requires-clause-own : goal.pin_laid-pinned-requires-clause-own
+pin_laid-pinned-requires-clause-own g c =
+    let are : c.shard_stores.result.now ≡ (arc_value c.self.inside.map).stores = search rules in
+    subst (λ (l : List StoreId). AreOf l (vec_items c.self.inside.passes)) (sym are)
+    c.self.invariant.2

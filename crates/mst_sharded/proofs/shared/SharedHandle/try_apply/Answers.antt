@@ -1,6 +1,6 @@
 use Rattle.std.proofs.Common.{◌≡◌, ◌∙◌, ℕ, List, vec_items, rules, arith, sym, subst}
 use Rattle.std.specs.Arc.{arc_value}
-use Rattle.mst_store.specs.Passes.{Known}
+use Rattle.mst_store.specs.Passes.{Known, StoreId}
 use Rattle.mst_sharded.specs.Sharding.{AllStep, SeesMore}
 use Rattle.mst_sharded.specs.Shared.{AreOf}
 use Rattle.mst_sharded.proofs.Listed.{listed_later}
@@ -54,3 +54,9 @@ returns-clause-ok g c = search rules
 
 pub returns-clause-err : goal.returns-clause-err
 returns-clause-err g c = search rules
+
+pub lift_all-passes-requires-clause-own : goal.lift_all-passes-requires-clause-own
+lift_all-passes-requires-clause-own g c =
+    let are : c.shard_stores.result.now ≡ (arc_value c.self.inside.map).stores = search rules in
+    subst (λ (l : List StoreId). AreOf l (vec_items c.self.inside.passes)) (sym are)
+    c.self.invariant.2

@@ -1,7 +1,7 @@
 use Rattle.std.proofs.Common.{◌≡◌, ◌∙◌, ℕ, List, vec_items, rules, arith, refl, sym, subst}
 use Rattle.std.specs.Arc.{arc_value}
 use Rattle.std.specs.Prelude.{OnOk}
-use Rattle.mst_store.specs.Passes.{Known}
+use Rattle.mst_store.specs.Passes.{Known, StoreId}
 use Rattle.mst_sharded.specs.Sharding.{sharding, AllStep, SeesMore}
 use Rattle.mst_sharded.specs.Applying.{MigratesAll}
 use Rattle.mst_sharded.specs.Shared.{AreOf}
@@ -71,3 +71,11 @@ returns-clause-ok g c =
       | in-Err-moved w ↦ subst (λ r. OnOk r (MigratesAll c.args.to c.args.self.now
           (sharding splits zs))) (sym w.result-is) tt
     ]
+
+pub lift_all-passes-requires-clause-own : goal.lift_all-passes-requires-clause-own
+lift_all-passes-requires-clause-own g c =
+    let are : c.shard_stores.result.now ≡ (arc_value c.self.inside.map).stores = search rules in
+    let laid : vec_items c.replace-laid.result ≡ vec_items c.self.inside.passes = search rules in
+    subst (λ (l : List StoreId). AreOf l (vec_items c.replace-laid.result)) (sym are)
+    (subst (λ (x : List Known). AreOf (arc_value c.self.inside.map).stores x) (sym laid)
+    c.self.invariant.2)

@@ -3,7 +3,8 @@ use Rattle.std.specs.Arc.{arc_value}
 use Rattle.std.proofs.lemmas.Result.{IfOk-weaker, IfErr-weaker}
 use Rattle.mst_key.specs.declared.history.Change.TheVariants.{Remove}
 use Rattle.mst_key.specs.History.{had}
-use Rattle.mst_store.specs.Passes.{Known, Wrote, Refuses, made_by}
+use Rattle.mst_store.specs.Passes.{Known, Wrote, Refuses, made_by, StoreId}
+use Rattle.mst_sharded.specs.Shared.{AreOf}
 use Rattle.mst_sharded.specs.Sharding.{Sharding, sharding, place, Routes}
 use Rattle.mst_sharded.proofs.Listed.{tried_more}
 use Rattle.mst_sharded.proofs.Shares.{returned, routed, wrote_own}
@@ -84,3 +85,9 @@ returns-clause-err g c =
     c.try_remove-removed.new.self) _
     (λ fault refused. routes g c (λ x y. Refuses fault (Remove c.args.key.now) x y) refused)
     c.try_remove-removed.ensures.err
+
+pub lift_at-pass-requires-clause-own : goal.lift_at-pass-requires-clause-own
+lift_at-pass-requires-clause-own g c =
+    let are : c.shard_stores.result.now ≡ (arc_value c.self.inside.map).stores = search rules in
+    subst (λ (l : List StoreId). AreOf l (vec_items c.self.inside.passes)) (sym are)
+    c.self.invariant.2

@@ -3,9 +3,9 @@ use Rattle.std.specs.Arc.{arc_value}
 use Rattle.std.specs.List.{AllByRecursion}
 use Rattle.std.specs.Prelude.{IfNone}
 use Rattle.mst_key.specs.declared.format.Format.{Format}
-use Rattle.mst_store.specs.Passes.{Known, format_seen}
+use Rattle.mst_store.specs.Passes.{Known, format_seen, StoreId}
 use Rattle.mst_sharded.specs.Directory.{AllIn}
-use Rattle.mst_sharded.specs.Shared.{KeepsPins}
+use Rattle.mst_sharded.specs.Shared.{KeepsPins, AreOf}
 use Rattle.mst_sharded.specs.Sharding.{Sharding, sharding}
 use Rattle.mst_sharded.proofs.Shares.{laid_back}
 use Rattle.mst_sharded.proofs.shared.SharedSnapshot.format.Given.{Over}
@@ -49,3 +49,11 @@ returns-clause-none g c =
     (subst (λ (ps : List Known). IfNone c.one_format-format.result ((to : Format)
     → AllByRecursion (λ (p : Known). format_seen p ≡ to) ps → ⊥)) given
     c.one_format-format.ensures.none)
+
+pub lift_pins-pinned-requires-clause-own : goal.lift_pins-pinned-requires-clause-own
+lift_pins-pinned-requires-clause-own g c =
+    let are : c.shard_stores.result.now ≡ (arc_value c.self.inside.map).stores = search rules in
+    let laid : vec_items c.replace-laid.result ≡ vec_items c.self.inside.pinned = search rules in
+    subst (λ (l : List StoreId). AreOf l (vec_items c.replace-laid.result)) (sym are)
+    (subst (λ (x : List Known). AreOf (arc_value c.self.inside.map).stores x) (sym laid)
+    c.self.invariant.0.own)

@@ -1,8 +1,8 @@
 use Rattle.std.proofs.Common.{◌≡◌, ◌≤◌, ◌<◌, ◌∙◌, ℕ, List, length, vec_items, vec_len, rules, arith, sym, ap, subst}
 use Rattle.std.specs.Arc.{arc_value}
 use Rattle.mst_key.specs.Map.{map_get}
-use Rattle.mst_store.specs.Passes.{Known}
-use Rattle.mst_sharded.specs.Shared.{KeepsPins}
+use Rattle.mst_store.specs.Passes.{Known, StoreId}
+use Rattle.mst_sharded.specs.Shared.{KeepsPins, AreOf}
 use Rattle.mst_sharded.specs.Sharding.{Sharding, sharding, place, map_of}
 use Rattle.mst_sharded.proofs.Nexts.{routed_get, map_here}
 use Rattle.mst_sharded.proofs.Shares.{stayed}
@@ -64,3 +64,9 @@ returns-clause-found g c =
     was.sharding_is.count at c.lift_pin_at-pinned.ensures.pass
     (map_here ps i p (low g c) c.lift_pin_at-pinned.ensures.pass was.maps)
     ∙ ap (λ (h : Sharding). map_get (map_of h) c.args.key.now) c.self.view_is
+
+pub lift_pin_at-pinned-requires-clause-own : goal.lift_pin_at-pinned-requires-clause-own
+lift_pin_at-pinned-requires-clause-own g c =
+    let are : c.shard_stores.result.now ≡ (arc_value c.self.inside.map).stores = search rules in
+    subst (λ (l : List StoreId). AreOf l (vec_items c.self.inside.pinned)) (sym are)
+    c.self.invariant.0.own

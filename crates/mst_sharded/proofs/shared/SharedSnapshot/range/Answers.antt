@@ -3,8 +3,8 @@ use Rattle.std.specs.Arc.{arc_value}
 use Rattle.std.specs.Option.{option_copied}
 use Rattle.std.specs.Prelude.{IfOk}
 use Rattle.mst_key.specs.Map.{map_range}
-use Rattle.mst_store.specs.Passes.{Known}
-use Rattle.mst_sharded.specs.Shared.{KeepsPins}
+use Rattle.mst_store.specs.Passes.{Known, StoreId}
+use Rattle.mst_sharded.specs.Shared.{KeepsPins, AreOf}
 use Rattle.mst_sharded.specs.Sharding.{Sharding, sharding, map_of}
 use Rattle.mst_sharded.proofs.Shares.{found_as, laid_back, lent_kept}
 use Rattle.mst_sharded.proofs.shared.SharedSnapshot.range.Given.{Over}
@@ -60,3 +60,11 @@ returns-clause-found g c =
     (arc_value c.self.inside.map).splits c.split_keys.result.now (vec_items c.self.inside.pinned)
     c.as_mut_slice.result.now c.args.self.now (search rules) (seen g c) c.self.view_is
     c.range_among-found.ensures.found
+
+pub lift_pins-pinned-requires-clause-own : goal.lift_pins-pinned-requires-clause-own
+lift_pins-pinned-requires-clause-own g c =
+    let are : c.shard_stores.result.now ≡ (arc_value c.self.inside.map).stores = search rules in
+    let laid : vec_items c.replace-laid.result ≡ vec_items c.self.inside.pinned = search rules in
+    subst (λ (l : List StoreId). AreOf l (vec_items c.replace-laid.result)) (sym are)
+    (subst (λ (x : List Known). AreOf (arc_value c.self.inside.map).stores x) (sym laid)
+    c.self.invariant.0.own)

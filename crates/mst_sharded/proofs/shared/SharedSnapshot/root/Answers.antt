@@ -1,8 +1,10 @@
-use Rattle.std.proofs.Common.{◌≡◌, ◌∙◌, List, length, vec_items, vec_len, rules, arith, ap}
+use Rattle.std.proofs.Common.{◌≡◌, ◌∙◌, List, length, vec_items, vec_len, rules, arith, ap, sym, subst, Some, slice_get}
 use Rattle.std.specs.Arc.{arc_value}
 use Rattle.std.specs.Prelude.{IfOk, IfErr}
-use Rattle.mst_store.specs.Passes.{Known}
+use Rattle.mst_store.specs.Passes.{Known, StoreId}
 use Rattle.mst_sharded_proof.specs.Theorem.{HasShardedRoot}
+use Rattle.std.proofs.lemmas.Option.{same_Some}
+use Rattle.mst_sharded.specs.Shared.{AreOf}
 use Rattle.mst_sharded.specs.Directory.{LacksDirectory, OfClean}
 use Rattle.mst_sharded.specs.Sharding.{Sharding, sharding}
 use Rattle.mst_sharded.proofs.Shares.{found_as, laid_back, lent_kept, updated}
@@ -77,3 +79,18 @@ returns-clause-err g c =
     (arc_value c.self.inside.map).splits c.split_keys.result.now (vec_items c.self.inside.pinned)
     c.as_mut_slice.result.now c.args.self (are g c) (seen g c) c.self.view_is
     c.root_in-told.ensures.err
+
+pub lift_pins-pins-requires-clause-own : goal.lift_pins-pins-requires-clause-own
+lift_pins-pins-requires-clause-own g c =
+    let are : c.shard_stores.result.now ≡ (arc_value c.self.inside.map).stores = search rules in
+    subst (λ (l : List StoreId). AreOf l (vec_items c.self.inside.pinned)) (sym are)
+    c.self.invariant.0.own
+
+pub lift-list-requires : goal.lift-list-requires
+lift-list-requires g c =
+    let got : slice_get (arc_value c.self.inside.map).directories c.self.inside.number
+    ≡ Some c.directory_store.result.now = search rules in
+    record {
+      own = same_Some c.self.inside.directory.pass.store c.directory_store.result.now
+          (sym c.self.invariant.0.directory ∙ got);
+    }

@@ -2,8 +2,8 @@ use Rattle.std.proofs.Common.{◌≡◌, ◌≤◌, ◌<◌, ◌∙◌, List, le
 use Rattle.std.specs.Arc.{arc_value}
 use Rattle.std.specs.Option.{option_map}
 use Rattle.std.specs.Prelude.{Option, Some, slice_get}
-use Rattle.mst_store.specs.Passes.{Known}
-use Rattle.mst_sharded.specs.Shared.{KeepsPins}
+use Rattle.mst_store.specs.Passes.{Known, StoreId}
+use Rattle.mst_sharded.specs.Shared.{KeepsPins, AreOf}
 use Rattle.mst_sharded.specs.Sharding.{Sharding, sharding}
 use Rattle.mst_sharded.proofs.Shares.{stayed, there_at, none_at}
 use Rattle.mst_sharded.proofs.shared.SharedSnapshot.version_at.Given.{Over}
@@ -63,3 +63,9 @@ returns-then-shard-len-clause-version g c =
     (sym (none_at ps c.args.shard (omega (arith, before_it, test))))
     ∙ ap (λ (h : Sharding). option_map (λ x. length x.seen) (slice_get h.shards c.args.shard))
     c.self.view_is
+
+pub lift_pin_at-pinned-requires-clause-own : goal.lift_pin_at-pinned-requires-clause-own
+lift_pin_at-pinned-requires-clause-own g c =
+    let are : c.shard_stores.result.now ≡ (arc_value c.self.inside.map).stores = search rules in
+    subst (λ (l : List StoreId). AreOf l (vec_items c.self.inside.pinned)) (sym are)
+    c.self.invariant.0.own
