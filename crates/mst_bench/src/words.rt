@@ -2,7 +2,6 @@
 use crate::kinds::{self, Kind};
 use crate::shards;
 use mst_key::Format;
-use std::{env, io};
 
 /// What the words ask for.
 #[derive(Clone, Copy)]
@@ -50,10 +49,10 @@ const LOAD: &str = "load";
 
 /// How the program is called.
 pub const HELP: &str = "\
-mst_bench KIND KEYS CALLS [1|2]
+mst_cookbook KIND KEYS CALLS [1|2]
   puts so many keys, and makes so many calls of one kind in a store of the format;
   tools/counts counts their instructions
-mst_bench load KEYS CALLS [1|2]
+mst_cookbook load KEYS CALLS [1|2]
   puts so many keys by one batch into an empty store, so many times
 KIND is one of: put, put in batches of N (1, 10, 100, 1000 or 10000; each put is a call),
   remove and put back, version, get, get of a pinned version, next, range of 100, prove, verify,
@@ -121,8 +120,7 @@ fn task_of(words: &[String]) -> Option<Task> {
     }
 }
 
-/// What the command line asks for; help if no words do.
-pub fn asked(rt: &HostRuntime) -> io::Result<Task> {
-    let words: Vec<String> = env::args(rt)?.collect(rt.alloc())?;
-    Ok(task_of(words.as_slice()).unwrap_or(Task::Help))
+/// What the words of the command line ask for; help if they ask for nothing.
+pub fn asked(words: &[String]) -> Task {
+    task_of(words).unwrap_or(Task::Help)
 }

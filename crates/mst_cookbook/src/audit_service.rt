@@ -56,16 +56,6 @@ fn compare(rt: &HostRuntime, root: &[u8; 32], key: &Key, told: Answer) -> Result
     tell(rt, "a forged one", root, key, &forged(told)?)
 }
 
-// The service answers from a version that it pins.
-fn tell_root_and_answer(
-    rt: &HostRuntime,
-    pinned: &mut Pinned<'_, Global>,
-    key: &Key,
-) -> Result<([u8; 32], Answer)> {
-    let told = answer_for(rt.alloc(), pinned, key)?;
-    Ok((pinned.root(), told))
-}
-
 // The service moves on to the version now. The client still has the root digest of the one before.
 fn tell_newer(
     rt: &HostRuntime,
@@ -77,15 +67,21 @@ fn tell_newer(
     tell(rt, "a newer one", root, key, &told)
 }
 
-// The service answers while a writer goes on, and somebody changes the value on the way.
+// The service answers from a version that it pins, and then from the newest one.
+fn serve(rt: &HostRuntime, mut pinned: Pinned<'_, Global>) -> Result<()> {
+    let apple = Key::new(b"apple")?;
+    let answer = answer_for(rt.alloc(), &mut pinned, &apple)?;
+    let root = pinned.root();
+    compare(rt, &root, &apple, answer)?;
+    tell_newer(rt, pinned.unpin(), &root, &apple)
+}
+
+// A writer goes on while the service has a version pinned.
 fn show(rt: &HostRuntime, mut writer: Pass<'_, Global>, reader: Pass<'_, Global>) -> Result<()> {
     put(&mut writer, "apple", "30")?;
-    let apple = Key::new(b"apple")?;
-    let mut pinned = reader.pin();
+    let pinned = reader.pin();
     put(&mut writer, "apple", "35")?;
-    let (root, told) = tell_root_and_answer(rt, &mut pinned, &apple)?;
-    compare(rt, &root, &apple, told)?;
-    tell_newer(rt, pinned.unpin(), &root, &apple)
+    serve(rt, pinned)
 }
 
 pub fn run(rt: &HostRuntime) -> Result<()> {

@@ -1,7 +1,7 @@
 //! A replica that was away takes over what it lacks of another, by one batch.
-use crate::sharing::one_pass;
+use crate::sharing::{one_pass, put_users};
 use anyhow::Result;
-use mst_key::{Edit, Format, Key, Value};
+use mst_key::{Edit, Format, Value};
 use mst_store::{MOST_ROWS, Pass, Pinned, Shape, Store};
 use std::alloc::Global;
 
@@ -10,22 +10,6 @@ const SHAPE: Shape = Shape {
     passes: 1,
     format: Format::One,
 };
-
-// Puts the number itself at its key.
-fn put_number(rt: &HostRuntime, pass: &mut Pass<'_, Global>, number: u32) -> Result<()> {
-    let name = format!(in rt.alloc(); "key {number}")?;
-    let value = Value::new(&number.to_be_bytes())?;
-    pass.try_put(&Key::new(name.as_bytes())?, &value)?;
-    Ok(())
-}
-
-// Does so with some numbers.
-fn fill(rt: &HostRuntime, pass: &mut Pass<'_, Global>, from: u32, to: u32) -> Result<()> {
-    for number in from..to {
-        put_number(rt, pass, number)?;
-    }
-    Ok(())
-}
 
 // Adds a put for each pair of theirs that we do not have.
 fn add_puts(
@@ -99,8 +83,9 @@ fn tell(
 
 // Lets theirs go on without us, and catches up.
 fn show(rt: &HostRuntime, mut ours: Pass<'_, Global>, mut theirs: Pass<'_, Global>) -> Result<()> {
-    fill(rt, &mut ours, 0, 100)?;
-    fill(rt, &mut theirs, 10, 130)?;
+    let value = Value::new(b"new")?;
+    put_users(rt.alloc(), &mut ours, 0..100, &value)?;
+    put_users(rt.alloc(), &mut theirs, 10..130, &value)?;
     tell(rt, &mut ours, &mut theirs.pin())
 }
 

@@ -1,10 +1,9 @@
 //! Two replicas: whether their maps are equal, and at which keys they differ.
-use crate::sharing::{one_pass, put_each};
+use crate::sharing::{one_pass, put_each, text};
 use anyhow::Result;
 use mst_key::{Format, Key};
 use mst_store::{MOST_ROWS, Pass, Pinned, Shape, Store};
 use std::alloc::Global;
-use std::str;
 
 const SHAPE: Shape = Shape {
     rows: 100,
@@ -14,7 +13,7 @@ const SHAPE: Shape = Shape {
 
 // Prints a key at which a replica differs.
 fn tell_key(rt: &HostRuntime, name: &str, key: &Key) -> Result<()> {
-    let fruit = str::from_utf8(key.bytes())?;
+    let fruit = text(key.bytes());
     println!(rt; "differs in {name}: {fruit}")?;
     Ok(())
 }

@@ -1,7 +1,8 @@
 //! The recipes of `docs/COOKBOOK.md` in Rattle, one file for each, run in the order of the page.
 //! Each is whole: it opens its stores itself, and prints what it found.
 //!
-//! `rt run` in this folder proves them and runs them; `rt try` runs them unproved.
+//! `rt run` in this folder proves them and runs them; `rt try` runs them unproved. With words on
+//! its command line the program makes the calls of `mst_bench` in their place.
 #![tactic(auto)]
 
 mod audit_service;
@@ -18,6 +19,7 @@ mod sharing;
 mod writer_and_readers;
 
 use anyhow::Result;
+use std::env;
 use std::sync::Wait;
 use std::thread::Threads;
 
@@ -37,10 +39,19 @@ fn run_middle(rt: &HostRuntime) -> Result<()> {
     batch::run(rt)
 }
 
+// Runs all.
+fn run_all<T: Threads + Wait + Sync>(rt: &HostRuntime, threads: &T) -> Result<()> {
+    run_first(rt, threads)?;
+    run_middle(rt)?;
+    sharded::run(rt)?;
+    refusals::run(rt, threads)?;
+    audit_service::run(rt)
+}
+
 fn main(rt: HostRuntime) -> Result<()> {
-    run_first(&rt, &rt)?;
-    run_middle(&rt)?;
-    sharded::run(&rt)?;
-    refusals::run(&rt, &rt)?;
-    audit_service::run(&rt)
+    let words: Vec<String> = env::args(&rt)?.collect(rt.alloc())?;
+    if words.len() > 1 {
+        return Ok(mst_bench::run(&rt, words.as_slice())?);
+    }
+    run_all(&rt, &rt)
 }

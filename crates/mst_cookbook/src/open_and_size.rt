@@ -1,7 +1,7 @@
 //! Opens a store for 1,000 keys, puts them, and asks how many rows they take.
-use crate::sharing::one_pass;
+use crate::sharing::{one_pass, put_users};
 use anyhow::{Error, Result};
-use mst_key::{Format, Key, Value};
+use mst_key::{Format, Value};
 use mst_store::{Pass, Shape, Store};
 use std::alloc::Global;
 
@@ -23,21 +23,6 @@ const SHAPE: Shape = Shape {
     format: Format::One,
 };
 
-// The key of a user.
-fn key_of(alloc: Global, number: u32) -> Result<Key> {
-    let name = format!(in alloc; "user {number}")?;
-    Ok(Key::new(name.as_bytes())?)
-}
-
-// Puts each key.
-fn fill(alloc: Global, pass: &mut Pass<'_, Global>) -> Result<()> {
-    let value = Value::new(b"new")?;
-    for number in 0..KEYS {
-        pass.try_put(&key_of(alloc, number)?, &value)?;
-    }
-    Ok(())
-}
-
 // Prints how many rows are taken. Another pass could have the turn, or pin.
 fn tell_rows(rt: &HostRuntime, pass: &mut Pass<'_, Global>) -> Result<()> {
     let Some(taken) = pass.rows()? else {
@@ -50,7 +35,7 @@ fn tell_rows(rt: &HostRuntime, pass: &mut Pass<'_, Global>) -> Result<()> {
 
 // Fills the store, and asks.
 fn show(rt: &HostRuntime, mut pass: Pass<'_, Global>) -> Result<()> {
-    fill(rt.alloc(), &mut pass)?;
+    put_users(rt.alloc(), &mut pass, 0..KEYS, &Value::new(b"new")?)?;
     tell_rows(rt, &mut pass)
 }
 

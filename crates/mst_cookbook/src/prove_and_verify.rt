@@ -1,11 +1,10 @@
 //! Proves answers of one version, and checks them by the root digest alone.
-use crate::sharing::{one_pass, put};
+use crate::sharing::{one_pass, put, text};
 use anyhow::Result;
 use mst_key::{Format, Key};
 use mst_proof::verify_in;
 use mst_store::{Pass, Pinned, Shape, Store};
 use std::alloc::Global;
-use std::str;
 
 const SHAPE: Shape = Shape {
     rows: 100,
@@ -16,15 +15,12 @@ const SHAPE: Shape = Shape {
 // What somebody finds who has the root digest and its format from where he trusts it, and the proof
 // from anybody.
 fn check(rt: &HostRuntime, format: Format, root: &[u8; 32], key: &Key, proof: &[u8]) -> Result<()> {
-    match verify_in(format, root, key, proof) {
-        Ok(Some(value)) => {
-            let text = str::from_utf8(value.bytes())?;
-            println!(rt; "proved: the value is {text}")?;
-        }
-        Ok(None) => println!(rt; "proved: there is no such key")?,
-        Err(_) => println!(rt; "nothing is proved")?,
-    }
-    Ok(())
+    let printed = match verify_in(format, root, key, proof) {
+        Ok(Some(value)) => println!(rt; "proved: the value is {}", text(value.bytes())),
+        Ok(None) => println!(rt; "proved: there is no such key"),
+        Err(_) => println!(rt; "nothing is proved"),
+    };
+    Ok(printed?)
 }
 
 // Proves an answer, and has it checked: format, root digest and proof are of one version.

@@ -1,10 +1,9 @@
 //! A report of one version, while a writer goes on.
-use crate::sharing::{put_each, two_passes};
+use crate::sharing::{put_each, text, two_passes};
 use anyhow::Result;
 use mst_key::{Format, Key, Value};
 use mst_store::{Pass, Pinned, Shape, Store};
 use std::alloc::Global;
-use std::str;
 
 const SHAPE: Shape = Shape {
     rows: 100,
@@ -14,7 +13,7 @@ const SHAPE: Shape = Shape {
 
 // Prints an account.
 fn tell(rt: &HostRuntime, key: &Key, value: &Value) -> Result<()> {
-    let (name, amount) = (str::from_utf8(key.bytes())?, str::from_utf8(value.bytes())?);
+    let (name, amount) = (text(key.bytes()), text(value.bytes()));
     println!(rt; "  {name} {amount}")?;
     Ok(())
 }

@@ -1,11 +1,11 @@
 //! More keys than a store has rows for: a map of three shards, with one root digest.
+use crate::sharing::text;
 use anyhow::{Error, Result};
 use mst_key::{Format, Key, Value};
 use mst_sharded::{Handle, Sharded, Snapshot};
 use mst_sharded_proof::verify_sharded;
 use mst_store::Shape;
 use std::alloc::Global;
-use std::str;
 
 /// Of each shard.
 const SHAPE: Shape = Shape {
@@ -23,14 +23,14 @@ fn put(handle: &mut Handle<'_, Global, Global>, fruit: &str, price: &str) -> Res
 
 // Prints what somebody finds who has the root digest of all shards, and a proof.
 fn tell(rt: &HostRuntime, shards: usize, root: &[u8; 32], key: &Key, proof: &[u8]) -> Result<()> {
-    match verify_sharded(Format::One, root, key, proof) {
+    let printed = match verify_sharded(Format::One, root, key, proof) {
         Ok(Some(value)) => {
-            let price = str::from_utf8(value.bytes())?;
-            println!(rt; "{shards} shards; proved: the price of plum is {price}")?;
+            let price = text(value.bytes());
+            println!(rt; "{shards} shards; proved: the price of plum is {price}")
         }
-        _ => println!(rt; "{shards} shards; nothing is proved")?,
-    }
-    Ok(())
+        _ => println!(rt; "{shards} shards; nothing is proved"),
+    };
+    Ok(printed?)
 }
 
 // Proves an answer of a snapshot.

@@ -1,10 +1,12 @@
-//! What the recipes share: the passes of a store, and puts of texts.
+//! What the recipes share: the passes of a store, and texts as keys and values.
 ghost use Rattle.std.specs.Prelude.{◌≡◌};
 
 use anyhow::{Error, Result};
 use mst_key::{Key, Value};
 use mst_store::{Pass, Seats, Store};
 use std::alloc::Global;
+use std::ops::Range;
+use std::str;
 
 /// All passes of a store.
 pub fn all_passes<'a>(
@@ -63,4 +65,28 @@ pub fn put_each(pass: &mut Pass<'_, Global>, pairs: &[(&str, &str)]) -> Result<(
         put(pass, key, value)?;
     }
     Ok(())
+}
+
+// The key of a user.
+fn user(alloc: Global, number: u32) -> Result<Key> {
+    let name = format!(in alloc; "user {number}")?;
+    Ok(Key::new(name.as_bytes())?)
+}
+
+/// Puts a value at the keys of the users with these numbers.
+pub fn put_users(
+    alloc: Global,
+    pass: &mut Pass<'_, Global>,
+    numbers: Range<u32>,
+    value: &Value,
+) -> Result<()> {
+    for number in numbers {
+        pass.try_put(&user(alloc, number)?, value)?;
+    }
+    Ok(())
+}
+
+/// The text of a key or a value.
+pub fn text(bytes: &[u8]) -> &str {
+    str::from_utf8(bytes).unwrap_or("no text")
 }

@@ -1,14 +1,13 @@
 //! Makes calls of a store, so that their instructions can be counted.
 //!
-//! `mst_bench KIND KEYS CALLS [1|2]` puts KEYS keys of 16 bytes with values of 32 into a store
-//! of format 1 or 2, makes CALLS calls of one kind, and prints a line: the kind, the number of
-//! keys and that of calls. `mst_bench load KEYS CALLS [1|2]` makes loads, each in a store of its
-//! own. Some kinds are of a map of 32 shards. With other words it says how it is called. Keys,
-//! values and their order are the same in each run: `tools/counts` counts the instructions of one
-//! call, and `tools/peaks` sees the most memory.
+//! The words `KIND KEYS CALLS [1|2]` ask for a store of format 1 or 2 with KEYS keys of 16 bytes
+//! and values of 32, for CALLS calls of one kind, and for a line: the kind, the number of keys and
+//! that of calls. `load KEYS CALLS [1|2]` asks for loads, each in a store of its own. Some kinds
+//! are of a map of 32 shards. Keys, values and their order are the same in each run: `tools/counts`
+//! counts the instructions of one call, and `tools/peaks` sees the most memory.
 //!
-//! `rt run` in this folder proves and builds it by LLVM, optimised; the executable is then
-//! `out/mst_bench`. `bench/store/run` times the calls from C.
+//! The program that takes these words is `mst_cookbook`: each program is checked with the code of
+//! all crates below it, so there is one for both. `bench/store/run` times the calls from C.
 #![tactic(auto)]
 
 ghost use Rattle.std.specs.Prelude.{◌<◌, ◌≤◌, IfOk, length};
@@ -67,11 +66,18 @@ fn make_sharded(rt: &HostRuntime, of: ShardedCalls) -> io::Result<()> {
     shards::run(rt, &keys, of)
 }
 
-fn main(rt: HostRuntime) -> io::Result<()> {
-    match words::asked(&rt)? {
-        Task::Make(of) => make(&rt, of),
-        Task::Load(of) => load(&rt, of),
-        Task::MakeSharded(of) => make_sharded(&rt, of),
+/// Makes the calls that the words of the command line ask for, of which the first is the program's
+/// name. To other words it says how it is called.
+///
+/// # Errors
+///
+/// `InvalidInput` for more keys than a store has rows, `OutOfMemory` if there is no memory, another
+/// kind if a call was refused or a line could not be printed.
+pub fn run(rt: &HostRuntime, words: &[String]) -> io::Result<()> {
+    match words::asked(words) {
+        Task::Make(of) => make(rt, of),
+        Task::Load(of) => load(rt, of),
+        Task::MakeSharded(of) => make_sharded(rt, of),
         Task::Help => println!(rt; "{HELP}"),
     }
 }
