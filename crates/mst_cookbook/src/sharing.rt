@@ -86,7 +86,7 @@ pub fn put_users(
     Ok(())
 }
 
-/// The text of a key or a value.
+/// The text of a key or a value; `no text` for bytes that spell none.
 pub fn text(bytes: &[u8]) -> &str {
     str::from_utf8(bytes).unwrap_or("no text")
 }
