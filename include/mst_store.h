@@ -1,12 +1,17 @@
 /*
- * The store, for C: an in-memory ordered map of short keys and values, with a root digest, proofs,
- * and versions that stay readable while they are pinned.
+ * The store, for C: an in-memory, multi-version ordered map of short keys and values. Each version
+ * has a root digest, its Merkle root, against which a verifier checks a proof of inclusion or of
+ * absence (mst_verifier.h).
  *
- * A store is used through its passes alone. mst_open makes a store of the empty map and puts a pass
- * into each hand of an array; a thread works through a hand of its own. Reads wait for no one. One
- * pass at a time has the turn to write. Meanwhile a try of another one returns MST_BUSY; mst_put,
- * mst_remove, mst_apply and mst_migrate below wait. The store is freed when its last pass is
- * closed.
+ * A pass is a per-thread handle of a store, and a hand is the struct in which a caller keeps one. A
+ * pin holds an MVCC snapshot: the pinned pass reads one version until it unpins. The turn is the
+ * write lock. A row is a memory cell for one pair or one node of the tree; a store is opened with a
+ * fixed number of them. A room is a buffer of the caller's, into which a call writes its answer.
+ *
+ * mst_open makes a store of the empty map and puts a pass into each hand of an array. Each thread
+ * uses a hand of its own. Reads take no lock and wait for no other thread. One pass at a time has
+ * the turn; meanwhile mst_try_put and its like return MST_BUSY for another pass, while mst_put,
+ * mst_remove, mst_apply and mst_migrate wait. The store is freed when its last pass is closed.
  *
  *     mst_pass passes[2] = {MST_PASS_CLOSED, MST_PASS_CLOSED};
  *     uint8_t old[MST_VALUE_LONGEST], root[MST_ROOT_LENGTH];
@@ -16,6 +21,16 @@
  *     mst_root(&passes[1], root, sizeof root);       // in another thread, say
  *     mst_close(&passes[0]);
  *     mst_close(&passes[1]);                         // the store is gone
+ *
+ * What to know before use; docs/LIMITS.md has figures, and what to do:
+ *   - a put or a remove that returns MST_SHORT_ROOM has been made;
+ *   - a pin keeps the rows of its version. If one is forgotten, writes find no free rows in the end
+ *     and are refused;
+ *   - a thread that ends within a write keeps the turn for good: then no pass of this store writes,
+ *     and reads go on;
+ *   - threads that wait for the turn stand in no line: a writer may starve;
+ *   - keys that an attacker chooses can make a node of the tree large, and with it writes slow and
+ *     proofs long.
  *
  * What a caller owes, and nothing checks:
  *   - a hand is MST_PASS_CLOSED before its first call, and is neither copied nor written by the

@@ -1,9 +1,9 @@
 """Makes the wheel by the standard library alone, as a build backend that pip calls.
 
 The wheel has the package, the licences, libmst_store.so from the folder MST_STORE_DIR or from
-../out, and the module mst_verifier, by which whoever has no store checks its proofs. The Python code
-is of no version of Python, and the library of one platform, so the tag is py3-none-PLATFORM, where
-the platform says which glibc the library needs (PEP 600).
+../out, and the module mst_verifier, by which a program without a store checks its proofs. The
+Python code is of no version of Python, and the library of one platform, so the tag is
+py3-none-PLATFORM, where the platform says which glibc the library needs (PEP 600).
 """
 import base64
 import hashlib
@@ -29,6 +29,12 @@ def _project():
 
 def _field(name):
     return re.search(rf'^{name} = "(.*)"$', _project(), re.MULTILINE).group(1)
+
+
+def _addresses():
+    """The table of addresses, which is there once the repository's address is known."""
+    table = _project().partition("\n[project.urls]\n")[2]
+    return re.findall(r'^(\w+) = "(.*)"$', table, re.MULTILINE)
 
 
 def _list(name):
@@ -67,6 +73,7 @@ def build_wheel(wheel_directory, config_settings=None, metadata_directory=None):
                 f"Summary: {_field('description')}\nRequires-Python: {_field('requires-python')}\n"
                 f"License-Expression: {_field('license')}\n"
                 f"Keywords: {','.join(_list('keywords'))}\n"
+                + "".join(f"Project-URL: {label}, {at}\n" for label, at in _addresses())
                 + "".join(f"Classifier: {it}\n" for it in _list("classifiers"))
                 + "".join(f"License-File: {licence}\n" for licence in LICENCES))
     about = f"Wheel-Version: 1.0\nGenerator: make_wheel\nRoot-Is-Purelib: false\nTag: {tag}\n"

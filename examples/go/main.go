@@ -1,6 +1,6 @@
 // A writer and a reader that pins, in a goroutine each.
 //
-//	make -C bindings && cd tests/store/go && go run ../../../examples/store.go
+//	make -C bindings && cd examples/go && go run .
 package main
 
 import (
