@@ -1,5 +1,6 @@
 """What the tools of this folder share: the crates as the toolchain's command `rt` sees them, and a
 check of one of them."""
+import functools
 import importlib.machinery
 import importlib.util
 import os
@@ -28,8 +29,16 @@ ROOT = subprocess.run(
 ).stdout.strip()
 
 
+def remember_stamps():
+    """Has each crate work out the sum of its texts once: `rt` does so anew for each crate above,
+    which takes minutes at the top."""
+    if not hasattr(rt.rtlib.Crate.stamp, "cache_info"):
+        rt.rtlib.Crate.stamp = functools.lru_cache(maxsize=None)(rt.rtlib.Crate.stamp)
+
+
 def crates_of_root():
     """Returns all crates of the repository, as `rt` reads them."""
+    remember_stamps()
     made = rt.rtlib.Crate.__init__
 
     def make(self, *given, **named):
