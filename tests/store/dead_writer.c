@@ -2,7 +2,8 @@
  * A thread that ends during a write keeps the turn for good. A migration asks for memory while it
  * has the turn; this malloc, which stands before glibc's own, then ends the thread by the system
  * call, so that nothing of the library's is undone. Afterwards each write returns MST_BUSY, and
- * reads, pins and proofs of the other passes go on as before.
+ * reads, pins and proofs of the other passes go on as before. In the end the map moves to a new
+ * store, as docs/OPERATING.md says.
  */
 #include "tests.h"
 #include <pthread.h>
@@ -60,6 +61,32 @@ static void no_write_is_made(void) {
     EXPECT(mst_try_migrate(free_pass, 2) == MST_BUSY);
 }
 
+/* Counts need the turn too. */
+static void no_count_is_told(void) {
+    uint32_t rows = 0;
+    EXPECT(mst_free_rows(free_pass, &rows) == MST_BUSY && mst_rows(free_pass, &rows) == MST_BUSY);
+}
+
+/* The pairs of the pinned version go into a new store, which has its root digest and is written. */
+static void moves_to_a_new_store(void) {
+    uint8_t pairs[2 * MST_PAIR_LONGEST], edits[2 * MST_EDIT_LONGEST], now[32];
+    size_t count = 0, length = 0, edits_length = 0, place = 0;
+    mst_pass fresh = MST_PASS_CLOSED;
+    mst_pair pair;
+    EXPECT(mst_page_after(pinned, NULL, 0, NULL, 0, 2, pairs, sizeof pairs, &count, &length)
+           == MST_OK);
+    for (size_t at = 0; at < length;) {
+        at = mst_pair_at(pairs, at, &pair);
+        edits_length = mst_edit_put(edits, edits_length, pair.key, pair.key_length, pair.value,
+                                    pair.value_length);
+    }
+    EXPECT(mst_open(1, 64, &fresh, 1) == MST_OK);
+    EXPECT(mst_apply(&fresh, edits, edits_length, &place) == MST_OK);
+    EXPECT(mst_root(&fresh, now, sizeof now) == 32 && memcmp(now, root, 32) == 0);
+    EXPECT(mst_put(&fresh, TEXT("c"), TEXT("3"), room, sizeof room) == MST_ABSENT);
+    EXPECT(mst_close(&fresh) == MST_OK);
+}
+
 int main(void) {
     pthread_t thread;
     EXPECT(mst_open(1, 64, passes, 3) == MST_OK);
@@ -75,7 +102,9 @@ int main(void) {
         reads(free_pass);
         EXPECT(mst_unpin(free_pass) == MST_OK);
         no_write_is_made();
+        no_count_is_told();
     }
+    moves_to_a_new_store();
     EXPECT(mst_unpin(pinned) == MST_OK);
     reads(pinned);
     EXPECT(mst_close(free_pass) == MST_OK && mst_close(pinned) == MST_OK);

@@ -1,5 +1,5 @@
 """The pictures of docs/pictures, each by the function that draws it."""
-from . import crates, engines, put, row, sharded, speed, tree, trust, versions
+from . import chosen, crates, engines, put, row, sharded, threads, tree, trust, versions
 
 PICTURES = {
     "tree": tree.picture,
@@ -8,7 +8,8 @@ PICTURES = {
     "row": row.picture,
     "crates": crates.picture,
     "sharded": sharded.picture,
-    "speed": speed.picture,
     "engines": engines.picture,
+    "chosen": chosen.picture,
+    "threads": threads.picture,
     "trust": trust.picture,
 }

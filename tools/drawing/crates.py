@@ -1,48 +1,57 @@
-"""The crates in layers, with an arrow to what each stands on, by crates.txt."""
+"""The crates in their groups, with an arrow to what each stands on, by crates.txt and by the table
+of docs/ARCHITECTURE.md."""
 import os
 import sys
 
-from .canvas import WIDTH, Canvas
+from .canvas import Canvas
+from .groups import LAST, PAGE, told
 from .maps import TOP
 
-# From the highest layer down: its name, and each crate with the middle of its box.
-LAYERS = [
-    (("executable",), {"mst": 880}),
-    (("command line",), {"mst_program": 880}),
-    (("exports for C;", "tasks of programs"), {"mst_exports": 350, "mst_command": 880}),
-    (("sharded maps for C;", "scripts over them"), {
-        "mst_c_sharded": 350, "mst_sharded_script": 670,
+# Each group of the table: its colour, where it begins and ends from left to right, and each crate
+# with its layer, from 0 at the bottom, and the middle of its box.
+GROUPS = {
+    "maps and their trees": ("#fff2cc", 440, 770, {
+        "mst_key": (0, 600), "mst_node": (1, 600), "mst_prefix": (2, 560),
     }),
-    (("for C; scripts, loads;", "sharded maps"), {
-        "mst_load": 770, "mst_script": 1030, "mst_sharded": 350, "mst_c": 540,
+    "verifiers": ("#d5ecc2", 20, 388, {
+        "mst_proof": (3, 210), "mst_sharded_proof": (4, 210), "mst_verifier": (5, 110),
+        "mst_report": (5, 300),
     }),
-    (("the store",), {"mst_store": 690}),
-    (("versions, read and", "made by a seat"), {"mst_versions": 690}),
-    (("the shared table;", "batches; replays"), {
-        "mst_verifier": 262, "mst_report": 440, "mst_batch": 590, "mst_words": 750,
-        "mst_replay": 930,
+    "trees in rows": ("#ffdfc6", 414, 826, {
+        "mst_arena": (3, 540), "mst_change": (3, 740), "mst_path": (4, 706), "mst_read": (4, 500),
+        "mst_batch": (5, 555),
     }),
-    (("verifiers; trees in", "rows; pins"), {
-        "mst_sharded_proof": 348, "mst_read": 600, "mst_path": 783, "mst_pin": 930,
+    "the core of pins": ("#e3d6ee", 842, 1022, {"mst_pin": (4, 930), "mst_replay": (5, 930)}),
+    "the store": ("#c8def2", 414, 826, {
+        "mst_words": (6, 706), "mst_versions": (7, 640), "mst_store": (8, 640),
     }),
-    (("proofs; rows;", "changes; requests"), {
-        "mst_proof": 366, "mst_arena": 640, "mst_change": 840, "mst_requests": 1090,
+    "sharded maps": ("#bfe6e2", 366, 560, {"mst_sharded": (9, 462)}),
+    "the store for C": ("#f8d0d0", 20, 330, {
+        "mst_c": (9, 110), "mst_c_sharded": (10, 210), "mst_exports": (11, 210),
     }),
-    (("hashes that are kept",), {"mst_prefix": 620}),
-    (("trees, digests; lines",), {"mst_node": 610, "mst_lines": 1090}),
-    (("keys, maps; devices",), {"mst_key": 610, "mst_devices": 1090}),
-]
-TESTS = {
-    "mst_tree_tests",
-    "mst_batch_tests",
-    "mst_store_tests",
-    "mst_sharded_tests",
-    "mst_program_tests",
+    "lines of text": ("#e2e2e2", 1010, 1184, {
+        "mst_devices": (0, 1098), "mst_lines": (1, 1098), "mst_requests": (2, 1098),
+    }),
+    "the program": ("#e6d8cf", 590, 1100, {
+        "mst_load": (9, 800), "mst_script": (9, 1016), "mst_sharded_script": (10, 700),
+        "mst_command": (11, 870), "mst_program": (12, 870), "mst": (13, 870),
+    }),
 }
-NOT_DRAWN = {"mst_bench", "mst_cookbook", *TESTS}
 FOR_C = {"mst_verifier", "mst_c", "mst_c_sharded", "mst_exports"}
-BENT = {("mst_command", "mst_report")}
-BOX, HIGH, FIRST, APART = 140, 36, 30, 82
+# Arrows that go round other crates: the corner between their two straight parts, as the places from
+# left to right and the crate at whose height it is.
+BENT = {
+    ("mst_command", "mst_report"): (347, "mst_command"),
+    ("mst_sharded", "mst_sharded_proof"): (401, "mst_sharded_proof"),
+}
+BOX, HIGH, FIRST, APART = 140, 36, 44, 88
+LAYERS = 14
+# From a crate's box to the edge of its group: where its name stands, and elsewhere.
+NAMED, EDGE = 32, 10
+# Names stand above the crates, but where arrows pass: those that stand below them, beside the
+# highest one, and with more space.
+LOW = {"maps and their trees", "the core of pins", "lines of text"}
+BESIDE, HIGHER = "the store", "sharded maps"
 
 
 def width(name):
@@ -72,60 +81,90 @@ def arrows(crates):
                 yield name, one
 
 
-def places(crates):
+def top_of(layer):
+    """Where the boxes of a layer begin."""
+    return FIRST + (LAYERS - 1 - layer) * APART
+
+
+def places():
     """The middle and the top of each crate's box."""
-    found = {}
-    for layer, (_, boxes) in enumerate(LAYERS):
-        for name, middle in boxes.items():
-            found[name] = (middle, FIRST + layer * APART)
-    wrong = set(crates) ^ (set(found) | NOT_DRAWN)
-    if wrong:
-        sys.exit(f"tools/drawing/crates.py lacks or invents {wrong}")
-    return found
+    return {
+        name: (middle, top_of(layer))
+        for _, _, _, boxes in GROUPS.values()
+        for name, (layer, middle) in boxes.items()
+    }
+
+
+def see_that_groups_are_the_pages():
+    """Refuses groups that are not those of the page's table."""
+    table = {name: set(crates) for name, (crates, _) in told().items() if name != LAST}
+    drawn = {name: set(boxes) for name, (_, _, _, boxes) in GROUPS.items()}
+    if table != drawn:
+        sys.exit(f"tools/drawing/crates.py has other groups than {PAGE}")
+
+
+def edges(name, boxes):
+    """Where a group begins and ends from top to bottom."""
+    layers = [layer for layer, _ in boxes.values()]
+    above = {BESIDE: EDGE, HIGHER: NAMED + 16}.get(name, EDGE if name in LOW else NAMED)
+    low = top_of(min(layers)) + HIGH + (NAMED if name in LOW else EDGE)
+    return top_of(max(layers)) - above, low
+
+
+def draw_groups(canvas):
+    for name, (colour, left, right, boxes) in GROUPS.items():
+        top, bottom = edges(name, boxes)
+        canvas.box(left, top, right - left, bottom - top, None, colour, 10)
+        x, y = left + 12, bottom - 11 if name in LOW else top + 21
+        if name == BESIDE:
+            layer, middle = max(boxes.values())
+            x, y = middle + BOX / 2 + 14, top_of(layer) + HIGH / 2 + 6
+        canvas.text(x, y, name, 16, bold=True, within=right - x - 8)
+
+
+def draw_bent(canvas, name, below, where):
+    """An arrow over a corner: it leaves sideways and ends from above, or the other way round."""
+    (x, y), (to_x, to_y) = where[name], where[below]
+    corner, at = BENT[name, below]
+    across = where[at][1] + HIGH / 2
+    if at == name:
+        points = [(x - width(name) / 2, across), (corner, across), (corner, to_y)]
+    else:
+        points = [(corner, y + HIGH), (corner, across), (to_x + width(below) / 2, across)]
+    canvas.line(points, arrow=True)
 
 
 def draw_arrows(canvas, crates, where):
     for name, below in arrows(crates):
-        if name in NOT_DRAWN:
+        if name not in where:
             continue
         (x, y), (to_x, to_y) = where[name], where[below]
         if to_y <= y:
             sys.exit(f"{name} has to be above {below}")
         if (name, below) in BENT:
-            across = y + HIGH / 2
-            canvas.line([(x - width(name) / 2, across), (to_x, across), (to_x, to_y)], arrow=True)
+            draw_bent(canvas, name, below, where)
         else:
             aside = max(-50, min(50, (to_x - x) / 6))
             canvas.line([(x + aside, y + HIGH), (to_x - aside, to_y)], arrow=True)
 
 
-def draw_layers(canvas):
-    for layer, (label, _) in enumerate(LAYERS):
-        top = FIRST + layer * APART
-        if layer % 2 == 0:
-            canvas.box(0, top - 22, WIDTH, APART, None, "#eeeeee")
-        for number, line in enumerate(label):
-            canvas.text(12, top + 33 - 10 * len(label) + 20 * number, line, 15, within=186)
-
-
 def picture():
-    crates = stands_on()
-    where = places(crates)
-    height = FIRST + len(LAYERS) * APART + 66
-    canvas = Canvas("crates", "The crates in layers, with arrows to what each stands on", height)
-    draw_layers(canvas)
-    top = where["mst_verifier"][1] - 38
-    canvas.box(184, top, 368, 2 * APART + HIGH + 50, "dashed", "none", 10)
-    for number, line in enumerate(("they stand", "on no store")):
-        canvas.text(444, top + 218 + 20 * number, line, 15, bold=True)
-    draw_arrows(canvas, crates, where)
+    see_that_groups_are_the_pages()
+    where = places()
+    low = top_of(0) + HIGH + 68
+    canvas = Canvas("crates", "The crates in groups, with arrows to what each stands on", low + 74)
+    draw_groups(canvas)
+    draw_arrows(canvas, stands_on(), where)
     for name, (x, y) in where.items():
         size = 17 if len(name) < 13 else 15
-        canvas.box(x - width(name) / 2, y, width(name), HIGH, "thick" if name in FOR_C else "thin")
+        style = "thick" if name in FOR_C else "thin"
+        canvas.box(x - width(name) / 2, y, width(name), HIGH, style, "white")
         canvas.text(x, y + 24, name, size, "middle", code=True, within=width(name) - 6)
-    low = FIRST + len(LAYERS) * APART + 8
-    says = "Thick: the libraries for C. An arrow is left out where others lead the same way."
-    canvas.text(12, low, says, 16)
-    says = "Not drawn: crates of tests; and mst_bench and mst_cookbook above."
-    canvas.text(12, low + 28, says, 16)
+    for number, line in enumerate((
+        "A colour is a group. An arrow leads to what a crate stands on; it is left out where others"
+        " lead the same way.",
+        "Thick: the libraries for C. No arrow leads from the verifiers to the store.",
+        "Not drawn: crates of tests, mst_bench and mst_cookbook, which stand at the top.",
+    )):
+        canvas.text(20, low + 28 * number, line, 16)
     return canvas

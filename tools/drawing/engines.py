@@ -2,7 +2,7 @@
 from docs/pictures/engines.tsv."""
 from .canvas import Canvas
 from .curves import Plot, apart, scale
-from .figures import CALLS, figures
+from .figures import CALLS, figures, see_that_the_page_tells_them
 
 LEFT, ACROSS, NEXT, UPPER, LOWER = 104, 250, 368, 92, 542
 PANELS = ["put", "get", "range"]
@@ -34,6 +34,7 @@ def draw_panel(canvas, plot, title, engines):
 
 
 def picture():
+    see_that_the_page_tells_them()
     found = {call: figures()[call] for call in PANELS}
     points = [it for engines in found.values() for each in engines.values() for it in each.items()]
     keys, times = [keys for keys, _ in points], scale([time for _, time in points])

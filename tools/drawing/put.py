@@ -1,7 +1,7 @@
 """A put while a reader pins: the words of the table, step by step as in docs/PROTOCOL.md."""
 from .canvas import TINT, WIDTH, Canvas
 
-READER, WRITER = 2, 1  # passes
+READER, WRITER = 3, 1  # passes
 ASKED = (1, 2, 3)  # records; the version goes into the last one that is found drained
 LEFT = {
     "step": 52, "turn": 476, "slot": 548, "current": 640, "done": 800, "record": 908, "pins": 1096,
@@ -12,17 +12,20 @@ HEADS = {
     "pins": ("who pins", "record 0"),
 }
 FIRST, APART = 96, 38
-CAPTION = [
-    "From its pin to its unpin (thick line) pass 2 reads record 0 and the rows of its version."
-    " No step changes them.",
-    "current: the number of the current record, and a mask of pins in which pass 2 has the bit 2."
-    " Boxed: the step changed it.",
-]
 
 
 def mask(number):
     """The mask of a pass: pass p has bit p - 1."""
     return 1 << (number - 1)
+
+
+BIT = mask(READER)
+CAPTION = [
+    f"From its pin to its unpin (thick line) pass {READER} reads record 0 and the rows of its"
+    " version. No step changes them.",
+    "current: the current record's number, and a mask of pins: bits 1, 2, 4 for passes 1, 2, 3."
+    " Boxed: changed by the step.",
+]
 
 
 class Table:
@@ -60,17 +63,17 @@ class Table:
 
 
 STEPS = [
-    (READER, "pins: xor of 2 into current", Table.pin),
+    (READER, f"pins: xor of {BIT} into current", Table.pin),
     (WRITER, "takes the turn: compare-exchange", lambda it: setattr(it, "turn", WRITER)),
     (WRITER, "takes the desk: exchange", lambda it: setattr(it, "slot", "empty")),
     (WRITER, "asks records 1, 2 and 3; sweeps", None),
     (WRITER, "copies the path into free rows", lambda it: setattr(it, "record", "rows stored")),
     (WRITER, "stores the record's seven words", lambda it: setattr(it, "record", "record stored")),
-    (WRITER, "publishes: swap, returns the mask 2", Table.publish),
-    (WRITER, "transfers: xor of 2 into done", Table.transfer),
+    (WRITER, f"publishes: swap, returns the mask {BIT}", Table.publish),
+    (WRITER, f"transfers: xor of {BIT} into done", Table.transfer),
     (WRITER, "returns the desk: exchange", lambda it: setattr(it, "slot", "desk")),
     (WRITER, "gives the turn: store of 0", lambda it: setattr(it, "turn", 0)),
-    (READER, "unpins: xor of 2 into done", Table.unpin),
+    (READER, f"unpins: xor of {BIT} into done", Table.unpin),
 ]
 
 

@@ -1,0 +1,124 @@
+"""Keys that an attacker chooses: the tree that they make, and what calls then take, from
+docs/pictures/chosen.tsv, by bench/limits/run."""
+import os
+import sys
+
+from .canvas import INK, TINT, Canvas
+from .curves import Plot, apart, scale
+from .maps import TOP
+
+LEFT, ACROSS, NEXT, UPPER, LOWER = 104, 196, 372, 362, 702
+# What is drawn from left to right, what it is called, and by how much its figures are divided.
+PANELS = [
+    ("put", "put of a new value, microseconds", 1_000),
+    ("get", "get, microseconds", 1_000),
+    ("proof bytes", "a proof, kilobytes", 1_000),
+]
+LOOKS = {
+    "chosen": ("thick", "square", "chosen"),
+    "tagged": ("dashed", "diamond", "with a tag"),
+    "random": ("thin", "disc", "random"),
+}
+LAYERS = 3
+CELL, HIGH, TREE = 20, 26, 84
+CAPTION = [
+    "Such keys are easy to find: of four random keys three have a SHA-256 that begins with no digit"
+    " 0 in either format.",
+    "A tag at the end of each key, made by a secret, makes them random again; so does a hash by a"
+    " secret, in place of the key.",
+]
+
+
+def figures():
+    """For each call and kind of keys the figures, by numbers of keys."""
+    found = {}
+    with open(os.path.join(TOP, "docs", "pictures", "chosen.tsv"), encoding="ascii") as lines:
+        for line in list(lines)[1:]:
+            kind, call, keys, figure = line.rstrip("\n").split("\t")
+            found.setdefault(call, {}).setdefault(kind, {})[int(keys)] = int(figure)
+    return found
+
+
+def shown(nanoseconds):
+    """A time in microseconds as the page has it."""
+    return f"{float(f'{nanoseconds / 1000:.3g}'):,.10g}"
+
+
+def see_that_the_page_tells_them(found):
+    """Refuses figures of which docs/LIMITS.md has others."""
+    with open(os.path.join(TOP, "docs", "LIMITS.md"), encoding="utf-8") as file:
+        page = file.read()
+    for call, kinds in found.items():
+        for keys in sorted(kinds["random"]):
+            each = [kinds[kind][keys] for kind in ("random", "chosen", "tagged", "hashed")]
+            cells = [f"{it:,}" if call == "proof bytes" else shown(it) for it in each]
+            if f"| {' | '.join(cells)} |" not in page:
+                sys.exit(f"docs/LIMITS.md has other figures of {call} at {keys:,} keys than "
+                         "docs/pictures/chosen.tsv")
+
+
+def draw_node(canvas, middle, top, entries, style="thin"):
+    """A node: a cell for each entry."""
+    for place in range(entries):
+        canvas.box(middle + (place - entries / 2) * CELL, top, CELL, HIGH, style)
+
+
+def draw_random_tree(canvas, left, right):
+    """A tree of three layers."""
+    middle, apart_by = (left + right) / 2, (right - left) / 3
+    tops = [TREE + 60 * layer for layer in range(LAYERS)]
+    draw_node(canvas, middle, tops[0], 2)
+    lower = [middle + (place - 1) * apart_by for place in range(3)]
+    for place, x in enumerate(lower):
+        start = middle + (place - 1) * CELL
+        canvas.line([(start, tops[0] + HIGH), (x, tops[1])], arrow=True)
+        draw_node(canvas, x, tops[1], 1)
+        for side in (-1, 1):
+            leaf = x + side * apart_by / 4
+            canvas.line([(x + side * CELL / 2, tops[1] + HIGH), (leaf, tops[2])], arrow=True)
+            draw_node(canvas, leaf, tops[2], 3)
+
+
+def draw_trees(canvas):
+    canvas.text(24, 40, "random keys: many nodes, of some 16 entries each", 17, bold=True)
+    draw_random_tree(canvas, 24, 560)
+    canvas.text(640, 40, "chosen keys: one node has all of them", 17, bold=True)
+    draw_node(canvas, 904, TREE + 120, 26, "thick")
+    for number, line in enumerate((
+        "A put copies each entry of the nodes on its path, and",
+        "hashes their texts. A proof has the whole texts. A get",
+        "passes the entries before its key, one after the other.",
+    )):
+        canvas.text(640, 72 + 24 * number, line, 16)
+    canvas.text(24, TREE + 186, "A path: a few short nodes.", 16)
+    canvas.text(640, TREE + 186, "A path: the whole map.", 16)
+
+
+def draw_panel(canvas, place, title, kinds, divided):
+    """The curves of one figure, with their names where they end."""
+    points = {kind: {keys: it / divided for keys, it in kinds[kind].items()} for kind in LOOKS}
+    numbers = sorted(points["random"])
+    high = scale([it for each in points.values() for it in each.values()])
+    plot = Plot(canvas, place, (numbers[0], numbers[-1]), high, 20)
+    plot.draw_times()
+    plot.draw_keys(numbers, 1_000)
+    canvas.text(plot.left - 70, UPPER - 24, title, 17, bold=True)
+    canvas.text((plot.left + plot.right) / 2, LOWER + 60, "thousands of keys", 17, "middle")
+    ends = [plot.draw_curve(points[it].items(), LOOKS[it][:2], 6)[-1] for it in LOOKS]
+    for kind, (x, y), level in zip(LOOKS, ends, apart([y for _, y in ends], 22)):
+        canvas.line([(x + 12, y), (plot.right + 6, level)], "faint")
+        name = LOOKS[kind][2]
+        canvas.text(plot.right + 10, level + 6, name, 16, bold=kind == "chosen")
+
+
+def picture():
+    found = figures()
+    see_that_the_page_tells_them(found)
+    canvas = Canvas("chosen", "Keys that an attacker chooses: one node has all of them", 844)
+    draw_trees(canvas)
+    for number, (call, title, divided) in enumerate(PANELS):
+        left = LEFT + number * NEXT
+        draw_panel(canvas, (left, left + ACROSS, UPPER, LOWER), title, found[call], divided)
+    for number, line in enumerate(CAPTION):
+        canvas.text(20, 800 + 26 * number, line, 16)
+    return canvas

@@ -1,0 +1,114 @@
+"""Calls a second by the number of threads, of readers and of writers of one store, from
+docs/pictures/threads.tsv, by bench/store/run."""
+import os
+import sys
+
+from .canvas import INK, TINT, Canvas
+from .figures import row
+from .maps import TOP
+
+UPPER, LOWER = 96, 470
+# For readers and writers: where their columns begin and end from left to right, what is counted,
+# in which unit, and for each way of theirs what it is called, in the table of docs/STORE_C.md too.
+PANELS = {
+    "readers": (92, 640, "gets a second, in millions", 1_000_000, {
+        "held": ("of a pinned version", INK),
+        "newest": ("of the newest version", TINT),
+        "beside": ("of the newest version, while another thread puts", "white"),
+    }),
+    "writers": (744, 1184, "puts a second, in thousands", 1_000, {
+        "put": ("`mst_put`", INK),
+        "mutex": ("a mutex around `mst_try_put`", TINT),
+    }),
+}
+CAPTION = [
+    "One store of 1,000 keys, a pass for each thread, four processors. A get of the newest version"
+    " pins and unpins it,",
+    "by two steps on words that all threads share; where a pin is kept, a get makes none. Writers take"
+    " turns, so more",
+    "of them make no more puts. Below a column: of readers the processor time of a get, as a multiple"
+    " of a lone",
+    "reader's; of writers the puts of the slowest one as a part of the fastest one's.",
+]
+
+
+def figures():
+    """For readers and writers, by way and number of threads: calls a second, and what stands in
+    brackets in the table."""
+    found = {who: {} for who in PANELS}
+    with open(os.path.join(TOP, "docs", "pictures", "threads.tsv"), encoding="ascii") as lines:
+        for line in list(lines)[1:]:
+            who, how, threads, calls, beside = line.rstrip("\n").split("\t")
+            found[who].setdefault(how, {})[int(threads)] = (int(calls), beside)
+    return found
+
+
+def see_that_the_page_tells_them(found):
+    """Refuses figures of which docs/STORE_C.md has other rows."""
+    with open(os.path.join(TOP, "docs", "STORE_C.md"), encoding="utf-8") as file:
+        page = file.read()
+    for who, (_, _, _, _, ways) in PANELS.items():
+        for how, each in found[who].items():
+            cells = [f"{calls:,} ({beside})" for calls, beside in each.values()]
+            if row(ways[how][0], *cells) not in page:
+                sys.exit(f"docs/STORE_C.md has other figures of {who} ({how}) than threads.tsv")
+
+
+# Where a scale may end: numbers whose quarters are short.
+ENDS = (1, 1.2, 1.6, 2, 2.4, 3.2, 4, 6, 8, 10)
+
+
+def end_of(number):
+    """Where a scale ends that has a number on it."""
+    power = 10 ** (len(str(int(number))) - 1)
+    return next(it * power for it in ENDS if it * power >= number)
+
+
+def draw_scale(canvas, left, right, most, unit):
+    """Lines across, at four parts of the greatest number."""
+    for part in range(5):
+        y = LOWER - (LOWER - UPPER) * part / 4
+        canvas.line([(left, y), (right, y)], "faint" if part else "thin")
+        canvas.text(left - 8, y + 6, f"{most * part / 4 / unit:,.10g}", 16, "end")
+
+
+def draw_columns(canvas, left, right, most, unit, ways, found):
+    """For each number of threads a column for each way."""
+    numbers = sorted({it for each in found.values() for it in each})
+    wide = (right - left) / len(numbers)
+    column = min(60, (wide - 16) / len(found))
+    for place, number in enumerate(numbers):
+        x = left + place * wide + (wide - column * len(found)) / 2
+        for how, each in found.items():
+            calls, beside = each[number]
+            y = LOWER - (LOWER - UPPER) * calls / most
+            canvas.box(x + 2, y, column - 4, LOWER - y, "thin", ways[how][1])
+            canvas.text(x + column / 2, y - 7, f"{calls / unit:.3g}", 15, "middle", halo=True)
+            canvas.text(x + column / 2, LOWER + 22, beside.replace(" %", "%"), 15, "middle")
+            x += column
+        canvas.text(left + (place + 0.5) * wide, LOWER + 50, f"{number}", 17, "middle", bold=True)
+
+
+def draw_legend(canvas, left, ways, found):
+    for number, how in enumerate(found):
+        name, fill = ways[how]
+        y = LOWER + 92 + 28 * number
+        canvas.box(left, y - 15, 26, 18, "thin", fill)
+        canvas.text(left + 36, y, name.replace("`", ""), 16)
+
+
+def picture():
+    found = figures()
+    see_that_the_page_tells_them(found)
+    canvas = Canvas("threads", "Calls a second by the number of threads", 770)
+    for who, (left, right, title, unit, ways) in PANELS.items():
+        each = {how: found[who][how] for how in ways if how in found[who]}
+        most = end_of(max(calls for one in each.values() for calls, _ in one.values()))
+        canvas.text(left - 50, 36, title, 17, bold=True)
+        draw_scale(canvas, left, right, most, unit)
+        draw_columns(canvas, left, right, most, unit, ways, each)
+        canvas.text(left - 8, LOWER + 50, who, 16, "end", within=left - 10)
+        draw_legend(canvas, left, ways, each)
+    for number, line in enumerate(CAPTION):
+        canvas.text(20, 668 + 26 * number, line, 16)
+    return canvas
