@@ -154,7 +154,9 @@ PAIRS = [f"pair {key.hex()} {value.hex()}" for key, value in HELD.items()]
 # the shard that has more of them, for a shard with one edit takes none.
 REFUSED = [
     ("1 range - - 9", "1 get 11", ["pairs 7", *PAIRS, "some 31"], ["memory", "some 31"]),
-    ("1 root", "1 get 11", [MAP.root.hex(), "some 31"], ["memory", "some 31"]),
+    # asked again with no change between, the root digest takes none
+    ("1 root", "1 root", "1 get 11", [*[MAP.root.hex()] * 2, "some 31"],
+     ["memory", "memory", "some 31"], ["memory", MAP.root.hex(), "some 31"]),
     ("2 prove 11", "1 get 11", [MAP.proof(b"\x11").hex(), "some 31"], ["memory", "some 31"]),
     ("3 batch put 11 38 put 12 39 put 13 - put 1f 3a", "1 get 11", "1 get 1f",
      ["done", "some 38", "some 3a"], ["memory", "some 31", "some 35"],
@@ -203,6 +205,14 @@ def of_a_migration_of_four_shards():
     return Refusals(OF_FOUR, lines, answers[0], answers[1:])
 
 
+def of_odd_digits(program):
+    """The growths of a text of an odd number of digits, for which no bytes are made, and of one of
+    a digit less, for which they are."""
+    for digits in 8_001, 8_000:
+        program.run(["verify", NONE, "62"], b"0" * digits, {})
+        yield program.growths()[0]
+
+
 def judged(program):
     """A title and a fault, or none, of each run."""
     cases = [*STARTS, of_ranges(), of_proofs(), of_migrations(), of_batches(),
@@ -211,3 +221,5 @@ def judged(program):
     for case in cases:
         for fault in case.faults(program):
             yield f"memory that is refused: {case.words}: {case.given[-80:]!r}", fault
+    odd, even = of_odd_digits(program)
+    yield "growths for an odd number of digits", "" if odd + 1 == even else f"{odd}, and {even}"

@@ -25,7 +25,9 @@ static long slept[SLEEPS];        /* how long each of the first sleeps is, in na
 static mst_pass passes[3];
 static mst_pass *mover = &passes[0], *other = &passes[1], *pinned = &passes[2];
 static void (*meanwhile)(void); /* what the next malloc does first */
-static uint8_t root[32], room[64];
+static uint8_t room[64];
+static uint8_t root[32], proof[256]; /* before the migration */
+static size_t proof_length;
 
 void *malloc(size_t size) {
     void (*then)(void) = meanwhile;
@@ -79,15 +81,35 @@ static void each_is_refused(void) {
     EXPECT(mst_free_rows(other, &rows) == MST_BUSY && rows == 77);
 }
 
+static void keeps_root_and_proof(mst_pass *pass) {
+    EXPECT(mst_root(pass, root, 32) == 32);
+    EXPECT(mst_prove(pass, TEXT("a"), proof, sizeof proof, &proof_length) == MST_OK);
+    EXPECT(proof[0] == 1);
+}
+
+static int has_proof(mst_pass *pass) {
+    uint8_t now[sizeof proof];
+    size_t length = 0;
+    return mst_prove(pass, TEXT("a"), now, sizeof now, &length) == MST_OK
+        && length == proof_length && memcmp(now, proof, length) == 0;
+}
+
+static int has_one_pair(mst_pass *pass) {
+    uint8_t pairs[2 * MST_PAIR_LONGEST];
+    size_t count = 0, length = 0;
+    return mst_range(pass, NULL, 0, NULL, 0, 9, pairs, sizeof pairs, &count, &length) == MST_OK
+        && count == 1 && length == 6 && memcmp(pairs, "\0\1\0\1a1", 6) == 0;
+}
+
 /* The version is the one before the migration, and may be pinned. */
 static void reads_go_on(mst_pass *pass) {
-    uint8_t key[32], proof[256];
+    uint8_t key[32];
     size_t length = 0;
     uint64_t version = 0;
     EXPECT(mst_get(pass, TEXT("a"), room, sizeof room) == 1 && room[0] == '1');
     EXPECT(mst_next(pass, NULL, 0, key, 32, &length, room, 64) == 1 && length == 1);
     EXPECT(has_root(pass) && mst_format(pass) == 1);
-    EXPECT(mst_prove(pass, TEXT("a"), proof, sizeof proof, &length) == MST_OK && proof[0] == 1);
+    EXPECT(has_proof(pass) && has_one_pair(pass));
     EXPECT(mst_version(pass, &version) == MST_OK && version == 1);
 }
 
@@ -104,7 +126,8 @@ static void others_call(void) {
 /* What was refused is not done, and goes through once the turn is free. */
 static void refusals(void) {
     uint32_t rows = 0;
-    EXPECT(mst_pin(pinned) == MST_OK && mst_root(other, root, 32) == 32);
+    EXPECT(mst_pin(pinned) == MST_OK);
+    keeps_root_and_proof(other);
     migrates_while(1, others_call);
     EXPECT(mst_format(other) == 2 && !has_root(other));
     EXPECT(mst_format(pinned) == 1 && has_root(pinned) && mst_unpin(pinned) == MST_OK);

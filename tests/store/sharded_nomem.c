@@ -190,7 +190,10 @@ int main(void) {
     EXPECT(mst_sharded_open(1, 64, TEXT("\1b\1m"), &handle, 1) == MST_OK);
     without_memory(&handle);
     long roots = asked_for(&handle, ROOT), proofs = asked_for(&handle, PROOF);
-    EXPECT(roots > 0 && proofs > 0 && asked_for(&handle, ROOT) > 0);
+    /* where nothing has changed, only the list of the pinned passes is asked for */
+    EXPECT(roots > 1 && proofs > 0 && asked_for(&handle, ROOT) == 1);
+    EXPECT(mst_sharded_release(&handle) == MST_OK && mst_sharded_snapshot(&handle) == MST_OK);
+    EXPECT(asked_for(&handle, ROOT) == 1);
     EXPECT(asked_for(&handle, NEXT) > 0 && asked_for(&handle, RANGE) > 0);
     EXPECT(asked_for(&handle, DIRECTORY) > 0 && asked_for(&handle, FORMAT) > 0);
     EXPECT(mst_sharded_release(&handle) == MST_OK && migrations(&handle, 2) > 0);

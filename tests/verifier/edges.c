@@ -1,4 +1,8 @@
-/* What vectors cannot say: formats, sizes of roots and keys, null pointers, any bytes. */
+/*
+ * What vectors cannot say: formats, sizes of roots and keys, null pointers, any bytes; and that no
+ * call asks for memory: while they are made, each growth is refused and counted.
+ */
+#include "../store/heap.h"
 #include "vectors.h"
 
 static const char *const root_word =
@@ -25,6 +29,19 @@ static void is(const char *what, int64_t told, int64_t wanted)
         printf("%s: %lld, and not %lld\n", what, (long long)told, (long long)wanted);
 }
 
+/* From here on each growth is refused. */
+static void refuse_memory(void)
+{
+    asked = 0;
+    count_from(0);
+}
+
+static void grant_memory(void)
+{
+    is("growths", asked, 0);
+    counting = 0;
+}
+
 static uint64_t state = 88172645463325252u;
 
 static uint64_t some(void)
@@ -40,6 +57,7 @@ static void sharded_edges(void)
     size_t size, n;
     uint8_t *root = bytes_of(sharded_root_word, &n), *proof = bytes_of(sharded_proof_word, &size);
     uint8_t key[300] = "grape", room[MST_VALUE_ROOM];
+    refuse_memory();
     is("present", mst_verify_sharded(1, root, 32, key, 5, proof, size, room, 64), 2);
     is("its value", room[0] == '1' && room[1] == '2', 1);
     is("just its room", mst_verify_sharded(1, root, 32, key, 5, proof, size, room, 2), 2);
@@ -52,6 +70,8 @@ static void sharded_edges(void)
     is("a null root", mst_verify_sharded(1, NULL, 0, key, 5, proof, size, room, 64), MST_BAD_ROOT);
     is("all null", mst_verify_sharded(1, NULL, 0, NULL, 0, NULL, 0, NULL, 0), MST_BAD_ROOT);
     is("all null, no format", mst_verify_sharded(0, NULL, 0, NULL, 0, NULL, 0, NULL, 0),
+       MST_UNKNOWN_FORMAT);
+    is("format 0", mst_verify_sharded(0, root, 32, key, 5, proof, size, room, 64),
        MST_UNKNOWN_FORMAT);
     is("a proof of format 1 in format 2",
        mst_verify_sharded(2, root, 32, key, 5, proof, size, room, 64), MST_S1_FORMAT_BYTE);
@@ -83,8 +103,28 @@ static void sharded_edges(void)
         is("any bytes",
            told == MST_BAD_KEY || (told <= MST_S1_FORMAT_BYTE && told >= MST_S4_DIRECTORY - 10), 1);
     }
+    grant_memory();
     free(root);
     free(proof);
+}
+
+/* The first texts of proofs: the length of each, or -1 where the bytes are cut short before it. */
+static void first_texts(void)
+{
+    static const struct {
+        const char *proof;
+        size_t size;
+        int64_t told;
+    } cases[] = {
+        {"\1\2\0\0\0\2\n\v\0\0\0\1\f", 13, 2}, /* the second text does not matter */
+        {"\377\1\0\0\0\0", 6, 0},                 /* nor does the format */
+        {"\1\0\0\0\0\1\252", 7, -1},               /* no text */
+        {"\1\1\0\0\0\2\n", 7, -1},                 /* one that is cut short */
+        {"\1\1\0\0", 4, -1},                        /* a length that is */
+    };
+    for (size_t at = 0; at < sizeof cases / sizeof *cases; at++)
+        is("a first text", mst_top_text((const uint8_t *)cases[at].proof, cases[at].size),
+           cases[at].told);
 }
 
 int main(void)
@@ -94,6 +134,7 @@ int main(void)
             *proof = bytes_of(proof_word, &size);
     uint8_t key[300] = "a", room[MST_VALUE_ROOM];
     const uint8_t nothing[2] = {1, 0};
+    refuse_memory();
     is("present", mst_verify(1, root, 32, key, 1, proof, size, room, 64), 1);
     is("its value", room[0], '1');
     is("just its room", mst_verify(1, root, 32, key, 1, proof, size, room, 1), 1);
@@ -108,6 +149,7 @@ int main(void)
        MST_UNKNOWN_FORMAT);
     is("a proof of format 1 in format 2", mst_verify(2, root, 32, key, 1, proof, size, room, 64),
        MST_P1_FORMAT_BYTE);
+    is("format 0", mst_verify(0, root, 32, key, 1, proof, size, room, 64), MST_UNKNOWN_FORMAT);
     is("format 3", mst_verify(3, root, 32, key, 1, proof, size, room, 64), MST_UNKNOWN_FORMAT);
     for (uint32_t format = 4; format; format *= 2)
         is("a format", mst_verify(format, root, 32, key, 1, proof, size, room, 64),
@@ -122,6 +164,7 @@ int main(void)
     is("more behind it", mst_top_text(proof, size - 1), -1);
     is("no text", mst_top_text(nothing, 2), -1);
     is("no bytes", mst_top_text(NULL, 0), -1);
+    first_texts();
     for (int i = 0; i < 200000; i++) {
         uint8_t bytes[96];
         size_t length = some() % (sizeof bytes + 1);
@@ -134,6 +177,7 @@ int main(void)
         int64_t text = mst_top_text(bytes, length);
         is("any first text", text >= -1 && text + 6 <= (int64_t)(length < 6 ? 6 : length), 1);
     }
+    grant_memory();
     free(root);
     free(empty);
     free(proof);

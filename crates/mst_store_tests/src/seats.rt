@@ -1,6 +1,6 @@
-//! Tests of what passes do by their seats: the turn, and the pins while a version is published.
+//! Tests of what passes do by their seats: the pins while a version is published, and after each
+//! call of three passes.
 mod orders;
 mod seated;
-mod tables;
+pub(crate) mod tables;
 mod transfers;
-mod turns;

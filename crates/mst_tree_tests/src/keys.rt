@@ -6,7 +6,7 @@ ghost use Rattle.mst_key.specs.Map.{key_cmp};
 
 use crate::cases::{Case, ask};
 use crate::confirming::{confirm, confirm_at};
-use crate::pairs::{key_of, value_of};
+use crate::pairs::{key_of, pair};
 use mst_key::{Edit, Key, Value};
 use std::alloc::{AllocError, Allocator, Global};
 use std::cmp::Ordering;
@@ -64,67 +64,61 @@ fn sort_keys<A: Allocator>(alloc: A, keys: &mut [Key]) -> Result<(), AllocError>
     keys.sort(alloc)
 }
 
-const RISING: &[&[u8]] = &[
-    b"\x00",
-    b"\x00\x00",
-    b"a",
-    b"ab",
-    b"b",
-    b"\x7f\xff",
-    b"\x80",
+/// Keys, each with the next one in their order.
+const RISING: &[(&[u8], &[u8])] = &[
+    (b"\x00", b"\x00\x00"),
+    (b"\x00\x00", b"a"),
+    (b"a", b"ab"),
+    (b"ab", b"b"),
+    (b"b", b"\x7f\xff"),
+    (b"\x7f\xff", b"\x80"),
 ];
 
-/// Whether the rising keys are sorted from falling ones.
-fn are_sorted(rt: &impl Abort, alloc: Global) -> bool {
-    let mut keys = Vec::new(alloc);
-    for bytes in RISING.iter().rev() {
-        keys.push(key_of(rt, bytes)).expect(rt, "memory");
-    }
-    sort_keys(alloc, &mut keys).expect(rt, "memory");
-    keys.iter()
-        .zip(RISING)
-        .all(|(key, bytes)| key.bytes() == *bytes)
+/// Whether two keys that rise stand so, and either is equal to itself.
+fn rise(rt: &impl Abort, one: &[u8], other: &[u8]) -> bool {
+    let (one, other) = (key_of(rt, one), key_of(rt, other));
+    stand_so(&one, &other, Ordering::Less)
+        && stand_so(&other, &one, Ordering::Greater)
+        && stand_so(&one, &one, Ordering::Equal)
 }
 
-/// Compares the key at a place among the rising ones with each of them.
-fn compare_with_each(rt: &impl Abort, i: usize, one: &[u8]) {
-    for (j, other) in RISING.iter().enumerate() {
-        let right = stand_so(&key_of(rt, one), &key_of(rt, other), i.cmp(&j));
-        confirm_at(rt, right, j);
-    }
+/// Whether two keys that fall are sorted.
+fn are_sorted(rt: &impl Abort, alloc: Global) -> bool {
+    let mut keys = [key_of(rt, b"ab"), key_of(rt, b"a")];
+    sort_keys(alloc, &mut keys).is_ok() && stand_so(&keys[0], &keys[1], Ordering::Less)
 }
 
 #[test]
 fn keys_in_ascending_order(rt: HostRuntime) {
-    for (i, one) in RISING.iter().enumerate() {
-        compare_with_each(&rt, i, one);
+    for (place, (one, other)) in RISING.iter().enumerate() {
+        confirm_at(&rt, rise(&rt, one, other), place);
     }
     confirm(&rt, are_sorted(&rt, rt.alloc()), "sorted");
 }
 
-pub fn key_is_cloned(rt: &impl Abort, bytes: &[u8]) -> bool {
-    let key = key_of(rt, bytes);
-    let clone = key.clone().expect(rt, "memory");
-    clone.bytes() == bytes && same_key(&key, &key.copy())
-}
-
-pub fn value_is_cloned(rt: &impl Abort, bytes: &[u8]) -> bool {
-    let value = value_of(rt, bytes);
-    let clone = value.clone().expect(rt, "memory");
-    clone.bytes() == bytes && same_value(&value, &value.copy())
+/// Whether the clones and the copies of a key and of a value are the same.
+pub fn are_cloned(rt: &impl Abort, key: &[u8], value: &[u8]) -> bool {
+    let (key, value) = pair(rt, key, value);
+    let (one, other) = (
+        key.clone().expect(rt, "memory"),
+        value.clone().expect(rt, "memory"),
+    );
+    same_key(&key, &one)
+        && same_key(&key, &key.copy())
+        && same_value(&value, &other)
+        && same_value(&value, &value.copy())
 }
 
 /// Whether a put is the same edit as itself, and another than the removal of its key.
 pub fn edits_are_compared(rt: &impl Abort, key: &[u8], value: &[u8]) -> bool {
-    let key = key_of(rt, key);
-    let put = Edit::Put(key.copy(), value_of(rt, value));
+    let (key, value) = pair(rt, key, value);
+    let put = Edit::Put(key.copy(), value);
     let remove = Edit::Remove(key);
     same_edit(&put, &put) && !same_edit(&put, &remove)
 }
 
 const CLONES: &[Case] = &[
-    Case::KeyClone(&[0xff; 32]),
-    Case::ValueClone(&[0x00; 64]),
+    Case::Clones(&[0xff; 32], &[0x00; 64]),
     Case::Edits(&[0xff; 32], &[0x00; 64]),
 ];
 

@@ -1,13 +1,13 @@
-//! Tests of keys and values, of nodes with their texts and digests, of the verifiers of proofs and
-//! of sharded maps, of what is said of a proof, and of trees in rows.
+//! Tests of keys and values, of lists with their digests, of collisions in proofs, of the audit of
+//! a directory, of rows and of reads of trees in rows, and of a map after a batch.
 #![tactic(auto)]
 
+#[cfg(test)]
+mod batches;
 #[cfg(test)]
 mod cases;
 #[cfg(test)]
 mod confirming;
-#[cfg(test)]
-mod full_heap;
 #[cfg(test)]
 mod heaps;
 #[cfg(test)]
@@ -20,8 +20,6 @@ mod pairs;
 mod printing;
 #[cfg(test)]
 mod proving;
-#[cfg(test)]
-mod reports;
 #[cfg(test)]
 mod rows;
 #[cfg(test)]

@@ -1,19 +1,14 @@
-//! Keys and pairs for the tests, the text of their tree's top node, and what a value prints. If
-//! memory is refused for them, the test ends.
-ghost use Rattle.std.specs.Prelude.{◌≤◌, length};
-
+//! Keys and pairs for the tests, their root digests, and what a value prints. If memory is refused
+//! for them, the test ends.
 use crate::confirming::few;
-use mst_key::{Key, Memory, Value};
-use mst_node::{build, digest, empty_digest, root_of, text};
-use std::alloc::{Allocator, Global};
+use mst_key::{Key, Value};
+use mst_node::root_of;
+use std::alloc::Global;
 use std::fmt::Display;
 use std::process::Abort;
 
 /// The keys `a` and `abc`, with the values `1` and `x`.
 pub const TWO_PAIRS: &[(&str, &str)] = &[("a", "1"), ("abc", "x")];
-
-/// The keys `1`, `39` and `a`, with the values `x`, `y` and `z`.
-pub const THREE_PAIRS: &[(&str, &str)] = &[("1", "x"), ("39", "y"), ("a", "z")];
 
 pub fn key_of(rt: &impl Abort, bytes: &[u8]) -> Key {
     Key::new(bytes).expect(rt, "1 to 32 bytes")
@@ -54,6 +49,20 @@ pub fn numbered(rt: &impl Abort, alloc: Global, count: u32) -> Vec<(Key, Value)>
     pairs
 }
 
+/// Pairs of keys of layer 0 alone, which stand in one node, with values of 64 bytes: the numbers
+/// below the end in three bytes that have this layer.
+pub fn pairs_of_one_node(rt: &impl Abort, alloc: Global, end: u32) -> Vec<(Key, Value)> {
+    let mut pairs = Vec::new(alloc);
+    for i in 0..end {
+        let bytes = i.to_be_bytes();
+        let (key, value) = pair(rt, &bytes[1..], &[bytes[3]; 64]);
+        if key.layer() == 0 {
+            pairs.push((key, value)).expect(rt, "memory");
+        }
+    }
+    pairs
+}
+
 /// The bytes of a hexadecimal text.
 pub fn bytes_of(rt: &impl Abort, alloc: Global, digits: &str) -> Vec<u8> {
     hex::decode(alloc, digits).expect(rt, "hexadecimal digits")
@@ -65,43 +74,10 @@ pub fn are_digits(rt: &impl Abort, alloc: Global, bytes: &[u8], digits: &str) ->
     found.as_str() == digits
 }
 
-/// The text of the top node of the list's tree.
-pub fn top<A: Allocator + Copy>(
-    alloc: A,
-    pairs: &[(Key, Value)],
-) -> Result<Option<Vec<u8, A>>, Memory>
-    requires few { length pairs.now ≤ 65535 }
-{
-    match build(alloc, pairs)? {
-        None => Ok(None),
-        Some(node) => Ok(Some(text(alloc, &node)?)),
-    }
-}
-
-/// The same in ample memory.
-pub fn top_of(rt: &impl Abort, alloc: Global, pairs: &[(Key, Value)]) -> Option<Vec<u8>> {
-    few(rt, pairs);
-    top(alloc, pairs).expect(rt, "memory")
-}
-
-/// The text of the top node of a list that is not empty.
-pub fn text_of(rt: &impl Abort, alloc: Global, pairs: &[(Key, Value)]) -> Vec<u8> {
-    top_of(rt, alloc, pairs).expect(rt, "a node")
-}
-
 /// The root digest of the list.
 pub fn root(rt: &impl Abort, pairs: &[(Key, Value)]) -> [u8; 32] {
     few(rt, pairs);
     root_of(pairs)
-}
-
-/// Whether the text of the top node of the pairs' tree has their root digest.
-pub fn roots_agree(rt: &impl Abort, alloc: Global, pairs: &[(Key, Value)]) -> bool {
-    let root = root(rt, pairs);
-    match top_of(rt, alloc, pairs) {
-        None => root == empty_digest(),
-        Some(text) => root == digest(text.as_slice()),
-    }
 }
 
 /// Whether a value prints this text.

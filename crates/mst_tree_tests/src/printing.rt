@@ -8,6 +8,7 @@ const PRINTED: &[Case] = &[
     Case::ValueSizePrints("a value has at most 64 bytes"),
     Case::MemoryPrints("no memory"),
     Case::NodeFaultPrints("not a node text"),
+    Case::NoRoomPrints("no room"),
     Case::FaultPrints(ProofFault::FormatByte, "P1"),
     Case::FaultPrints(ProofFault::CutShort, "P2"),
     Case::FaultPrints(ProofFault::LeftOver, "P3"),

@@ -1,22 +1,18 @@
-//! Tests of rows and of trees in rows: the words of rows, the desk, planted maps, and what reads
-//! read. Changes are transcripts (`tests/transcripts`), and so are reads of whole maps, which
-//! `tests/store/test_maps.py` makes too.
-ghost use Rattle.std.specs.Prelude.{◌≡◌, ◌≤◌, IsSome, map};
+//! Tests of rows and of trees in rows: the words of rows, plain rows, and what reads read. Changes
+//! are transcripts (`tests/transcripts`), and so are reads of whole maps, also of those that a
+//! migration planted; `tests/store/test_maps.py` has reads too.
+ghost use Rattle.std.specs.Prelude.{◌≡◌, ◌≤◌, IsSome};
 ghost use Rattle.mst_arena.specs.Content.{part_at};
-ghost use Rattle.mst_arena.specs.Lives.{swept_life};
 ghost use Rattle.mst_arena.specs.Row.{IsRow, keyed_links, entry_value, head_digest, head_links};
 
 mod counted;
 mod counts;
-mod full_heap;
 mod plain;
-mod planting;
 mod standing;
 mod words;
 
 use crate::pairs::pair;
-use mst_arena::{Desk, HeadLinks, Row, Rows};
-use std::alloc::Allocator;
+use mst_arena::{HeadLinks, Row, Rows};
 use std::process::Abort;
 
 /// The entry of these bytes with these links.
@@ -54,21 +50,4 @@ fn head_is<R: Rows>(rows: &mut R, row: u32, links: &HeadLinks, digest: &[u8; 32]
     ensures same { rows.new ≡ rows.old }
 {
     rows.head(row) == *links && rows.digest(row) == *digest
-}
-
-/// Whether this is the row at this number.
-fn row_is<R: Rows>(rows: &mut R, row: u32, wanted: &Row) -> bool
-    requires there { IsSome (R.content rows.old row) }
-    ensures same { rows.new ≡ rows.old }
-{
-    rows.read(row) == *wanted
-}
-
-/// How many rows of a desk are free after a sweep with these live versions.
-fn free_after<A: Allocator>(desk: &mut Desk<A>, live: &[u64]) -> u32
-    ensures swept { desk.new
-        ≡ record desk.old { lives = map (swept_life live.now) desk.old.lives } }
-{
-    desk.sweep(live);
-    desk.free()
 }

@@ -25,8 +25,6 @@ mod codes;
 mod laws;
 mod question;
 mod telling;
-#[cfg(test)]
-mod tests;
 
 use codes::NO_TEXT;
 pub use laws::{code_laws, top_laws, worked_codes};

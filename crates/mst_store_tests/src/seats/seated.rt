@@ -1,14 +1,10 @@
 //! A pass as the tests have it: its seat, free or with the version that it pins.
 ghost use Rattle.std.specs.Prelude.{◌<◌};
-ghost use Rattle.mst_key.specs.History.{IsMigration, IsBatch};
 ghost use Rattle.mst_words.specs.Layout.{most_records};
 
-use mst_key::{Change, Edit, Event, Format, Key, Memory, Value};
+use mst_key::{Change, Event, Format, Key, Value};
 use mst_versions::reading::{self, PinnedVersion};
-use mst_versions::{
-    ApplyFault, Busy, MigrateFault, PassParameters, WriteFault, applying, counting, migrating,
-    writing,
-};
+use mst_versions::{MigrateFault, PassParameters, WriteFault, migrating, writing};
 use mst_words::PassSeat;
 use std::alloc::Global;
 use std::marker::Model;
@@ -64,42 +60,18 @@ impl<'a> Free<'a> {
         }
     }
 
-    // Makes a change of a key, and returns the value that it had.
-    fn write(&mut self, change: Change) -> Result<Option<Value>, WriteFault>
-        requires keyed { IsMigration change → ⊥ }
-        requires single { IsBatch change → ⊥ }
-    {
+    pub(crate) fn put(&mut self, key: &Key, value: &Value) -> Result<Option<Value>, WriteFault> {
         let event = Event {
             pass: self.parameters.number,
-            change,
+            change: Change::Put(key.copy(), value.copy()),
         };
         let (old, _) = writing::write(&mut self.seat, self.parameters, &event)?;
         Ok(old)
     }
 
-    pub(crate) fn put(&mut self, key: &Key, value: &Value) -> Result<Option<Value>, WriteFault> {
-        self.write(Change::Put(key.copy(), value.copy()))
-    }
-
-    pub(crate) fn remove(&mut self, key: &Key) -> Result<Option<Value>, WriteFault> {
-        self.write(Change::Remove(key.copy()))
-    }
-
-    pub(crate) fn apply(&mut self, alloc: Global, edits: &[Edit]) -> Result<u64, ApplyFault> {
-        applying::apply(&mut self.seat, alloc, self.parameters, edits)
-    }
-
     pub(crate) fn migrate(&mut self, alloc: Global, to: Format) -> Result<Format, MigrateFault> {
         let (was, _) = migrating::migrate(&mut self.seat, alloc, self.parameters, to)?;
         Ok(was)
-    }
-
-    pub(crate) fn rows(&mut self) -> Result<Option<u32>, Busy> {
-        counting::rows(&mut self.seat, self.parameters)
-    }
-
-    pub(crate) fn free_rows(&mut self) -> Result<u32, Busy> {
-        counting::free_rows(&mut self.seat, self.parameters)
     }
 
     /// Who pins the record, by what the words say now, as a mask of their bits.
@@ -116,29 +88,8 @@ impl<'a> Held<'a> {
         self.at.pinned
     }
 
-    pub(crate) fn version(&self) -> u64 {
-        self.at.version
-    }
-
     pub(crate) fn get(&mut self, key: &Key) -> Option<Value> {
         reading::get(&mut self.seat, &self.at, key)
-    }
-
-    pub(crate) fn next(&mut self, after: Option<&Key>) -> Option<(Key, Value)> {
-        reading::next(&mut self.seat, &self.at, after)
-    }
-
-    pub(crate) fn root(&mut self) -> [u8; 32] {
-        reading::root(&mut self.seat, &self.at)
-    }
-
-    pub(crate) fn prove(&mut self, alloc: Global, key: &Key) -> Result<Vec<u8>, Memory> {
-        reading::prove(&mut self.seat, alloc, &self.at, key)
-    }
-
-    /// All pairs of the version, if they are at most ten.
-    pub(crate) fn pairs(&mut self, alloc: Global) -> Result<Vec<(Key, Value)>, Memory> {
-        reading::range(&mut self.seat, alloc, &self.at, None, None, 10)
     }
 
     pub(crate) fn unpin(self) -> Free<'a> {

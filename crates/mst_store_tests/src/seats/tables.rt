@@ -11,7 +11,7 @@ use mst_key::{Change, Event, Format, Key, Memory, Value};
 use mst_versions::PassParameters;
 use mst_words::{Board, Shape, Token};
 use std::alloc::Allocator;
-use std::test::Fail;
+use std::process::Abort;
 
 // A table for this many rows and passes, of the empty map in format 1, and the dealer's token.
 pub(crate) fn opened<A: Allocator + Copy>(
@@ -45,13 +45,15 @@ pub(crate) fn parameters(number: u32, passes: u32, rows: u32) -> PassParameters
 }
 
 // The event that a pass makes by putting the key a.
-pub(crate) fn putting(pass: u32, value: &[u8]) -> Result<Event, Fail>
-    ensures mine { IfOk result (λ event. event.pass ≡ pass) }
-    ensures keyed { IfOk result (λ event. IsMigration event.change → ⊥) }
-    ensures single { IfOk result (λ event. IsBatch event.change → ⊥) }
+pub(crate) fn putting<'a>(rt: &impl Abort, pass: u32, value: &'a [u8]) -> Event<'a>
+    ensures mine { result.pass ≡ pass }
+    ensures keyed { IsMigration result.change → ⊥ }
+    ensures single { IsBatch result.change → ⊥ }
 {
-    Ok(Event {
+    let key = Key::new(b"a").expect(rt, "1 to 32 bytes");
+    let value = Value::new(value).expect(rt, "at most 64 bytes");
+    Event {
         pass,
-        change: Change::Put(Key::new(b"a")?, Value::new(value)?),
-    })
+        change: Change::Put(key, value),
+    }
 }

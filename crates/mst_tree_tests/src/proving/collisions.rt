@@ -1,8 +1,8 @@
 //! Collisions that are not there.
-use super::{THREE_PROOF, TWO_PROOF, collided, collided_with_none};
+use super::{THREE_PROOF, TWO_PROOF, collided_in_one, collided_with_none, is_free};
 use crate::confirming::confirm;
 use crate::pairs::{TWO_PAIRS, bytes_of, key_of, spelt};
-use mst_key::{Format, Key, Value};
+use mst_key::Format;
 use std::alloc::Global;
 use std::process::Abort;
 
@@ -50,31 +50,25 @@ const ASKED: &[(Format, Pairs, &str, &str)] = &[
     (Format::Two, TWO_PAIRS, "b", ""),
 ];
 
-/// Whether nothing in the proof collides, alone and together with the tree of the pairs.
-fn is_free(
+/// Whether nothing in the proof collides by itself.
+fn is_free_alone(
     rt: &impl Abort,
     alloc: Global,
     format: Format,
-    pairs: &[(Key, Value)],
-    key: &[u8],
-    proof: &[u8],
+    (key, proof): (&[u8], &[u8]),
 ) -> bool {
-    collided_with_none(alloc, format, &key_of(rt, key), proof) == Ok(false)
-        && collided(rt, alloc, format, (4_096, 32_768), pairs, (key, proof)) == Some(Ok(false))
+    let key = key_of(rt, key);
+    collided_with_none(alloc, format, &key, proof) == Ok(false)
+        && (format == Format::Two || collided_in_one(alloc, &key, proof) == Ok(false))
 }
 
-/// Asks a proof together with these pairs.
+/// Asks a proof by itself, and together with these pairs.
 fn ask(rt: &impl Abort, alloc: Global, (format, rows, key, digits): (Format, Pairs, &str, &str)) {
     let pairs = spelt(rt, alloc, rows);
     let proof = bytes_of(rt, alloc, digits);
-    let free = is_free(
-        rt,
-        alloc,
-        format,
-        pairs.as_slice(),
-        key.as_bytes(),
-        proof.as_slice(),
-    );
+    let asked = (key.as_bytes(), proof.as_slice());
+    let free = is_free_alone(rt, alloc, format, asked)
+        && is_free(rt, alloc, format, pairs.as_slice(), asked);
     confirm(rt, free, digits);
 }
 

@@ -1,9 +1,8 @@
-//! Growths that are refused to a tree, to the text of its node, and to the search for a collision.
-use super::{collided, proof_for, top_in};
-use crate::confirming::{confirm, confirm_at, few};
-use crate::heaps::{heap_of, is_made};
+//! Growths that are refused to the search for a collision. `tests/devices` has those of a tree and
+//! of the text of a node, refused to the program.
+use super::{collided, proof_for};
+use crate::confirming::confirm_at;
 use crate::pairs::numbered;
-use linked_list_allocator::LocalHeap;
 use mst_key::{Format, Key, Value};
 use std::alloc::Global;
 use std::process::Abort;
@@ -94,59 +93,5 @@ fn a_search_takes_the_texts_of_the_nodes_that_it_meets(rt: HostRuntime) {
     for (format, count, room) in LARGE {
         let small = is_small(&rt, rt.alloc(), *format, *count, *room);
         confirm_at(&rt, small, *count as usize);
-    }
-}
-
-/// Whether the text that is made in the heap is this one; `None` if memory is refused.
-fn text_made(
-    rt: &impl Abort,
-    heap: &LocalHeap,
-    format: Format,
-    pairs: &[(Key, Value)],
-    want: &[u8],
-) -> Option<bool> {
-    few(rt, pairs);
-    match top_in(heap, format, pairs) {
-        Ok(Some(text)) => Some(text.as_slice() == want),
-        Ok(None) => Some(false),
-        Err(_) => None,
-    }
-}
-
-/// Whether this many bytes are enough for the text.
-fn are_enough(
-    rt: &impl Abort,
-    alloc: Global,
-    format: Format,
-    bytes: usize,
-    pairs: &[(Key, Value)],
-    want: &[u8],
-) -> bool {
-    let heap = heap_of(rt, alloc, bytes);
-    let found = text_made(rt, &heap, format, pairs, want);
-    is_made(rt, &heap, found)
-}
-
-/// The least number of units of 16 bytes that are enough for the tree and its text: 2,048 if each
-/// heap refused it.
-fn least_units(rt: &impl Abort, alloc: Global, format: Format, pairs: &[(Key, Value)]) -> usize {
-    few(rt, pairs);
-    let text = top_in(alloc, format, pairs).expect(rt, "memory");
-    let want = text.expect(rt, "a node");
-    for units in 1..2048usize {
-        if are_enough(rt, alloc, format, units * 16, pairs, want.as_slice()) {
-            return units;
-        }
-    }
-    2048
-}
-
-#[test]
-fn each_growth_of_a_text_is_refused(rt: HostRuntime) {
-    let pairs = numbered(&rt, rt.alloc(), 40);
-    for format in [Format::One, Format::Two] {
-        let least = least_units(&rt, rt.alloc(), format, pairs.as_slice());
-        confirm(&rt, least > 16, "refused before");
-        confirm(&rt, least < 2048, "refused with ample memory");
     }
 }

@@ -1,27 +1,10 @@
 //! Collisions in the proofs of larger maps. Transcripts have what these proofs show.
-use super::{collided, proof_for};
+use super::has_free_proof;
 use crate::confirming::confirm_at;
 use crate::pairs::numbered;
 use mst_key::{Format, Key, Value};
 use std::alloc::Global;
 use std::process::Abort;
-
-/// Whether nothing in the proof for the key collides together with the tree of the map. For no
-/// pairs there is no tree.
-fn is_free(
-    rt: &impl Abort,
-    alloc: Global,
-    format: Format,
-    pairs: &[(Key, Value)],
-    key: &[u8],
-) -> bool {
-    let proof = proof_for(rt, alloc, format, pairs, key);
-    let asked = (key, proof.as_slice());
-    match collided(rt, alloc, format, (65_536, 524_288), pairs, asked) {
-        Some(found) => found == Ok(false),
-        None => pairs.is_empty(),
-    }
-}
 
 /// Asks the map of this many numbers for each one of such steps, up to two that it does not have,
 /// and for the number's four bytes.
@@ -35,8 +18,8 @@ fn ask(
 ) {
     for i in (0..count.saturating_add(2)).step_by(step.max(1)) {
         let bytes = i.to_be_bytes();
-        let number = is_free(rt, alloc, format, pairs, &bytes[1..]);
-        let free = number && is_free(rt, alloc, format, pairs, &bytes);
+        let number = has_free_proof(rt, alloc, format, pairs, &bytes[1..]);
+        let free = number && has_free_proof(rt, alloc, format, pairs, &bytes);
         confirm_at(rt, free, i as usize);
     }
 }

@@ -148,37 +148,21 @@ fn parts_by_hand(rt: HostRuntime) {
     confirm(&rt, Row::read_digest(&DIGEST_WORDS) == DIGEST, "a digest");
 }
 
-/// Words of no entry, and what is wrong with them.
-const NO_ENTRIES: &[([u64; 7], &str)] = &[
-    ([7, 9, 33, 0, 0, 0, 0], "a key of 33 bytes"),
-    ([7, 9, 0, 0, 0, 0, 0], "a key of no byte"),
-    ([1 << 32, 9, 1, 0, 0, 0, 0], "a child past all links"),
-];
-
-/// Whether these words are of no entry.
-fn is_no_entry(words: &[u64; 7]) -> bool {
-    KeyedLinks::read(words).is_none()
+/// Whether no entry is read of the words of a key of 33 bytes, of a key of no byte, and of a child
+/// past all links.
+fn no_entry_is_read() -> bool {
+    KeyedLinks::read(&[7, 9, 33, 0, 0, 0, 0]).is_none()
+        && KeyedLinks::read(&[7, 9, 0, 0, 0, 0, 0]).is_none()
+        && KeyedLinks::read(&[1 << 32, 9, 1, 0, 0, 0, 0]).is_none()
 }
 
-/// Whether these lengths and words are of no value.
-fn is_no_value(lengths: u64, words: &[u64; 8]) -> bool {
-    Row::read_value(lengths, words).is_none()
-}
-
-/// Whether these words are of no head.
-fn is_no_head(words: &[u64; 4]) -> bool {
-    HeadLinks::read(words).is_none()
+/// Whether neither a value of 65 bytes nor a head with a layer past all layers is read.
+fn nothing_else_is_read() -> bool {
+    Row::read_value(1 + 256 * 65, &[0; 8]).is_none() && HeadLinks::read(&[256, 1, 5, 0]).is_none()
 }
 
 #[test]
 fn words_of_no_part(rt: HostRuntime) {
-    for (words, what) in NO_ENTRIES {
-        confirm(&rt, is_no_entry(words), what);
-    }
-    confirm(
-        &rt,
-        is_no_value(1 + 256 * 65, &[0; 8]),
-        "a value of 65 bytes",
-    );
-    confirm(&rt, is_no_head(&[256, 1, 5, 0]), "a layer past all layers");
+    confirm(&rt, no_entry_is_read(), "an entry");
+    confirm(&rt, nothing_else_is_read(), "a value or a head");
 }

@@ -1,5 +1,5 @@
 //! The audit of a directory.
-use super::ROOT_ONE;
+use super::ROOT;
 use crate::confirming::confirm_at;
 use crate::pairs::{bytes_of, pair, prints};
 use mst_key::{Format, Key, Value};
@@ -9,8 +9,8 @@ use std::process::Abort;
 
 type Text = &'static str;
 
-/// A lower bound, a root digest and an upper bound, each in hexadecimal digits.
-type Listing = (Text, Text, Text);
+/// A lower bound, a root digest in hexadecimal digits, and an upper bound.
+type Listing = (&'static [u8], Text, &'static [u8]);
 
 /// The root digests of the three shards in format 1.
 const FIRST: Text = "ec36763611dd79560de2a0e8c31f633c3aabf205e095b97b88e6291d7cdfbb25";
@@ -27,12 +27,9 @@ fn listed(rt: &impl Abort, alloc: Global, listings: &[Listing]) -> Vec<(Key, Val
     let mut pairs = Vec::new(alloc);
     for (low, digest, high) in listings {
         let mut held = bytes_of(rt, alloc, digest);
-        let high = bytes_of(rt, alloc, high);
-        held.extend_from_slice(high.as_slice()).expect(rt, "memory");
-        let low = bytes_of(rt, alloc, low);
-        pairs
-            .push(pair(rt, low.as_slice(), held.as_slice()))
-            .expect(rt, "memory");
+        held.extend_from_slice(high).expect(rt, "memory");
+        let pair = pair(rt, low, held.as_slice());
+        pairs.push(pair).expect(rt, "memory");
     }
     pairs
 }
@@ -40,10 +37,8 @@ fn listed(rt: &impl Abort, alloc: Global, listings: &[Listing]) -> Vec<(Key, Val
 /// Whether the audit with the root of the map in format 1 says what is expected.
 fn holds(rt: &impl Abort, alloc: Global, question: Question) -> bool {
     let (listings, words) = question;
-    let root = bytes_of(rt, alloc, ROOT_ONE);
-    let root = root.as_slice().first_chunk::<32>().expect(rt, "a digest");
     let pairs = listed(rt, alloc, listings);
-    match audit_directory(Format::One, root, pairs.as_slice()) {
+    match audit_directory(Format::One, &ROOT, pairs.as_slice()) {
         Ok(()) => words == "passed",
         Err(fault) => prints(rt, alloc, &fault, words),
     }
@@ -51,47 +46,67 @@ fn holds(rt: &impl Abort, alloc: Global, question: Question) -> bool {
 
 const QUESTIONS: &[Question] = &[
     (
-        &[("00", FIRST, "64"), ("64", SECOND, "6d"), ("6d", THIRD, "")],
+        &[
+            (b"\0", FIRST, b"d"),
+            (b"d", SECOND, b"m"),
+            (b"m", THIRD, b""),
+        ],
         "passed",
     ),
     // no shard, and a first one that begins above the least key
     (&[], "A2"),
-    (&[("64", SECOND, "6d"), ("6d", THIRD, "")], "A3"),
+    (&[(b"d", SECOND, b"m"), (b"m", THIRD, b"")], "A3"),
     // a digest that is cut short
     (
-        &[("00", FIRST, "64"), ("64", "00", ""), ("6d", THIRD, "")],
+        &[(b"\0", FIRST, b"d"), (b"d", "00", b""), (b"m", THIRD, b"")],
         "A4 1 L1",
     ),
     // lower bounds that fall, though each is an upper bound
     (
-        &[("00", FIRST, "6d"), ("6d", THIRD, "64"), ("64", SECOND, "")],
+        &[
+            (b"\0", FIRST, b"m"),
+            (b"m", THIRD, b"d"),
+            (b"d", SECOND, b""),
+        ],
         "A4 1 L2",
     ),
     // the keys between c and d have no shard
     (
-        &[("00", FIRST, "63"), ("64", SECOND, "6d"), ("6d", THIRD, "")],
+        &[
+            (b"\0", FIRST, b"c"),
+            (b"d", SECOND, b"m"),
+            (b"m", THIRD, b""),
+        ],
         "A4 0 L3",
     ),
     // the keys between d and e have two, or all above 00 have
     (
-        &[("00", FIRST, "65"), ("64", SECOND, "6d"), ("6d", THIRD, "")],
+        &[
+            (b"\0", FIRST, b"e"),
+            (b"d", SECOND, b"m"),
+            (b"m", THIRD, b""),
+        ],
         "A4 0 L4",
     ),
     (
-        &[("00", FIRST, ""), ("64", SECOND, "6d"), ("6d", THIRD, "")],
+        &[
+            (b"\0", FIRST, b""),
+            (b"d", SECOND, b"m"),
+            (b"m", THIRD, b""),
+        ],
         "A4 0 L4",
     ),
     // the keys from z on have no shard
     (
         &[
-            ("00", FIRST, "64"),
-            ("64", SECOND, "6d"),
-            ("6d", THIRD, "7a"),
+            (b"\0", FIRST, b"d"),
+            (b"d", SECOND, b"m"),
+            (b"m", THIRD, b"z"),
         ],
         "A4 2 L5",
     ),
     // a directory of other shards
-    (&[("00", FIRST, "64"), ("64", SECOND, "")], "A5"),
+    (&[(b"\0", FIRST, b"d"), (b"d", SECOND, b"")], "A5"),
 ];
 
 #[test]

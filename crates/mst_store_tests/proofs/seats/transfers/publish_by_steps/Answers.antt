@@ -4,7 +4,7 @@ use Rattle.mst_versions.proofs.Ready.{readying}
 use Rattle.mst_store_tests.proofs.seats.transfers.publish_by_steps.Goals as goal
 
 pub publish-found-requires-clause-ready : goal.publish-found-requires-clause-ready
-publish-found-requires-clause-ready g c = let w = c.write_root in let v =
+publish-found-requires-clause-ready c = let w = c.write_root in let v =
     ap (λ (p : ℕ × ℕ). p.1 + 1) c.current-old.ensures.current in
     readying c.args.turn c.args.root.now c.args.turn.format c.args.event.now c.args.seat.now.me
     c.requires.made w.new.seat.me.0.known_words w.ensures.others (w.ensures.version ∙ v)

@@ -3,4 +3,4 @@ use Rattle.mst_store_tests.proofs.seats.transfers.publish_by_steps.Given as goal
 
 -- the event that is added, and what the desk then knows
 abbrev pub ghosts-publish : goal.ghosts-publish
-ghosts-publish g a = record { event = a.event.now; desk = desk_state a.desk.now }
+ghosts-publish a = record { event = a.event.now; desk = desk_state a.desk.now }

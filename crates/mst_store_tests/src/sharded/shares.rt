@@ -1,7 +1,6 @@
 //! A batch by a handle with a share of its map that begins behind the last shard, which no call
 //! for C does. All else that such handles and their snapshots do is tested from C and Python.
-use crate::maps::{SHAPE, opened};
-use crate::plain::edits_of;
+use crate::sharded::maps::{SHAPE, edits_of, opened};
 use mst_sharded::{Sharded, SharedHandle};
 use std::alloc::Global;
 use std::process::Abort;
@@ -24,7 +23,7 @@ fn one_shared(rt: &(impl Abort + AllocGlobal), shards: usize) -> SharedHandle<Gl
 
 #[test]
 fn a_batch_from_behind_the_last_shard_makes_nothing(rt: HostRuntime) {
-    let edits = edits_of(&rt, 0, 40);
+    let edits = edits_of(&rt, 40);
     let handle = one_shared(&rt, 2);
     let (handle, applied) = handle.try_apply(rt.alloc(), edits.as_slice(), 2);
     assert!(rt; applied == Ok(()));

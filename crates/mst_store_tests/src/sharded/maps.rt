@@ -1,9 +1,8 @@
-//! Sharded maps with their handles, and the heaps that they stand in.
+//! Sharded maps with their handles, keys and edits.
 ghost use Rattle.std.specs.Prelude.{◌≡◌};
 ghost use Rattle.mst_sharded.specs.Opening.{seats_of};
 
-use linked_list_allocator::LocalHeap;
-use mst_key::Key;
+use mst_key::{Edit, Key, Value};
 use mst_sharded::{AllSeats, Handle, Sharded};
 use mst_store::{Format, Shape};
 use std::alloc::{Allocator, Global};
@@ -16,31 +15,33 @@ pub(crate) const SHAPE: Shape = Shape {
     format: Format::One,
 };
 
-/// A heap of this many bytes.
-pub(crate) fn heap_of(rt: &(impl Abort + AllocGlobal), bytes: usize) -> LocalHeap {
-    let Ok(heap) = LocalHeap::new(rt.alloc(), bytes) else {
-        panic!(rt; "no memory")
-    };
-    heap
-}
-
-pub(crate) fn key(rt: &impl Abort, bytes: &[u8]) -> Key {
-    let Ok(key) = Key::new(bytes) else {
-        panic!(rt; "a key has 1 to 32 bytes")
-    };
-    key
-}
-
 /// How many keys the tests have.
 pub(crate) const KEYS: usize = 128;
 
 /// The key of a number. The keys rise with their numbers.
 pub(crate) fn numbered(rt: &impl Abort, number: usize) -> Key {
-    key(rt, &[(number / 16 % 16 + 1) as u8, (number % 16) as u8])
+    let bytes = [(number / 16 % 16 + 1) as u8, (number % 16) as u8];
+    Key::new(&bytes).expect(rt, "1 to 32 bytes")
+}
+
+/// The value of one byte.
+pub(crate) fn value(rt: &impl Abort, byte: u8) -> Value {
+    Value::new(&[byte]).expect(rt, "at most 64 bytes")
+}
+
+/// Puts at the keys of this many numbers, far from each other in the order of the keys.
+pub(crate) fn edits_of(rt: &(impl Abort + AllocGlobal), count: usize) -> Vec<Edit> {
+    let mut edits = Vec::new(rt.alloc());
+    for number in 0..count {
+        let key = numbered(rt, number.wrapping_mul(37) % KEYS);
+        let edit = Edit::Put(key, value(rt, (number % 256) as u8));
+        edits.push(edit).expect(rt, "memory");
+    }
+    edits
 }
 
 /// Splits into this many shards, each at one of the keys.
-pub(crate) fn splits_of(rt: &(impl Abort + AllocGlobal), shards: usize) -> Vec<Key> {
+fn splits_of(rt: &(impl Abort + AllocGlobal), shards: usize) -> Vec<Key> {
     let mut splits = Vec::new(rt.alloc());
     for shard in 1..shards {
         let split = numbered(rt, shard.wrapping_mul(KEYS) / shards);
@@ -64,12 +65,12 @@ pub(crate) fn opened(
 }
 
 /// The handles of a sharded map.
-pub(crate) fn dealt<'a, B: Allocator + Copy>(
+pub(crate) fn dealt<'a>(
     rt: &impl Abort,
-    alloc: B,
+    alloc: Global,
     sharded: &'a Sharded<Global>,
     seats: AllSeats<Global>,
-) -> Vec<Handle<'a, Global, B>, B>
+) -> Vec<Handle<'a, Global, Global>>
     requires own { seats ≡ seats_of sharded.now }
 {
     let Ok(handles) = sharded.deal(alloc, seats) else {
@@ -78,7 +79,7 @@ pub(crate) fn dealt<'a, B: Allocator + Copy>(
     handles
 }
 
-/// The one handle of a sharded map whose shards have one pass.
+/// The last handle of a sharded map.
 pub(crate) fn one_dealt<'a>(
     rt: &(impl Abort + AllocGlobal),
     sharded: &'a Sharded<Global>,
@@ -87,7 +88,6 @@ pub(crate) fn one_dealt<'a>(
     requires own { seats ≡ seats_of sharded.now }
 {
     let mut handles = dealt(rt, rt.alloc(), sharded, seats);
-    assert!(rt; handles.len() == 1);
     let Some(handle) = handles.pop() else {
         panic!(rt; "a handle")
     };

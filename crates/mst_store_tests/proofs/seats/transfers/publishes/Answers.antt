@@ -4,16 +4,16 @@ use Rattle.mst_key.specs.declared.history.Event.{Event}
 use Rattle.mst_key.specs.History.{changed_format}
 use Rattle.mst_key.proofs.HistoryLaws.{format_kept}
 use Rattle.mst_versions.specs.Turns.{HasMade}
-use Rattle.mst_store_tests.proofs.seats.transfers.a_publication_leaves_the_pins_to_its_transfer.Goals as goal
+use Rattle.mst_store_tests.proofs.seats.transfers.publishes.Goals as goal
 
-pub publish_by_steps-published-requires : goal.publish_by_steps-published-requires
-publish_by_steps-published-requires g c =
-    let t = c.in-Ok-begin_write.turn in let e : Event = c.in_ok-event.event in
+pub publish_by_steps-requires : goal.publish_by_steps-requires
+publish_by_steps-requires c =
+    let t = c.in-Ok-begin_write.turn in let e : Event = c.args.event.now in
     let number : c.begin_write.new.seat.me.0.number ≡ e.pass = search rules in
     record {
       made =
           subst (λ (f : Format). HasMade c.make.new.turn c.in-Ok-make.root f e c.make.new.seat.me)
-          (format_kept t.format e.change c.in_ok-event.ensures.keyed ∙ sym c.make.ensures.kept)
+          (format_kept t.format e.change c.requires.keyed ∙ sym c.make.ensures.kept)
           (subst (λ (z : Event). HasMade c.make.new.turn c.in-Ok-make.root
           (changed_format t.format e.change) z c.make.new.seat.me)
           (ap (λ (p : ℕ). record { pass = p; change = e.change }) number)

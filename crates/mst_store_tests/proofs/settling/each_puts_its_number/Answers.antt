@@ -1,7 +1,0 @@
-use Rattle.std.proofs.Common.{rules}
-use Rattle.mst_store.proofs.AllPasses.{all_changed}
-use Rattle.mst_store_tests.proofs.settling.each_puts_its_number.Goals as goal
-
-pub loop-pass-preserved : goal.loop-pass-preserved
-loop-pass-preserved g c = all_changed c.loop-pass.passes c.loop-pass.pass-index c.adds.new.pass
-    c.pass-item.result (search rules) c.adds.ensures.same c.loop-pass.invariant
