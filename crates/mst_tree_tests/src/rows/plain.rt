@@ -1,7 +1,7 @@
 //! What no clause says: worked examples, printed text, and that plain rows take no memory. In
 //! `tests/store` each growth of a desk is refused, that of a store (`growths.c`), it goes on over a
 //! full heap (`full_heap.c`), and all short scripts find the rows that are free (`at_rest.c`).
-ghost use Rattle.std.specs.Prelude.{◌≡◌, IsSome, length};
+ghost use Rattle.std.specs.Prelude.{◌≡◌, IsSome, IsTrue, length, nat_lt};
 ghost use Rattle.mst_arena.specs.Content.{listed, part_at};
 ghost use Rattle.mst_arena.specs.Row.{keyed_links, entry_value};
 
@@ -72,7 +72,7 @@ fn plain_rows_are_read_as_written_in_the_least_heap(rt: HostRuntime) {
 
 /// Whether an entry is copied to the row before it with other links alone.
 fn is_copied(rows: &mut PlainRows<Global>) -> bool
-    requires two { length rows.old ≡ 2 }
+    requires blank { IsTrue (nat_lt 0 (length rows.old)) }
     requires links { IsSome (part_at keyed_links (listed rows.old) 1) }
     requires value { IsSome (part_at entry_value (listed rows.old) 1) }
 {

@@ -8,7 +8,7 @@ use Rattle.mst_store_tests.proofs.seats.transfers.publishes.Goals as goal
 
 pub publish_by_steps-requires : goal.publish_by_steps-requires
 publish_by_steps-requires c =
-    let t = c.in-Ok-begin_write.turn in let e : Event = c.args.event.now in
+    let t = c.in-Ok.turn in let e : Event = c.args.event.now in
     let number : c.begin_write.new.seat.me.0.number ≡ e.pass = search rules in
     record {
       made =
