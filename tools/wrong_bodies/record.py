@@ -53,14 +53,20 @@ def stated(text):
     return "\n".join(kept)
 
 
+def edits_of(crate):
+    """A crate's wrong bodies by their names, wherever they stand."""
+    found = [
+        it for part in ("must-fail", "wrong-bodies") for it in files(crate.folder, part, "edit")
+    ]
+    return sorted(found, key=os.path.basename)
+
+
 def own_text(crate):
     """What a crate's verdicts depend on of its own."""
     parts = [bare(read(it), "//") for it in files(crate.folder, "src", "rt")]
     for part in ("specs", "proofs"):
         parts += [bare(read(it), "--") for it in files(crate.folder, part, "antt")]
-    for part in ("must-fail", "wrong-bodies"):
-        parts += [bare(read(it), "#") for it in files(crate.folder, part, "edit")]
-    return parts
+    return parts + [bare(read(it), "#") for it in edits_of(crate)]
 
 
 def lemma_files(folder):
@@ -126,13 +132,16 @@ def strike(crate):
 
 
 def faults(crates):
-    """What the record does not say of these crates and of their wrong bodies."""
-    rows, found = lines(), []
+    """What is wrong with the record of these crates, which have wrong bodies, and the crates that
+    have no line in it."""
+    rows, found, untried = lines(), [], []
     for crate in crates:
-        edits = files(crate.folder, "must-fail", "edit") + files(crate.folder, "wrong-bodies", "edit")
+        count = len(edits_of(crate))
         row = rows.pop(crate.name, None)
-        if edits and (row is None or row[1] != str(len(edits))):
-            found.append(f"{crate.name}: its {len(edits)} wrong bodies were not all tried")
-        elif edits and row[3] != hash_of(crate):
+        if row is None:
+            untried.append(crate.name)
+        elif row[1] != str(count):
+            found.append(f"{crate.name}: {row[1]} of its {count} wrong bodies were tried")
+        elif row[3] != hash_of(crate):
             found.append(f"{crate.name}: its wrong bodies were tried on another text")
-    return found + [f"{it}: the record names no such crate" for it in rows]
+    return found + [f"{it}: the record names no such crate" for it in rows], untried
