@@ -8,7 +8,7 @@ import sys
 from concurrent.futures import FIRST_COMPLETED, ProcessPoolExecutor, wait
 from multiprocessing import get_context
 
-from kit import kept_work, last_line, rt, seconds
+from kit import kept_work, rt, seconds
 from wrong_bodies.edits import Edit, paths_of
 from wrong_bodies.rounds import rounds_of
 from wrong_bodies.sources import Sources, read
@@ -85,19 +85,20 @@ class Trial:
         found = exact or (found if function.owner else [])
         return found[0] if len(found) == 1 else None
 
-    def folders_of(self, name):
+    @staticmethod
+    def folders_of(function, name):
         """Where the proof files of a function stand; those of a cycle stand under its name."""
         path = "/".join(name.split("::")[1:])
-        function = next((it for it in self.sources.functions if self.name_of(it) == name), None)
-        cycle = function.cycle if function else None
-        above = os.path.dirname(path)
-        return [f"proofs/{path}/"] + ([f"proofs/{above}/+{cycle}/", f"proofs/+{cycle}/"] if cycle else [])
+        if not function.cycle:
+            return [f"proofs/{path}/"]
+        above = [f"{os.path.dirname(path)}/", ""]
+        return [f"proofs/{path}/", *(f"proofs/{it}+{function.cycle}/" for it in above)]
 
     def state_of(self, function, said):
         """What a check says of a function, and why."""
         name = self.name_of(function)
         reached = functools.partial(self.sources.reached_from, function)
-        return said.of(name, self.folders_of(name), reached)
+        return said.of(name, self.folders_of(function, name), reached)
 
     def alone(self, edit):
         """Tries one wrong body as the gate does."""
