@@ -117,10 +117,10 @@ static void first_texts(void)
         int64_t told;
     } cases[] = {
         {"\1\2\0\0\0\2\n\v\0\0\0\1\f", 13, 2}, /* the second text does not matter */
-        {"\377\1\0\0\0\0", 6, 0},                 /* nor does the format */
-        {"\1\0\0\0\0\1\252", 7, -1},               /* no text */
-        {"\1\1\0\0\0\2\n", 7, -1},                 /* one that is cut short */
-        {"\1\1\0\0", 4, -1},                        /* a length that is */
+        {"\377\1\0\0\0\0", 6, 0},              /* nor does the format */
+        {"\1\0\0\0\0\1\252", 7, -1},           /* no text */
+        {"\1\1\0\0\0\2\n", 7, -1},             /* one that is cut short */
+        {"\1\1\0\0", 4, -1},                    /* a length that is */
     };
     for (size_t at = 0; at < sizeof cases / sizeof *cases; at++)
         is("a first text", mst_top_text((const uint8_t *)cases[at].proof, cases[at].size),
