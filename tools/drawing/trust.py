@@ -37,7 +37,7 @@ BOXES = [
     )),
     ("dashed", RIGHT, CONTRACTS, COLUMN, "wrong bodies", (
         "edits that a check must refuse",
-        "crates/*/must-fail",
+        "crates/*/wrong-bodies",
     )),
     ("dashed", RIGHT, DEFINITIONS, COLUMN, "laws and worked cases", (
         "say what one expects of a definition",
