@@ -1,0 +1,240 @@
+-- What each call leaves of its pass, by what its contract says.
+use Rattle.std.proofs.Common.{◌≡◌, ◌⊎◌, ℕ, List, [], ◌∷◌, ◌++◌, refl, sym, ap, ◌∙◌, subst, ⊎_elim}
+use Rattle.mst_key.specs.declared.format.Format.{Format}
+use Rattle.mst_key.specs.declared.history.Change.{Change}
+use Rattle.mst_key.specs.declared.history.Change.TheVariants.{Put, Remove, Migrate, Batch}
+use Rattle.mst_key.specs.declared.history.Edit.{Edit}
+use Rattle.mst_key.specs.declared.history.Event.{Event}
+use Rattle.mst_key.specs.Map.{Pair, map_get, map_next, map_range}
+use Rattle.mst_key.specs.History.{History, Reply, after, format_after, reply, events_of, IsPrefix}
+use Rattle.mst_key.proofs.HistoryLaws.{IsPrefix-itself}
+use Rattle.mst_node.specs.Text as text
+use Rattle.mst_node.specs.Trail.{proof_text}
+use Rattle.mst_versions.specs.declared.faults.WriteFault.{WriteFault}
+use Rattle.mst_versions.specs.declared.faults.WriteFault.TheVariants as write
+use Rattle.mst_versions.specs.declared.faults.ApplyFault.{ApplyFault}
+use Rattle.mst_versions.specs.declared.faults.ApplyFault.TheVariants as apply
+use Rattle.mst_versions.specs.declared.faults.MigrateFault.{MigrateFault}
+use Rattle.mst_versions.specs.declared.faults.MigrateFault.TheVariants as migrate
+use Rattle.mst_versions.specs.Migrating.{RefusesMigration}
+use Rattle.mst_versions.specs.Applying.{RefusesBatch}
+use Rattle.mst_store.specs.declared.faults.ChangeFault.{ChangeFault}
+use Rattle.mst_store.specs.declared.faults.BatchFault.{BatchFault}
+use Rattle.mst_store.specs.Passes.{Known, having_asked, having_missed, made_by, format_seen, Looks, FindsBusy, Answers, Wrote, Refuses}
+use Rattle.mst_store.specs.Waiting.{WroteAfter, RefusesAfter, RefusesBatchAfter, as_tried, as_tried_batch}
+use Rattle.mst_theorem.specs.Headline.{Reading, Operation, got, came_next, ranged, told_format, told_root, proved, told_version, counted, refused, silent, wrote, read, left_by, IsTold, Reads, IsRefused, IsRefusedMore, Hears, IsSilent, Says, IsUnderWay, IsHonest}
+
+-- nothing was added to the history
+pub record Stays (p q : Known) : Type 0 where
+  pub store : q.store ≡ p.store
+  pub number : q.number ≡ p.number
+  pub later : IsPrefix p.seen q.seen
+  pub mine : q.mine ≡ p.mine
+  pub own : events_of p.number p.seen ≡ p.mine → events_of q.number q.seen ≡ q.mine
+
+-- an event was added to a history that the pass saw then
+pub record Adds (e : Event) (answered : Reply) (p q : Known) : Type 0 where
+  pub log : History
+  pub store : q.store ≡ p.store
+  pub number : q.number ≡ p.number
+  pub later : IsPrefix p.seen log
+  pub seen : q.seen ≡ log ++ e ∷ []
+  pub mine : q.mine ≡ p.mine ++ e ∷ []
+  pub own : events_of q.number q.seen ≡ q.mine
+  pub answer : answered ≡ reply p.store.format log e
+
+abbrev pub Goes : Operation → Known → Known → Type 0
+Goes (wrote change answered) p q = Adds (made_by p change) answered p q
+Goes (read reading) p q = Stays p q × IsTold (left_by q.store.format q.seen) reading
+
+looks_stays : (p q : Known) → Looks p q → Stays p q
+looks_stays p q l = record {
+  store = l.same.0;
+  number = l.same.1;
+  later = l.later;
+  mine = l.mine;
+  own = λ _. l.own;
+}
+
+itself_stays : (p : Known) → Stays p p
+itself_stays p = record {
+  store = refl;
+  number = refl;
+  later = IsPrefix-itself p.seen;
+  mine = refl;
+  own = λ o. o;
+}
+
+same_stays : (p q : Known) → q ≡ p → Stays p q
+same_stays p q is = subst (λ (z : Known). Stays p z) (sym is) (itself_stays p)
+
+asked_stays : (n : ℕ) (p : Known) → Stays p (having_asked n p)
+asked_stays n p = record {
+  store = refl;
+  number = refl;
+  later = IsPrefix-itself p.seen;
+  mine = refl;
+  own = λ o. o;
+}
+
+missed_stays : (n : ℕ) (p : Known) → Stays p (having_missed n p)
+missed_stays n p = record {
+  store = refl;
+  number = refl;
+  later = IsPrefix-itself p.seen;
+  mine = refl;
+  own = λ o. o;
+}
+
+busy_stays : (p q : Known) → FindsBusy p q → Stays p q
+busy_stays p q b = subst (λ (z : Known). Stays p z) (sym b.0) (missed_stays 1 p)
+
+-- tries in vain change nothing of this
+after_missed : (n : ℕ) (p q : Known) → Stays (having_missed n p) q → Stays p q
+after_missed n p q s = record {
+  store = s.store;
+  number = s.number;
+  later = s.later;
+  mine = s.mine;
+  own = s.own;
+}
+
+refuses_stays : (fault : WriteFault) (change : Change) (p q : Known) → Refuses fault change p q
+    → Stays p q
+refuses_stays write.Busy change p q r = busy_stays p q r
+refuses_stays write.VersionsSpent change p q r = looks_stays p q r.0
+refuses_stays write.NoRoom change p q r = looks_stays p q r.0
+
+after_stays : (fault : ChangeFault) (change : Change) (p q : Known)
+    → RefusesAfter fault change p q → Stays p q
+after_stays fault change p q r = after_missed r.tries p q
+    (refuses_stays (as_tried fault) change (having_missed r.tries p) q r.refused)
+
+migration_stays : (fault : MigrateFault) (to : Format) (p q : Known)
+    → RefusesMigration fault to p q → Stays p q
+migration_stays migrate.Busy to p q r = refuses_stays write.Busy (Migrate to) p q r
+migration_stays migrate.VersionsSpent to p q r = refuses_stays write.VersionsSpent (Migrate to) p q r
+migration_stays (migrate.Memory why) to p q r = looks_stays p q r.0
+migration_stays migrate.NoRoom to p q r = refuses_stays write.NoRoom (Migrate to) p q r.0
+
+batch_stays : (fault : ApplyFault) (es : List Edit) (p q : Known) → RefusesBatch fault es p q
+    → Stays p q
+batch_stays apply.Busy es p q r = refuses_stays write.Busy (Batch es) p q r
+batch_stays apply.VersionsSpent es p q r = refuses_stays write.VersionsSpent (Batch es) p q r
+batch_stays (apply.Memory why) es p q r = looks_stays p q r.0
+batch_stays apply.NoRoom es p q r = refuses_stays write.NoRoom (Batch es) p q r
+
+batch_after_stays : (fault : BatchFault) (es : List Edit) (p q : Known)
+    → RefusesBatchAfter fault es p q → Stays p q
+batch_after_stays fault es p q r = after_missed r.tries p q
+    (batch_stays (as_tried_batch fault) es (having_missed r.tries p) q r.refused)
+
+more_stays : (change : Change) (p q : Known) → IsRefusedMore change p q → Stays p q
+more_stays (Put k v) p q r = absurd r
+more_stays (Remove k) p q r = absurd r
+more_stays (Migrate to) p q r = migration_stays r.0 to p q r.1
+more_stays (Batch es) p q r = ⊎_elim
+    (λ (x : (fault : ApplyFault) × RefusesBatch fault es p q). batch_stays x.0 es p q x.1)
+    (λ (x : (fault : BatchFault) × RefusesBatchAfter fault es p q). batch_after_stays x.0 es p q
+    x.1) r
+
+refused_stays : (change : Change) (p q : Known) → IsRefused change p q → Stays p q
+refused_stays change p q r = ⊎_elim
+    (λ (x : (fault : WriteFault) × Refuses fault change p q). refuses_stays x.0 change p q x.1)
+    (λ (y : ((fault : ChangeFault) × RefusesAfter fault change p q) ⊎ IsRefusedMore change p q).
+    ⊎_elim
+    (λ (x : (fault : ChangeFault) × RefusesAfter fault change p q). after_stays x.0 change p q x.1)
+    (λ (x : IsRefusedMore change p q). more_stays change p q x) y) r
+
+hears_stays : (p q : Known) → Hears p q → Stays p q
+hears_stays p q h = subst (λ (z : Known). Stays p z) (sym h.now) record {
+  store = refl;
+  number = refl;
+  later = h.later;
+  mine = refl;
+  own = λ _. h.own;
+}
+
+silent_stays : (p q : Known) → IsSilent p q → Stays p q
+silent_stays p q s = ⊎_elim (λ (x : Looks p q). looks_stays p q x)
+    (λ (y : FindsBusy p q ⊎ (Hears p q ⊎ (((n : ℕ) × (q ≡ having_asked n p)) ⊎ (q ≡ p)))). ⊎_elim
+    (λ (x : FindsBusy p q). busy_stays p q x)
+    (λ (z : Hears p q ⊎ (((n : ℕ) × (q ≡ having_asked n p)) ⊎ (q ≡ p))). ⊎_elim
+    (λ (x : Hears p q). hears_stays p q x)
+    (λ (w : ((n : ℕ) × (q ≡ having_asked n p)) ⊎ (q ≡ p)). ⊎_elim
+    (λ (x : (n : ℕ) × (q ≡ having_asked n p)). subst (λ (k : Known). Stays p k) (sym x.1)
+    (asked_stays x.0 p))
+    (λ (x : q ≡ p). same_stays p q x) w) z) y) s
+
+-- a read answers what it asks of the map at its place
+reads : {R : Type 0} (question : Format → List Pair → R) (p : Known) (found : R) (q : Known)
+    → Reads question p found q
+    → Stays p q × (found ≡ question (format_after q.store.format q.seen) (after q.seen))
+reads question p found q r = ⊎_elim
+    (λ (a : Answers question p found q). (looks_stays p q a.looks, a.answer_is))
+    (λ (b : (q ≡ p) × (found ≡ question (format_seen p) (after p.seen))). (
+      same_stays p q b.0,
+      b.1 ∙ ap (λ (z : Known). question (format_seen z) (after z.seen)) (sym b.0),
+    )) r
+
+says : (reading : Reading) (p q : Known) → Says reading p q
+    → Stays p q × IsTold (left_by q.store.format q.seen) reading
+says (got k found) p q h = reads (λ _ m. map_get m k) p found q h
+says (came_next bound found) p q h = reads (λ _ m. map_next m bound) p found q h
+says (ranged from to limit found) p q h = reads (λ _ m. map_range m from to limit) p found q h
+says (told_format found) p q h = reads (λ f _. f) p found q h
+says (told_root digest) p q h = reads text.root p digest q h
+says (proved k proof) p q h = reads (λ f m. proof_text f m k) p proof q h
+says (told_version number) p q h =
+    (⊎_elim (λ (x : Looks p q). looks_stays p q x) (λ (x : q ≡ p). same_stays p q x) h.0, h.1)
+says (counted rows) p q h = (looks_stays p q h.0, h.1)
+says (refused change) p q h = (refused_stays change p q h, tt)
+says silent p q h = (silent_stays p q h, tt)
+
+wrote_adds : (e : Event) (p : Known) (answered : Reply) (q : Known) → Wrote e p answered q
+    → Adds e answered p q
+wrote_adds e p answered q w = record {
+  log = w.log;
+  store = w.same.0;
+  number = w.same.1;
+  later = w.later;
+  seen = w.seen;
+  mine = w.mine;
+  own = w.own;
+  answer = w.answer;
+}
+
+after_adds : (e : Event) (p : Known) (answered : Reply) (q : Known) → WroteAfter e p answered q
+    → Adds e answered p q
+after_adds e p answered q t = let w = t.wrote in record {
+  log = w.log;
+  store = w.same.0;
+  number = w.same.1;
+  later = w.later;
+  seen = w.seen;
+  mine = w.mine;
+  own = w.own;
+  answer = w.answer;
+}
+
+under_way_adds : (e : Event) (p : Known) (answered : Reply) (q : Known)
+    → IsUnderWay e p answered q → Adds e answered p q
+under_way_adds e p answered q u = subst (λ (z : Known). Adds e answered p z) (sym u.now) record {
+  log = u.log;
+  store = refl;
+  number = refl;
+  later = u.later;
+  seen = refl;
+  mine = refl;
+  own = u.own;
+  answer = u.answer;
+}
+
+-- so each call goes as its contract says
+pub goes : (o : Operation) (p q : Known) → IsHonest o p q → Goes o p q
+goes (wrote change answered) p q h = let e : Event = made_by p change in ⊎_elim
+    (λ (w : Wrote e p answered q). wrote_adds e p answered q w)
+    (λ (y : WroteAfter e p answered q ⊎ IsUnderWay e p answered q). ⊎_elim
+    (λ (w : WroteAfter e p answered q). after_adds e p answered q w)
+    (λ (w : IsUnderWay e p answered q). under_way_adds e p answered q w) y) h
+goes (read reading) p q h = says reading p q h

@@ -1,0 +1,9 @@
+mod Filters
+mod Spread
+mod Calls
+mod Chains
+mod Places
+mod Served
+mod Whole
+mod Times
+mod Notes

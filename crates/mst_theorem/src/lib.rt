@@ -1,0 +1,7 @@
+//! The theorem of a store in one statement: a law, proved as the contract of a function that does
+//! nothing.
+#![tactic(auto)]
+
+mod laws;
+
+pub use laws::{headline, note_laws, time_laws};
