@@ -7,3 +7,4 @@ mod Served
 mod Whole
 mod Times
 mod Notes
+mod TwoCalls

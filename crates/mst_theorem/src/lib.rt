@@ -3,5 +3,7 @@
 #![tactic(auto)]
 
 mod laws;
+mod shown;
 
 pub use laws::{headline, note_laws, time_laws};
+pub use shown::put_and_get;

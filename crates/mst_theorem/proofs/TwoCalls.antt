@@ -1,0 +1,91 @@
+-- A put and a get of two passes that then meet.
+use Rattle.std.proofs.Common.{◌≡◌, ℕ, ◌<◌, ◌≤◌, ◌==◌, if◌then◌else◌, List, [], ◌∷◌, inl, refl, sym, ap, ◌∙◌, subst, arith, Option, Result, Ok, Err, IfOk, IfErr}
+use Rattle.std.proofs.lemmas.List.Elements.{All-cons, All-nil}
+use mathlib.Core.Logic.{dite}
+use native.Mathlib.Decide.{ℕ_discrete}
+use Rattle.mst_key.specs.declared.history.Change.TheVariants.{Put}
+use Rattle.mst_key.specs.Map.{map_get}
+use Rattle.mst_key.specs.History.{History, events_of, IsPrefix, had}
+use Rattle.mst_words.specs.Notes.{IsOfPasses}
+use Rattle.mst_versions.specs.declared.faults.WriteFault.{WriteFault}
+use Rattle.mst_store.specs.Passes.{StoreId, Known, Answers, Wrote, Refuses, made_by, new_pass}
+use Rattle.mst_store.specs.Settling.{Met}
+use Rattle.mst_theorem.specs.Headline.{Call, IsHonest, Leads, calls_of, IsRun, IsHistoryOf, IsOneOrder, read, got}
+use Rattle.mst_theorem.specs.Shown.{HaveOneOrder, put_was}
+use Rattle.mst_theorem.proofs.Calls.{goes}
+use Rattle.mst_theorem.proofs.Chains.{IsOwn, own_new, own_goes}
+use Rattle.mst_theorem.proofs.Whole.{one_order}
+
+put_honest : (p q : Known) (k v : List ℕ) (r : Result (Option (List ℕ)) WriteFault)
+    → IfOk r (λ old. Wrote (made_by p (Put k v)) p (had old) q)
+    → IfErr r (λ fault. Refuses fault (Put k v) p q) → IsHonest (put_was k v r) p q
+put_honest p q k v (Ok old) ok err = inl ok
+put_honest p q k v (Err fault) ok err = inl (fault, err)
+
+pub two_calls : (store : StoreId) (p q p' q' : Known) (k v : List ℕ)
+    (r : Result (Option (List ℕ)) WriteFault) (found : Option (List ℕ)) → store.passes ≡ 2
+    → IfOk r (λ old. Wrote (made_by (new_pass store 1) (Put k v)) (new_pass store 1) (had old) p)
+    → IfErr r (λ fault. Refuses fault (Put k v) (new_pass store 1) p)
+    → Answers (λ _ m. map_get m k) (new_pass store 2) found q → Met p q p' q'
+    → HaveOneOrder store (put_was k v r ∷ read (got k found) ∷ []) p'.seen
+two_calls store p q p' q' k v r found two ok err answers met = record {
+  run = run;
+  asked = refl;
+  order = whole.0;
+  one = subst (λ (l : History). IsOneOrder store run l whole.0)
+      (sym (ap (λ (x : Known). x.seen) met.now.0)) whole.1;
+}
+  where
+    first : Call
+    first = record { operation = put_was k v r; old = new_pass store 1; new = p }
+
+    second : Call
+    second = record { operation = read (got k found); old = new_pass store 2; new = q }
+
+    run : List Call
+    run = first ∷ second ∷ []
+
+    now : ℕ → Known
+    now n = if n == 1 then p else q
+
+    put : IsHonest (put_was k v r) (new_pass store 1) p
+    put = put_honest (new_pass store 1) p k v r ok err
+
+    get : IsHonest (read (got k found)) (new_pass store 2) q
+    get = inl answers
+
+    one : IsOwn store 1 p
+    one = own_goes store 1 (put_was k v r) (new_pass store 1) p
+        (goes (put_was k v r) (new_pass store 1) p put) (own_new store 1)
+
+    other : IsOwn store 2 q
+    other = own_goes store 2 (read (got k found)) (new_pass store 2) q
+        (goes (read (got k found)) (new_pass store 2) q get) (own_new store 2)
+
+    -- each pass is the first or the second
+    each : (P : ℕ → Type 0) → P 1 → P 2 → (n : ℕ) → 0 < n → n ≤ store.passes → P n
+    each P a b n low high = dite (ℕ_discrete n 1) (λ is. subst P (sym is) a)
+        (λ not. subst P (let is : 2 ≡ n = omega (arith, low, high, two, not) in is) b)
+
+    runs : IsRun store run now
+    runs = record {
+      of_store = All-cons (λ (c : Call). (0 < c.old.number) × (c.old.number ≤ store.passes))
+          first (second ∷ []) (omega arith, omega (arith, two))
+          (All-cons (λ (c : Call). (0 < c.old.number) × (c.old.number ≤ store.passes)) second []
+          (omega arith, omega (arith, two))
+          (All-nil (λ (c : Call). (0 < c.old.number) × (c.old.number ≤ store.passes))));
+      leads = each (λ n. Leads (new_pass store n) (calls_of n run) (now n)) (refl, put, refl)
+          (refl, get, refl);
+    }
+
+    history : IsHistoryOf store now met.log
+    history = record {
+      later = each (λ n. IsPrefix (now n).seen met.log) met.later.0 met.later.1;
+      own = each (λ n. events_of n met.log ≡ (now n).mine)
+          (ap (λ (n : ℕ). events_of n met.log) (sym one.number_is) ∙ met.own.0)
+          (ap (λ (n : ℕ). events_of n met.log) (sym other.number_is) ∙ met.own.1);
+      alone = subst (λ (s : StoreId). IsOfPasses s.passes met.log) one.store_is met.alone;
+    }
+
+    whole : (order : List Call) × IsOneOrder store run met.log order
+    whole = one_order store run now met.log runs history

@@ -1,0 +1,49 @@
+//! The theorem at work: what a function ensures of the calls that it makes.
+ghost use Rattle.std.specs.Prelude.{◌≡◌, [], ◌∷◌};
+ghost use Rattle.mst_store.specs.Passes.{new_pass};
+ghost use Rattle.mst_theorem.specs.Headline.{got, read};
+ghost use Rattle.mst_theorem.specs.Shown.{HaveOneOrder, put_was};
+
+use mst_key::{Key, Value};
+use mst_store::{Pass, WriteFault, meet};
+use std::alloc::{Allocator, Global};
+use std::thread::{Threads, join_mut};
+
+/// One new pass of a store of two puts, the other gets. The two calls have one order, in which the
+/// one-thread map gives both answers.
+pub fn put_and_get<'a, A: Allocator + Copy>(
+    one: &mut Pass<'a, A>,
+    other: &mut Pass<'a, A>,
+    key: &Key,
+    value: &Value,
+) -> (Result<Option<Value>, WriteFault>, Option<Value>)
+    requires one { one.old ≡ new_pass one.old.store 1 }
+    requires other { other.old ≡ new_pass one.old.store 2 }
+    requires two { one.old.store.passes ≡ 2 }
+    ensures order { HaveOneOrder one.old.store
+        (put_was key.now value.now result.0 ∷ read (got key.now result.1) ∷ []) one.new.seen }
+{
+    let put = one.try_put(key, value);
+    let found = other.get(key);
+    meet(one, other);
+    (put, found)
+}
+
+/// The same at once, in two threads.
+pub fn put_beside_get<'a, R: Threads>(
+    rt: &R,
+    one: &mut Pass<'a, Global>,
+    other: &mut Pass<'a, Global>,
+    key: &Key,
+    value: &Value,
+) -> (Result<Option<Value>, WriteFault>, Option<Value>)
+    requires one { one.old ≡ new_pass one.old.store 1 }
+    requires other { other.old ≡ new_pass one.old.store 2 }
+    requires two { one.old.store.passes ≡ 2 }
+    ensures order { HaveOneOrder one.old.store
+        (put_was key.now value.now result.0 ∷ read (got key.now result.1) ∷ []) one.new.seen }
+{
+    let (put, found) = join_mut(rt, &mut || one.try_put(key, value), &mut || other.get(key));
+    meet(one, other);
+    (put, found)
+}
