@@ -8,3 +8,4 @@ mod Whole
 mod Times
 mod Notes
 mod TwoCalls
+mod Points

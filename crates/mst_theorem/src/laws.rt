@@ -11,7 +11,7 @@ ghost use Rattle.mst_key.specs.declared.history.Event.{Event};
 ghost use Rattle.mst_store.specs.Passes.{StoreId, Known, HasShape, Wrote};
 ghost use Rattle.mst_store.specs.Settling.{AreAllPasses, Settled};
 ghost use Rattle.mst_theorem.specs.Headline.{Call, IsHonest, Holds, IsHistoryOf, IsNow, IsOneOrder, IsRun, NeverFalls, Sits, rank};
-ghost use Rattle.mst_theorem.specs.Time.{GoesOn};
+ghost use Rattle.mst_theorem.specs.Time.{ByPoints, GoesOn};
 
 /// Whatever the passes of one store do, their calls have one order in which the one-thread ordered
 /// map, asked by one thread, gives the answers that they got. It keeps the order of each pass's
@@ -84,4 +84,10 @@ pub fn time_laws()
         (c : IsRuled z u) (i : ℕ) (v : View) (steps : List Table) (e : Event)
         (p : IsPublication e t u) → SeatAt s.views i v → GoesOn z s steps t
         → IsPrefix v.seen p.made.before.0.seen }
+    // So calls that are listed in the order of the steps at which they take effect stand in the one
+    // order as they are listed. Each such step is one of its call: the store is linearizable
+    ensures points { (z : Shape) (s : Table) (a : IsRuled z s) (store : StoreId)
+        (run order : List Call) (log : History) (chosen : Call → Bool)
+        → IsOneOrder store run log order → ByPoints z s (filter chosen run)
+        → filter chosen order ≡ filter chosen run }
 {}

@@ -1,3 +1,4 @@
+use Rattle.mst_theorem.proofs.Points.{points_kept}
 use Rattle.mst_theorem.proofs.Times.{log_later, pin_whole, write_whole, pin_seen, write_seen}
 use Rattle.mst_theorem.proofs.laws.time_laws.Goals as goal
 
@@ -15,3 +16,6 @@ returns-clause-seen c = pin_seen
 
 pub returns-clause-followed : goal.returns-clause-followed
 returns-clause-followed c = write_seen
+
+pub returns-clause-points : goal.returns-clause-points
+returns-clause-points c = points_kept
