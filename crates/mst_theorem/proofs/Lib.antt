@@ -9,3 +9,4 @@ mod Times
 mod Notes
 mod TwoCalls
 mod Points
+mod TwoOrders

@@ -1,5 +1,5 @@
 -- A put and a get of two passes that then meet.
-use Rattle.std.proofs.Common.{◌≡◌, ℕ, ◌<◌, ◌≤◌, ◌==◌, if◌then◌else◌, List, [], ◌∷◌, inl, refl, sym, ap, ◌∙◌, subst, arith, Option, Result, Ok, Err, IfOk, IfErr}
+use Rattle.std.proofs.Common.{◌≡◌, ℕ, ◌<◌, ◌≤◌, ◌==◌, if◌then◌else◌, List, [], ◌∷◌, inl, refl, sym, ap, ◌∙◌, subst, arith, Option, Result, Ok, Err, IfOk, IfErr, ◌⊎◌, ⊎_elim, None, Some, map}
 use Rattle.std.proofs.lemmas.List.Elements.{All-cons, All-nil}
 use mathlib.Core.Logic.{dite}
 use native.Mathlib.Decide.{ℕ_discrete}
@@ -10,10 +10,11 @@ use Rattle.mst_words.specs.Notes.{IsOfPasses}
 use Rattle.mst_versions.specs.declared.faults.WriteFault.{WriteFault}
 use Rattle.mst_store.specs.Passes.{StoreId, Known, Answers, Wrote, Refuses, made_by, new_pass}
 use Rattle.mst_store.specs.Settling.{Met}
-use Rattle.mst_theorem.specs.Headline.{Call, IsHonest, Leads, calls_of, IsRun, IsHistoryOf, IsOneOrder, read, got}
+use Rattle.mst_theorem.specs.Headline.{Call, IsHonest, Leads, calls_of, IsRun, IsHistoryOf, IsOneOrder, IsServed, left_by, read, got}
 use Rattle.mst_theorem.specs.Shown.{HaveOneOrder, put_was}
 use Rattle.mst_theorem.proofs.Calls.{goes}
 use Rattle.mst_theorem.proofs.Chains.{IsOwn, own_new, own_goes}
+use Rattle.mst_theorem.proofs.TwoOrders.{two_orders, finds_put, finds_none}
 use Rattle.mst_theorem.proofs.Whole.{one_order}
 
 put_honest : (p q : Known) (k v : List ℕ) (r : Result (Option (List ℕ)) WriteFault)
@@ -28,13 +29,17 @@ pub two_calls : (store : StoreId) (p q p' q' : Known) (k v : List ℕ)
     → IfErr r (λ fault. Refuses fault (Put k v) (new_pass store 1) p)
     → Answers (λ _ m. map_get m k) (new_pass store 2) found q → Met p q p' q'
     → HaveOneOrder store (put_was k v r ∷ read (got k found) ∷ []) p'.seen
-two_calls store p q p' q' k v r found two ok err answers met = record {
-  run = run;
-  asked = refl;
-  order = whole.0;
-  one = subst (λ (l : History). IsOneOrder store run l whole.0)
-      (sym (ap (λ (x : Known). x.seen) met.now.0)) whole.1;
-}
+    × ((found ≡ None) ⊎ (found ≡ Some v))
+two_calls store p q p' q' k v r found two ok err answers met = (
+  record {
+    run = run;
+    asked = refl;
+    order = whole.0;
+    one = subst (λ (l : History). IsOneOrder store run l whole.0)
+        (sym (ap (λ (x : Known). x.seen) met.now.0)) whole.1;
+  },
+  found_is,
+)
   where
     first : Call
     first = record { operation = put_was k v r; old = new_pass store 1; new = p }
@@ -89,3 +94,16 @@ two_calls store p q p' q' k v r found two ok err answers met = record {
 
     whole : (order : List Call) × IsOneOrder store run met.log order
     whole = one_order store run now met.log runs history
+
+    -- in either order
+    found_is : (found ≡ None) ⊎ (found ≡ Some v)
+    found_is = ⊎_elim
+        (λ (e : whole.0 ≡ first ∷ second ∷ []). finds_put store.format k v r found
+        (left_by store.format met.log)
+        (subst (λ (l : List Call). IsServed (left_by store.format [])
+        (map (λ (c : Call). c.operation) l) (left_by store.format met.log)) e whole.1.served))
+        (λ (e : whole.0 ≡ second ∷ first ∷ []). finds_none store.format k v r found
+        (left_by store.format met.log)
+        (subst (λ (l : List Call). IsServed (left_by store.format [])
+        (map (λ (c : Call). c.operation) l) (left_by store.format met.log)) e whole.1.served))
+        (two_orders first second whole.0 (λ e. omega (arith, e)) whole.1.each)

@@ -1,5 +1,5 @@
 //! The theorem at work: what a function ensures of the calls that it makes.
-ghost use Rattle.std.specs.Prelude.{◌≡◌, [], ◌∷◌};
+ghost use Rattle.std.specs.Prelude.{◌≡◌, ◌⊎◌, [], ◌∷◌, Some, None};
 ghost use Rattle.mst_store.specs.Passes.{new_pass};
 ghost use Rattle.mst_theorem.specs.Headline.{got, read};
 ghost use Rattle.mst_theorem.specs.Shown.{HaveOneOrder, put_was};
@@ -22,6 +22,8 @@ pub fn put_and_get<'a, A: Allocator + Copy>(
     requires two { one.old.store.passes ≡ 2 }
     ensures order { HaveOneOrder one.old.store
         (put_was key.now value.now result.0 ∷ read (got key.now result.1) ∷ []) one.new.seen }
+    // so the get finds nothing, or what was put
+    ensures found { (result.1 ≡ None) ⊎ (result.1 ≡ Some value.now) }
 {
     let put = one.try_put(key, value);
     let found = other.get(key);
@@ -42,6 +44,8 @@ pub fn put_beside_get<'a, R: Threads>(
     requires two { one.old.store.passes ≡ 2 }
     ensures order { HaveOneOrder one.old.store
         (put_was key.now value.now result.0 ∷ read (got key.now result.1) ∷ []) one.new.seen }
+    // so the get finds nothing, or what was put
+    ensures found { (result.1 ≡ None) ⊎ (result.1 ≡ Some value.now) }
 {
     let (put, found) = join_mut(rt, &mut || one.try_put(key, value), &mut || other.get(key));
     meet(one, other);

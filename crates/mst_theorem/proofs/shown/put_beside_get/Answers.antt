@@ -13,13 +13,12 @@ returns g c = let put = c.join_mut-put.result.0 in let found = c.join_mut-put.re
     let ok : IfOk put (λ old. Wrote (made_by c.args.one.now (Put k v)) c.args.one.now (had old) p) =
     search rules in
     let err : IfErr put (λ fault. Refuses fault (Put k v) c.args.one.now p) = search rules in
-    let answers : Answers (λ _ m. map_get m k) c.args.other.now found q = search rules in record {
-      order = two_calls c.args.one.now.store p q c.meet.new.one c.meet.new.other k v put found
-          c.requires.two
-          (subst (λ (z : Known). IfOk put (λ old. Wrote (made_by z (Put k v)) z (had old) p))
-          c.requires.one ok)
-          (subst (λ (z : Known). IfErr put (λ fault. Refuses fault (Put k v) z p)) c.requires.one
-          err)
-          (subst (λ (z : Known). Answers (λ _ m. map_get m k) z found q) c.requires.other answers)
-          c.meet.ensures.met;
-    }
+    let answers : Answers (λ _ m. map_get m k) c.args.other.now found q = search rules in let both =
+    two_calls c.args.one.now.store p q c.meet.new.one c.meet.new.other k v put found
+    c.requires.two
+    (subst (λ (z : Known). IfOk put (λ old. Wrote (made_by z (Put k v)) z (had old) p))
+    c.requires.one ok)
+    (subst (λ (z : Known). IfErr put (λ fault. Refuses fault (Put k v) z p)) c.requires.one
+    err)
+    (subst (λ (z : Known). Answers (λ _ m. map_get m k) z found q) c.requires.other answers)
+    c.meet.ensures.met in record { order = both.0; found = both.1 }
