@@ -28,6 +28,7 @@
 mod faults;
 mod laid;
 mod laws;
+mod noting;
 mod pass;
 mod pinned;
 mod settling;
