@@ -18,3 +18,4 @@ pub mod NodeRows
 pub mod AgeLaws
 pub mod Stands
 pub mod Reach
+pub mod UndoLemmas

@@ -8,3 +8,4 @@ pub mod Bits
 pub mod Lists
 pub mod Standing
 pub mod Ages
+pub mod Undone

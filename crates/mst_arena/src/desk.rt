@@ -2,6 +2,7 @@
 ghost use Rattle.std.specs.Prelude.{◌≡◌, ◌≢◌, ◌≤◌, ◌<◌, ◌+◌, ℕ, List, [], length, map, replicate, vec_capacity, IfOk, IfSome, IfNone, MatchResult, Some, slice_get, slice_set, slice_index};
 ghost use Rattle.mst_arena.specs.Limits.{most_rows};
 ghost use Rattle.mst_arena.specs.Lives.{State, version, next, last_version, free_count, swept_life, ended_life, with_life};
+ghost use Rattle.mst_arena.specs.Undone.{undone};
 ghost use Rattle.sha2.specs.Sha256.{sha256};
 ghost use Rattle.mst_prefix.specs.Kept.{HasTaken};
 ghost use Rattle.mst_arena.specs.declared.life.Life.TheVariants.{Free, Born};
@@ -9,6 +10,7 @@ ghost use Rattle.mst_arena.specs.declared.life.Life.TheVariants.{Free, Born};
 use crate::free_rows::FreeRows;
 use crate::life::Life;
 use crate::sweep::{look_again, sweep_dead};
+use crate::undo::undo_all;
 use mst_key::Memory;
 use mst_prefix::{LayerBeginnings, TextHasher};
 use std::alloc::Allocator;
@@ -214,6 +216,17 @@ impl<A: Allocator> Desk<A> {
         let next = self.versions[self.current as usize] + 1;
         self.versions[into as usize] = next;
         self.current = into;
+    }
+
+    /// Takes back all that was done since the last advance, and frees the rows that were taken: no
+    /// row is born or dies with the version to come. It looks at each row.
+    pub fn undo(&mut self)
+        ensures undone { self.new ≡ undone self.old }
+    {
+        let next = self.versions[self.current as usize] + 1;
+        self.dead.clear();
+        self.held.clear();
+        undo_all(&mut self.lives, &mut self.free, &mut self.dead, next);
     }
 
     /// A hasher of the text of a node of this layer, with what is kept of such texts.

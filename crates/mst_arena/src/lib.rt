@@ -37,6 +37,7 @@ mod row;
 mod rows;
 mod sought;
 mod sweep;
+mod undo;
 mod words;
 
 pub use desk::{Desk, VersionsSpent};
@@ -52,3 +53,4 @@ pub use row::{
 };
 pub use rows::Rows;
 pub use sought::{Sought, Stop, Way};
+pub use undo::undo_laws;
