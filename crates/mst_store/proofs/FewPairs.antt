@@ -1,12 +1,14 @@
 -- A map that stands on rows of a store has at most as many pairs as the store has rows.
-use Rattle.std.proofs.Common.{◌≡◌, ◌≢◌, ℕ, ◌<◌, ◌≤◌, ◌||◌, Bool, true, false, eqb, if◌then◌else◌, List, [], ◌∷◌, length, Option, Some, None, refl, ap, arith}
+use Rattle.std.proofs.Common.{◌≡◌, ◌≢◌, ℕ, ◌<◌, ◌≤◌, ◌||◌, Bool, true, false, eqb, if◌then◌else◌, List, [], ◌∷◌, ◌++◌, length, Option, Some, None, refl, ap, subst, arith}
 use Rattle.std.specs.List.{list_any, AllByRecursion, IsDistinct}
 use Rattle.std.proofs.lemmas.Bool.Decides.{nat_tests}
 use Rattle.std.proofs.lemmas.Map.Steps.{length-le_from_distinct_below}
 use Rattle.atomic_table.specs.Table.{Me}
 use Rattle.mst_key.specs.declared.format.Format.{Format}
-use Rattle.mst_key.specs.History.{after}
-use Rattle.mst_key.specs.Map.{Pair}
+use Rattle.mst_key.specs.declared.history.Edit.{Edit}
+use Rattle.mst_key.specs.History.{after, batched}
+use Rattle.mst_key.specs.Map.{Pair, IsMap}
+use Rattle.mst_key.proofs.HistoryLaws.{after-push}
 use Rattle.mst_arena.specs.Content.{Content}
 use Rattle.mst_arena.specs.Lives as lives
 use Rattle.mst_arena.specs.declared.row.Root.{Root}
@@ -21,7 +23,10 @@ use Rattle.mst_words.specs.Records.{row}
 use Rattle.mst_words.specs.Stored.{rows_in}
 use Rattle.mst_words.proofs.Accesses.{inside}
 use Rattle.mst_versions.specs.declared.reading.PinnedVersion.{PinnedVersion}
+use Rattle.mst_versions.specs.declared.preparing.Preparation.{Preparation}
 use Rattle.mst_versions.specs.Pinned.{PinsVersion}
+use Rattle.mst_versions.specs.Preparing.{batch_of, IsPrepared}
+use Rattle.mst_versions.specs.Turns.{SeatState}
 
 -- ---- numbers below n, of which none stands twice
 
@@ -96,4 +101,23 @@ few_pinned m m' at p few =
     let pairs = few_pairs _ (content_of m'.0) m'.0.rows (readable m'.0) _
     (after m'.0.pinned_history) p.has.stands in
     let same : m'.0.rows ≡ m.0.rows = ap (λ (z : Me Slot View). z.0.rows) p.rest in
+    omega (arith, pairs, same, few)
+
+-- ---- what a pass prepares
+
+-- the map after the edits of a batch that is prepared
+pub prepared_map : {A : Type 0} (number : ℕ) (edits : List Edit) (p : Preparation A)
+    (m : SeatState) → IsPrepared number edits p m → IsMap (batched (after m.0.seen) edits)
+prepared_map number edits p m h =
+    subst IsMap (after-push m.0.seen (batch_of number edits)) h.made.stands.map
+
+pub prepared_few : {A : Type 0} (number : ℕ) (edits : List Edit) (p : Preparation A)
+    (m : SeatState) → IsPrepared number edits p m → m.0.rows ≤ 65535
+    → length (batched (after m.0.seen) edits) ≤ 65535
+prepared_few number edits p m h few =
+    let e = batch_of number edits in
+    let pairs = few_pairs p.turn.format (content_of m.0) m.0.rows (readable m.0) p.root
+    (after (m.0.seen ++ e ∷ [])) h.made.stands in
+    let same : length (after (m.0.seen ++ e ∷ [])) ≡ length (batched (after m.0.seen) edits) =
+    ap (λ (l : List Pair). length l) (after-push m.0.seen e) in
     omega (arith, pairs, same, few)

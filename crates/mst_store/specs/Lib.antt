@@ -1,3 +1,4 @@
 pub mod Passes
 pub mod Settling
 pub mod Waiting
+pub mod Preparing

@@ -4,15 +4,17 @@ ghost use Rattle.std.specs.Prelude.{◌≡◌, ◌⊎◌, ◌+◌, ◌<◌, ◌�
 ghost use Rattle.mst_key.specs.declared.format.Format.{Format};
 ghost use Rattle.mst_key.specs.declared.history.Change.{Change};
 ghost use Rattle.mst_key.specs.declared.history.Change.TheVariants.{Put, Remove};
+ghost use Rattle.mst_key.specs.declared.history.Change.TheVariants as change;
 ghost use Rattle.mst_key.specs.declared.history.Edit.{Edit};
-ghost use Rattle.mst_key.specs.History.{History, Reply, events_of, IsPrefix};
+ghost use Rattle.mst_key.specs.History.{History, Reply, done, events_of, IsPrefix};
 ghost use Rattle.mst_key.specs.Map.{Pair};
 ghost use Rattle.mst_words.specs.Notes.{IsOfPasses};
 ghost use Rattle.mst_versions.specs.Applying.{RefusesBatch};
 ghost use Rattle.mst_versions.specs.declared.faults.ApplyFault.{ApplyFault};
 ghost use Rattle.mst_versions.specs.declared.faults.ApplyFault.TheVariants.{Busy, VersionsSpent, NoRoom};
 ghost use Rattle.mst_versions.specs.declared.faults.WriteFault.TheVariants as write;
-ghost use Rattle.mst_store.specs.Passes.{Known, made_by, AreFree, Wrote, HasRoom, LacksRoom, Refuses};
+ghost use Rattle.mst_store.specs.Passes.{Known, Looks, made_by, AreFree, Wrote, HasRoom, LacksRoom, Refuses};
+ghost use Rattle.mst_store.specs.Preparing.{Prepares, published};
 ghost use Rattle.mst_store.specs.Settling.{Met};
 ghost use Rattle.mst_versions.specs.Writes.{rows_needed};
 
@@ -69,4 +71,12 @@ pub fn free_rows_laws()
         → AreFree free p → free < rows_needed p.store.format p.seen change
         → q.seen ≡ p.seen ++ made_by p change ∷ [] → q.found ≡ p.found
         → Wrote (made_by p change) p answered q → ⊥ }
+{}
+
+/// A batch that was prepared and then published was written, and one that was prepared was seen by
+/// nobody: its pass has seen a history with no event of it.
+pub fn preparing_laws()
+    ensures wrote { (edits : List Edit) (p r : Known) → Prepares edits p r
+        → Wrote (made_by p (change.Batch edits)) p done (published edits r) }
+    ensures nothing { (edits : List Edit) (p r : Known) → Prepares edits p r → Looks p r }
 {}

@@ -13,5 +13,7 @@ mod Shown
 mod Written
 mod Migrated
 mod Batched
+mod Undone
+pub mod Prepared
 mod Counted
 pub mod FewRows

@@ -96,7 +96,7 @@ room_alone_left t m h none =
     omega (arith, all, rows_of_map t.format (content_of m.0) t.root (after m.0.seen) h.stands)
 
 -- each event is of a pass of the store, and so is that of one that follows
-one_longer : (passes : ℕ) (log : History) (e : Event) → IsOfPasses passes log → 0 < e.pass
+pub one_longer : (passes : ℕ) (log : History) (e : Event) → IsOfPasses passes log → 0 < e.pass
     → e.pass ≤ passes → IsOfPasses passes (log ++ e ∷ [])
 one_longer passes log e alone pos low = All-append (λ (d : Event). (0 < d.pass) × (d.pass ≤ passes))
     log (e ∷ []) alone (All-cons (λ (d : Event). (0 < d.pass) × (d.pass ≤ passes)) e [] (pos, low)
@@ -108,7 +108,7 @@ pub own_event : (m m' : SeatState) (e : Event) → e.pass ≡ m.0.number → m'.
 own_event m m' e mine same = ap (λ (p : ℕ). record { pass = p; change = e.change })
     (same ∙ sym mine)
 
-one_event : (number : ℕ) (change : Change)
+pub one_event : (number : ℕ) (change : Change)
     → events_of number (record { pass = number; change = change } ∷ [])
     ≡ record { pass = number; change = change } ∷ []
 one_event number change =
@@ -149,7 +149,7 @@ module _ {A : Type 0} (m m1 : SeatState) (t : Turn A) (b : Begun m t m1) where
       }
 
   -- or enough
-  finds_room : (change : Change) → rows_taken t.format (after m1.0.seen) change ≤ free_count
+  pub finds_room : (change : Change) → rows_taken t.format (after m1.0.seen) change ≤ free_count
       t.desk.lives → FindsRoom m.0.format m.0.rows m.0.passes m1.0.seen m1.0.found change
   finds_room change enough =
       let left = leaves.left in let n = ap (λ (v : View). v.rows) b.rest in

@@ -1,44 +1,21 @@
 //! A batch of edits: all of them are made in free rows in one turn, and one version is published.
-ghost use Rattle.std.specs.Prelude.{◌≡◌, ◌<◌, length, IfOk, IfErr, OnErr, IsErrOf};
+ghost use Rattle.std.specs.Prelude.{◌≡◌, length, IfOk, IfErr, IsErrOf};
 ghost use Rattle.mst_key.specs.declared.history.Change.TheVariants as change;
 ghost use Rattle.mst_key.specs.History.{done};
-ghost use Rattle.mst_arena.specs.Lives.{last_version};
 ghost use Rattle.mst_words.specs.Access.{IsSameSeat};
 ghost use Rattle.mst_words.specs.Steps.{IsFree, Misses};
 ghost use Rattle.mst_versions.specs.Resting.{IsResting};
 ghost use Rattle.mst_versions.specs.Known.{AtSeat};
-ghost use Rattle.mst_versions.specs.Turns.{HasTurn, Spent};
-ghost use Rattle.mst_versions.specs.Writes.{Made, KeepsPass, WroteAtSeat};
-ghost use Rattle.mst_versions.specs.Applying.{LacksEdits, RefusesBatch};
+ghost use Rattle.mst_versions.specs.Turns.{Spent};
+ghost use Rattle.mst_versions.specs.Writes.{KeepsPass, WroteAtSeat};
+ghost use Rattle.mst_versions.specs.Applying.{RefusesBatch};
 
 use crate::faults::ApplyFault;
-use crate::finishing::publish;
 use crate::parameters::PassParameters;
-use crate::turn::{BeginFault, Turn, begin_write, give_back};
-use mst_arena::Root;
-use mst_batch::NotApplied;
-use mst_key::{Batch, Change, Edit, Event};
+use crate::preparing::{prepare, publish};
+use mst_key::Edit;
 use mst_words::PassSeat;
 use std::alloc::Allocator;
-
-// Makes the edits in the map of the current version. It returns where the new map stands.
-fn make_batch<A: Allocator + Copy, B: Allocator + Copy>(
-    seat: &mut PassSeat<'_, A>,
-    alloc: B,
-    turn: &mut Turn<A>,
-    edits: &[Edit],
-) -> Result<Root, NotApplied>
-    requires turn { HasTurn turn.old seat.old.me }
-    requires open { length seat.old.me.0.seen < last_version }
-    ensures same { IsSameSeat seat.old seat.new }
-    ensures made { IfOk result (λ root. Made (change.Batch edits.now)
-        turn.old seat.old.me root done turn.new seat.new.me) }
-    ensures lacks { IfErr result (λ why. LacksEdits why edits.now turn.old seat.old.me) }
-    ensures untouched { OnErr result ((turn.new ≡ turn.old) × (seat.new ≡ seat.old)) }
-{
-    let format = turn.format;
-    mst_batch::apply(seat, &mut turn.desk, &turn.root, alloc, edits, format)
-}
 
 /// Publishes the map after the edits, made one after another, as the next version, and returns its
 /// number.
@@ -69,27 +46,8 @@ pub fn apply<A: Allocator + Copy, B: Allocator + Copy>(
     ensures missed { IsErrOf result ApplyFault.Busy → Misses seat.old.me seat.new.me }
     ensures spent { IsErrOf result ApplyFault.VersionsSpent → Spent seat.old.me seat.new.me }
 {
-    let mut turn = match begin_write(seat, parameters) {
-        Ok(turn) => turn,
-        Err(BeginFault::Busy) => return Err(ApplyFault::Busy),
-        Err(BeginFault::VersionsSpent) => return Err(ApplyFault::VersionsSpent),
-    };
-    let format = turn.format;
-    match make_batch(seat, alloc, &mut turn, edits) {
-        Ok(root) => {
-            let event = Event {
-                pass: parameters.number,
-                change: Change::Batch(Batch::new(edits)),
-            };
-            Ok(publish(seat, turn, &root, format, &event))
-        }
-        Err(NotApplied::Memory(refused)) => {
-            give_back(seat, turn);
-            Err(ApplyFault::Memory(refused))
-        }
-        Err(NotApplied::NoRoom) => {
-            give_back(seat, turn);
-            Err(ApplyFault::NoRoom)
-        }
+    match prepare(seat, alloc, parameters, edits) {
+        Ok(prepared) => Ok(publish(seat, parameters, prepared, edits)),
+        Err(fault) => Err(fault),
     }
 }

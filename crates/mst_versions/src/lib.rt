@@ -24,6 +24,7 @@ mod faults;
 mod finishing;
 pub mod migrating;
 mod parameters;
+pub mod preparing;
 pub mod reading;
 pub mod roots;
 pub mod turn;
@@ -31,3 +32,4 @@ pub mod writing;
 
 pub use faults::{ApplyFault, Busy, MigrateFault, WriteFault};
 pub use parameters::PassParameters;
+pub use preparing::Preparation;
