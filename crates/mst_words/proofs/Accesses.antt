@@ -1,10 +1,10 @@
 -- What a pass may read and write of the rows, as the steps ask for it.
-use Rattle.std.proofs.Common.{◌≡◌, ℕ, zero, suc, ◌+◌, ◌*◌, ◌<◌, ◌≤◌, ◌≢◌, ◌⊎◌, inl, inr, Bool, true, false, not, ◌&&◌, ◌||◌, eqb, is_some, is_none, nat_lt, Option, Some, None, IsSome, IfSome, List, [], length, map, take, set, get_or, subst, refl, sym, ap, ◌∙◌, arith, ⊎_elim, if◌then◌else◌, length-set, get_or-set_same, get_or-set_other}
+use Rattle.std.proofs.Common.{◌≡◌, ℕ, zero, suc, ◌+◌, ◌<◌, ◌≤◌, ◌≢◌, ◌⊎◌, inl, inr, Bool, true, false, not, ◌&&◌, ◌||◌, eqb, is_some, is_none, nat_lt, Option, Some, None, IsSome, IfSome, List, [], length, map, take, set, get_or, subst, refl, sym, ap, ◌∙◌, arith, ⊎_elim, if◌then◌else◌, length-set, get_or-set_same, get_or-set_other}
 use Rattle.std.specs.Prelude.{option_and_then}
 use Rattle.std.specs.List.{list_any, range_with_len}
 use mathlib.Core.Logic.{dite}
 use native.Mathlib.Decide.{ℕ_discrete}
-use Rattle.std.proofs.lemmas.Bool.{ltb-true, lt-ltb}
+use Rattle.std.proofs.lemmas.Bool.{ltb-true, lt-ltb, eqb-true}
 use Rattle.std.proofs.lemmas.List.{ext_get_or, get_or-take, length-take-le}
 use Rattle.std.proofs.lemmas.List.FromFn.{fill_by_all, length-map-range_with_len, get_or-map-range_with_len}
 use Rattle.atomic_table.specs.Seated.{TableId}
@@ -17,13 +17,14 @@ use Rattle.mst_arena.specs.declared.row.Row.{Row}
 use Rattle.mst_arena.proofs.ListLemmas.{any_times}
 use Rattle.mst_arena.proofs.Readers.{relinked_words}
 use Rattle.mst_words.specs.declared.view.View.{View}
-use Rattle.mst_words.specs.Layout.{row_word, row_words, first_row}
+use Rattle.mst_words.specs.Layout.{row_word, row_words, first_row, table_words}
 use Rattle.mst_words.specs.Records as records
 use Rattle.mst_words.specs.Records.{IsBlank}
 use Rattle.mst_words.specs.Steps.{IsReadable, IsWritable}
 use Rattle.mst_words.specs.Stored.{stored, rows_in, version_of}
-use Rattle.mst_words.specs.Access.{Seated, with_words, beside, may_read, content_of, all_below, is_unreached, may_write, RowStored}
+use Rattle.mst_words.specs.Access.{IsAt, Seated, with_words, beside, may_read, content_of, all_below, is_unreached, may_write, RowStored}
 use Rattle.mst_words.proofs.Framed.{same_row}
+use Rattle.mst_words.proofs.Places.{place_above, place_below, place_apart}
 
 both : (a b : Bool) → (a && b) ≡ true → (a ≡ true) × (b ≡ true)
 both true b h = (refl, h)
@@ -41,12 +42,17 @@ gone : (o : Option ℕ) → is_none o ≡ true → o ≡ None
 gone None h = refl
 gone (Some r) h = absurd (let c : false ≡ true = h in cc)
 
+-- a table of so many words has so many rows
+pub rows_of_table : {board seat : TableId} {rows n : ℕ} → IsAt board seat rows
+    → board.words ≡ table_words n → n ≡ rows
+rows_of_table at wide = let a = at.wide in omega (arith, a, wide)
+
 pub readable : (v : View) (x k : ℕ) → may_read v x ≡ true → k < row_words
-    → IsReadable v (row_word x k)
+    → IsReadable v (row_word v.rows x k)
 readable v x k may lt = let a =
     both (nat_lt x v.rows) (v.turn || (is_some v.pin && list_any (eqb x) v.pinned_rows)) may in
     ⊎_elim
-    (λ (on : v.turn ≡ true). inl (on, omega arith))
+    (λ (on : v.turn ≡ true). inl (on, (let p = place_above v.rows x k in omega (arith, p))))
     (λ (pinned : (is_some v.pin && list_any (eqb x) v.pinned_rows) ≡ true). let b =
     both (is_some v.pin) (list_any (eqb x) v.pinned_rows) pinned in let p = there v.pin b.0 in
     inr (inr (p.0, x, k, p.1, any_times x v.pinned_rows b.1, lt, refl)))
@@ -64,7 +70,7 @@ each_below (suc n) p r all lt = let a = both (p n) (all_below n p) all in
 
 -- what a blank row is, read off the parts of its definition
 pub record Blank (v : View) (x : ℕ) : Type 0 where
-  pub known : row_word x 15 < length v.known_words
+  pub known : length v.known_words ≡ table_words v.rows
   pub inside : x < v.rows
   pub on : v.turn ≡ true
   pub unpinned : v.pin ≡ None
@@ -73,17 +79,17 @@ pub record Blank (v : View) (x : ℕ) : Type 0 where
 
 pub blank_parts : (v : View) (x : ℕ) → may_write v x ≡ true → Blank v x
 blank_parts v x h = let a =
-    both (nat_lt (row_word x 15) (length v.known_words) && nat_lt x v.rows && v.turn && is_none
+    both (eqb (length v.known_words) (table_words v.rows) && nat_lt x v.rows && v.turn && is_none
     v.pin && is_none v.due) (is_unreached v x) h in
     let b =
-    both (nat_lt (row_word x 15) (length v.known_words) && nat_lt x v.rows && v.turn && is_none
+    both (eqb (length v.known_words) (table_words v.rows) && nat_lt x v.rows && v.turn && is_none
     v.pin) (is_none v.due) a.0 in
-    let c = both (nat_lt (row_word x 15) (length v.known_words) && nat_lt x v.rows && v.turn)
+    let c = both (eqb (length v.known_words) (table_words v.rows) && nat_lt x v.rows && v.turn)
     (is_none v.pin) b.0 in
-    let d = both (nat_lt (row_word x 15) (length v.known_words) && nat_lt x v.rows) v.turn c.0 in
-    let e = both (nat_lt (row_word x 15) (length v.known_words)) (nat_lt x v.rows) d.0 in
+    let d = both (eqb (length v.known_words) (table_words v.rows) && nat_lt x v.rows) v.turn c.0 in
+    let e = both (eqb (length v.known_words) (table_words v.rows)) (nat_lt x v.rows) d.0 in
     record {
-      known = ltb-true (row_word x 15) (length v.known_words) e.0;
+      known = eqb-true (length v.known_words) (table_words v.rows) e.0;
       inside = ltb-true x v.rows e.1;
       on = d.1;
       unpinned = gone v.pin c.1;
@@ -114,31 +120,36 @@ blank_row v x h = let b = blank_parts v x h in (
 )
 
 pub writable : (v : View) (x k : ℕ) → may_write v x ≡ true → k < row_words
-    → IsWritable (stored v.format) v (row_word x k)
+    → IsWritable (stored v.format) v (row_word v.rows x k)
 writable v x k h lt = inl (x, k, blank_row v x h, lt, refl)
 
 -- a row whose words were stored, one after the other
-pub stored_none : (x : ℕ) (words old : List ℕ) → RowStored x 0 words old old
-stored_none x words old = record {
+pub stored_none : (rows x : ℕ) (words old : List ℕ) → RowStored rows x 0 words old old
+stored_none rows x words old = record {
   long = refl;
   so_far = λ k l. absurd (omega arith);
   others = λ i _. refl;
 }
 
-pub stored_more : (x n : ℕ) (words old new : List ℕ) → RowStored x n words old new → n < row_words
-    → x * 16 + 294 ≤ length old → (value : ℕ) → value ≡ get_or words n 0
-    → RowStored x (n + 1) words old (set new (row_word x n) value)
-stored_more x n words old new s lt wide value is = let long = s.long in record {
-  long = length-set new (row_word x n) value ∙ s.long;
-  so_far = λ k l. dite (ℕ_discrete k n)
-      (λ same. ap (λ (j : ℕ). get_or (set new (row_word x n) value) (row_word x j) 0) same
-      ∙ get_or-set_same new (row_word x n) value 0 (omega arith) ∙ is
-      ∙ ap (λ (j : ℕ). get_or words j 0) (sym same))
-      (λ other. get_or-set_other new (row_word x n) (row_word x k) value 0
-      (λ e. other (omega arith)) ∙ s.so_far k (omega arith));
-  others = λ i away. get_or-set_other new (row_word x n) i value 0 (away n (omega arith))
-      ∙ s.others i (λ k l. away k (omega (arith, l)));
-}
+pub stored_more : (rows x n : ℕ) (words old new : List ℕ) → RowStored rows x n words old new
+    → n < row_words → x < rows → length old ≡ table_words rows → (value : ℕ)
+    → value ≡ get_or words n 0
+    → RowStored rows x (n + 1) words old (set new (row_word rows x n) value)
+stored_more rows x n words old new s lt inside wide value is =
+    let long = s.long in let below = place_below rows x n inside lt in record {
+      long = length-set new (row_word rows x n) value ∙ s.long;
+      so_far = λ k l. dite (ℕ_discrete k n)
+          (λ same. ap (λ (j : ℕ). get_or (set new (row_word rows x n) value) (row_word rows x j) 0)
+          same
+          ∙ get_or-set_same new (row_word rows x n) value 0 (omega (arith, below, long, wide)) ∙ is
+          ∙ ap (λ (j : ℕ). get_or words j 0) (sym same))
+          (λ other. get_or-set_other new (row_word rows x n) (row_word rows x k) value 0
+          (λ e. other
+          (place_apart rows x x k n inside inside (omega (arith, l, lt)) lt e).1)
+          ∙ s.so_far k (omega (arith, l, other)));
+      others = λ i away. get_or-set_other new (row_word rows x n) i value 0 (away n (omega arith))
+          ∙ s.others i (λ k l. away k (omega (arith, l)));
+    }
 
 -- what a seat is beside the words that it knows stays when one of them is stored
 pub stored_once : (old now new : Me (Option lives.State) View) (i value : ℕ)
@@ -153,49 +164,63 @@ stored_once old now new i value kept s =
 
 -- and the row has one word more
 pub stored_next : (old now new : Me (Option lives.State) View) (x n value : ℕ) (words : List ℕ)
-    → new ≡ (record now.0 { known_words = set now.0.known_words (row_word x n) value }, now.1)
-    → RowStored x n words old.0.known_words now.0.known_words → n < row_words
-    → row_word x 15 < length now.0.known_words → value ≡ get_or words n 0
-    → RowStored x (n + 1) words old.0.known_words new.0.known_words
-stored_next old now new x n value words s so_far lt room is =
-    subst (λ (h : List ℕ). RowStored x (n + 1) words old.0.known_words h)
-    (sym (ap (λ (z : Me (Option lives.State) View). z.0.known_words) s))
-    (stored_more x n words old.0.known_words now.0.known_words so_far lt
-    (omega (arith, room, so_far.long)) value is)
+    → now ≡ (record old.0 { known_words = now.0.known_words }, old.1)
+    → new ≡ (
+      record now.0 { known_words = set now.0.known_words (row_word now.0.rows x n) value },
+      now.1,
+    )
+    → RowStored old.0.rows x n words old.0.known_words now.0.known_words → n < row_words
+    → (x < now.0.rows) × (length now.0.known_words ≡ table_words now.0.rows)
+    → value ≡ get_or words n 0
+    → RowStored old.0.rows x (n + 1) words old.0.known_words new.0.known_words
+stored_next old now new x n value words kept s so_far lt room is =
+    let sized : now.0.rows ≡ old.0.rows =
+    ap (λ (z : Me (Option lives.State) View). z.0.rows) kept in
+    subst (λ (h : List ℕ). RowStored old.0.rows x (n + 1) words old.0.known_words h)
+    (sym (ap (λ (z : Me (Option lives.State) View). z.0.known_words) s
+    ∙ ap (λ (r : ℕ). set now.0.known_words (row_word r x n) value) sized))
+    (stored_more old.0.rows x n words old.0.known_words now.0.known_words so_far lt
+    (subst (λ (r : ℕ). x < r) sized room.0)
+    (sym so_far.long ∙ room.1 ∙ ap table_words sized) value is)
 
 -- the rows are as before but for the one that was written
 pub written : (v : View) (x : ℕ) (value : Row) (words held : List ℕ) → may_write v x ≡ true
-    → length words ≡ 16 → row_in words ≡ Some value → RowStored x 16 words v.known_words held
+    → length words ≡ 16 → row_in words ≡ Some value → RowStored v.rows x 16 words v.known_words held
     → Writes (content_of v) (content_of (record v { known_words = held })) x value
 written v x value words held blank long spelt s = let b = blank_parts v x blank in record {
   here = may (record v { known_words = held }) x b.inside b.on ∙ ap row_in (sym all) ∙ spelt;
-  others = λ k other. ap (λ (o : Option Row). if may_read v k then o else None) (elsewhere k other);
+  others = λ k other. elsewhere k other (may_read v k) refl;
 }
   where
     may : (w : View) (k : ℕ) → k < w.rows → w.turn ≡ true → content_of w k ≡ rows_in
-        (records.row w.known_words) k
+        (records.known_row w) k
     may w k lt on =
         ap (λ (t : Bool). if (t && (w.turn || (is_some w.pin && list_any (eqb k) w.pinned_rows)))
-        then rows_in (records.row w.known_words) k else None) (lt-ltb k w.rows lt)
+        then rows_in (records.known_row w) k else None) (lt-ltb k w.rows lt)
         ∙ ap (λ (t : Bool). if (t || (is_some w.pin && list_any (eqb k) w.pinned_rows)) then rows_in
-        (records.row w.known_words) k else None) on
+        (records.known_row w) k else None) on
 
-    all : words ≡ map (records.row held x) (range_with_len 0 16)
-    all = fill_by_all (records.row held x) words 16 0 long (λ k lt. sym (s.so_far k (omega arith)))
+    all : words ≡ map (records.row v.rows held x) (range_with_len 0 16)
+    all = fill_by_all (records.row v.rows held x) words 16 0 long
+        (λ k lt. sym (s.so_far k (omega arith)))
 
-    same_word : (k j : ℕ) → k ≢ x → j < row_words → records.row held k j ≡ records.row v.known_words
-        k j
-    same_word k j other lt = s.others (row_word k j) (λ i l e. other (omega arith))
+    same_word : (k j : ℕ) → k < v.rows → k ≢ x → j < row_words → records.row v.rows held k j
+        ≡ records.known_row v k j
+    same_word k j within other lt = s.others (row_word v.rows k j)
+        (λ i l e. other
+        (place_apart v.rows k x j i within (blank_parts v x blank).inside lt l e).0)
 
-    elsewhere : (k : ℕ) → k ≢ x → rows_in (records.row held) k ≡ rows_in (records.row v.known_words)
-        k
-    elsewhere k other = same_row (records.row v.known_words) (records.row held) k
-        (λ j lt. same_word k j other lt)
+    elsewhere : (k : ℕ) → k ≢ x → (b : Bool) → may_read v k ≡ b
+        → (if b then rows_in (records.row v.rows held) k else None)
+        ≡ (if b then rows_in (records.known_row v) k else None)
+    elsewhere k other true may = same_row (records.known_row v) (records.row v.rows held) k
+        (λ j lt. same_word k j (inside v k may) other lt)
+    elsewhere k other false may = refl
 
 pub row_written : (old new : Me (Option lives.State) View) (x : ℕ) (value : Row) (words : List ℕ)
     → new ≡ (record old.0 { known_words = new.0.known_words }, old.1) → may_write old.0 x ≡ true
     → length words ≡ 16 → row_in words ≡ Some value
-    → RowStored x 16 words old.0.known_words new.0.known_words
+    → RowStored old.0.rows x 16 words old.0.known_words new.0.known_words
     → Writes (content_of old.0) (content_of new.0) x value
 row_written old new x value words kept blank long spelt s =
     subst (λ (z : Me (Option lives.State) View). Writes (content_of old.0) (content_of z.0) x value)
@@ -214,7 +239,7 @@ pub blank_stays : (v w : View) → w ≡ record v { known_words = w.known_words 
     ≡ length v.known_words → may_write w ≡ may_write v
 blank_stays v w same long =
     ap may_write same ∙ ap {B = ℕ → Bool}
-    (λ (n : ℕ) (x : ℕ). nat_lt (row_word x 15) n && nat_lt x v.rows && v.turn && is_none v.pin
+    (λ (n : ℕ) (x : ℕ). eqb n (table_words v.rows) && nat_lt x v.rows && v.turn && is_none v.pin
     && is_none v.due && is_unreached v x) long
 
 -- a list that is known index by index below some number
@@ -238,13 +263,14 @@ same_seated s table id me t i m =
 
 -- what the seat is beside its rows depends on no word of a row
 pub beside_stays : (s t : Seated) (x : ℕ) (words : List ℕ) → t ≡ with_words t.me.0.known_words s
-    → first_row ≤ length s.me.0.known_words → RowStored x 16 words s.me.0.known_words
+    → first_row ≤ length s.me.0.known_words → RowStored s.me.0.rows x 16 words s.me.0.known_words
     t.me.0.known_words → beside t ≡ beside s
 beside_stays s t x words same wide stored =
     let held = t.me.0.known_words in
     let front : take first_row held ≡ take first_row s.me.0.known_words =
     same_front first_row s.me.0.known_words held wide stored.long
-    (λ i lt. stored.others i (λ k l is. omega (arith, lt, is))) in
+    (λ i lt. stored.others i (λ k l is. let a = place_above s.me.0.rows x k in
+    omega (arith, lt, is, a))) in
     ap beside same
     ∙ ap (λ (f : List ℕ). record { seat = with_words [] s; front = f; long = length held }) front
     ∙ ap (λ (n : ℕ). record {
@@ -261,7 +287,7 @@ its_row false o row is = cc
 
 pub entry_copied : (v : View) (from child next : ℕ) (words : List ℕ) (P : Row → Type 0)
     → IsSome (part_at keyed_links (content_of v) from)
-    → words ≡ map (records.row v.known_words from) (range_with_len 0 16) → child ≤ 65535
+    → words ≡ map (records.known_row v from) (range_with_len 0 16) → child ≤ 65535
     → next ≤ 65535
     → ((value : Row) → row_in (set (set words 1 child) 2 next) ≡ Some value → P value)
     → IfSome (content_of v from) (λ entry. P (relinked child next entry))
@@ -273,5 +299,5 @@ entry_copied v from child next words P some loaded low small each = go (content_
     go (Some row) is some =
         each (relinked child next row)
         (relinked_words words row child next
-        (ap row_in loaded ∙ its_row (may_read v from) (rows_in (records.row v.known_words) from) row
+        (ap row_in loaded ∙ its_row (may_read v from) (rows_in (records.known_row v) from) row
         is) some low small)

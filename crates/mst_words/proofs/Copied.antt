@@ -1,5 +1,5 @@
 -- An entry that is copied into a blank row, part by part.
-use Rattle.std.proofs.Common.{◌≡◌, ℕ, zero, suc, ◌+◌, ◌-◌, ◌*◌, ◌<◌, ◌≤◌, Bool, true, false, Option, List, [], ◌∷◌, length, map, set, get_or, subst, refl, sym, ap, ◌∙◌, arith, length-set, get_or-set_same, get_or-set_other}
+use Rattle.std.proofs.Common.{◌≡◌, ℕ, zero, suc, ◌+◌, ◌-◌, ◌<◌, ◌≤◌, Bool, true, false, Option, List, [], ◌∷◌, length, map, set, get_or, subst, refl, sym, ap, ◌∙◌, arith, length-set, get_or-set_same, get_or-set_other}
 use Rattle.std.specs.Prelude.{IsTrue, nat_lt}
 use Rattle.std.specs.List.{range_with_len}
 use mathlib.Core.Logic.{dite}
@@ -9,10 +9,11 @@ use Rattle.std.proofs.lemmas.List.FromFn.{length-map-range_with_len, get_or-map-
 use Rattle.atomic_table.specs.Table.{Me}
 use Rattle.mst_arena.specs.Lives as lives
 use Rattle.mst_words.specs.declared.view.View.{View}
-use Rattle.mst_words.specs.Layout.{row_word, row_words}
+use Rattle.mst_words.specs.Layout.{row_word, row_words, table_words}
 use Rattle.mst_words.specs.Records as records
 use Rattle.mst_words.specs.Access.{may_write, RowStored, PartStored, IsPadded, relinked_list}
 use Rattle.mst_words.proofs.Accesses.{blank_stays, fill_from}
+use Rattle.mst_words.proofs.Places.{place_below, place_apart}
 
 -- ---- the seat between two steps
 
@@ -25,43 +26,57 @@ still_blank old now x kept long blank = subst (λ (f : ℕ → Bool). IsTrue (f 
 
 -- ---- one part
 
-part_more : (x at n : ℕ) (word : ℕ → ℕ) (old new : List ℕ) → PartStored x at n word old new
-    → at + n < row_words → x * 16 + 294 ≤ length old → (value : ℕ) → value ≡ word (at + n)
-    → PartStored x at (n + 1) word old (set new (row_word x (at + n)) value)
-part_more x at n word old new s lt wide value is = let long = s.long in record {
-  long = length-set new (row_word x (at + n)) value ∙ s.long;
-  so_far = λ k l. dite (ℕ_discrete k n)
-      (λ same. ap (λ (j : ℕ). get_or (set new (row_word x (at + n)) value) (row_word x (at + j)) 0)
-      same
-      ∙ get_or-set_same new (row_word x (at + n)) value 0 (omega arith) ∙ is
-      ∙ ap (λ (j : ℕ). word (at + j)) (sym same))
-      (λ other. get_or-set_other new (row_word x (at + n)) (row_word x (at + k)) value 0
-      (λ e. other (omega arith)) ∙ s.so_far k (omega arith));
-  others = λ i away. get_or-set_other new (row_word x (at + n)) i value 0 (away n (omega arith))
-      ∙ s.others i (λ k l. away k (omega (arith, l)));
-}
+part_more : (rows x at n : ℕ) (word : ℕ → ℕ) (old new : List ℕ)
+    → PartStored rows x at n word old new → at + n < row_words → x < rows
+    → length old ≡ table_words rows → (value : ℕ) → value ≡ word (at + n)
+    → PartStored rows x at (n + 1) word old (set new (row_word rows x (at + n)) value)
+part_more rows x at n word old new s lt inside wide value is =
+    let long = s.long in let below = place_below rows x (at + n) inside lt in record {
+      long = length-set new (row_word rows x (at + n)) value ∙ s.long;
+      so_far = λ k l. dite (ℕ_discrete k n)
+          (λ same. ap (λ (j : ℕ).
+          get_or (set new (row_word rows x (at + n)) value) (row_word rows x (at + j)) 0) same
+          ∙ get_or-set_same new (row_word rows x (at + n)) value 0
+          (omega (arith, below, long, wide)) ∙ is
+          ∙ ap (λ (j : ℕ). word (at + j)) (sym same))
+          (λ other. get_or-set_other new (row_word rows x (at + n)) (row_word rows x (at + k)) value
+          0
+          (λ e. let same = (place_apart rows x x (at + k) (at + n) inside inside
+          (omega (arith, l, lt)) lt e).1 in other (omega (arith, same)))
+          ∙ s.so_far k (omega (arith, l, other)));
+      others = λ i away. get_or-set_other new (row_word rows x (at + n)) i value 0
+          (away n (omega arith))
+          ∙ s.others i (λ k l. away k (omega (arith, l)));
+    }
 
 -- one word more of a part was stored
 pub part_next : (old now new : Me (Option lives.State) View) (x at n value : ℕ) (word : ℕ → ℕ)
+    → now ≡ (record old.0 { known_words = now.0.known_words }, old.1)
     → new ≡ (
-      record now.0 { known_words = set now.0.known_words (row_word x (at + n)) value },
+      record now.0 { known_words = set now.0.known_words (row_word now.0.rows x (at + n)) value },
       now.1,
     )
-    → PartStored x at n word old.0.known_words now.0.known_words → at + n < row_words
-    → row_word x 15 < length now.0.known_words → value ≡ word (at + n)
-    → PartStored x at (n + 1) word old.0.known_words new.0.known_words
-part_next old now new x at n value word s so_far lt room is =
-    subst (λ (h : List ℕ). PartStored x at (n + 1) word old.0.known_words h)
-    (sym (ap (λ (z : Me (Option lives.State) View). z.0.known_words) s))
-    (part_more x at n word old.0.known_words now.0.known_words so_far lt
-    (omega (arith, room, so_far.long)) value is)
+    → PartStored old.0.rows x at n word old.0.known_words now.0.known_words → at + n < row_words
+    → (x < now.0.rows) × (length now.0.known_words ≡ table_words now.0.rows)
+    → value ≡ word (at + n)
+    → PartStored old.0.rows x at (n + 1) word old.0.known_words new.0.known_words
+part_next old now new x at n value word kept s so_far lt room is =
+    let sized : now.0.rows ≡ old.0.rows =
+    ap (λ (z : Me (Option lives.State) View). z.0.rows) kept in
+    subst (λ (h : List ℕ). PartStored old.0.rows x at (n + 1) word old.0.known_words h)
+    (sym (ap (λ (z : Me (Option lives.State) View). z.0.known_words) s
+    ∙ ap (λ (r : ℕ). set now.0.known_words (row_word r x (at + n)) value) sized))
+    (part_more old.0.rows x at n word old.0.known_words now.0.known_words so_far lt
+    (subst (λ (r : ℕ). x < r) sized room.0)
+    (sym so_far.long ∙ room.1 ∙ ap table_words sized) value is)
 
 -- a word of any row behind the part is as before, also where it is of the same row
-pub beyond : (x at n from k : ℕ) (word : ℕ → ℕ) (old new : List ℕ)
-    → PartStored x at n word old new → at + n ≤ k → k < row_words
-    → records.row new from k ≡ records.row old from k
-beyond x at n from k word old new s le lt = s.others (row_word from k) (λ j l e. absurd
-    (omega (arith, l, e, le)))
+pub beyond : (rows x at n from k : ℕ) (word : ℕ → ℕ) (old new : List ℕ) → x < rows → from < rows
+    → PartStored rows x at n word old new → at + n ≤ k → k < row_words
+    → records.row rows new from k ≡ records.row rows old from k
+beyond rows x at n from k word old new here there s le lt = s.others (row_word rows from k)
+    (λ j l e. let same = (place_apart rows from x k (at + j) there here lt
+    (omega (arith, l, le, lt)) e).1 in absurd (omega (arith, l, le, same)))
 
 -- a list that is filled up to one word more
 pub filled_more : (words : List ℕ) (word : ℕ → ℕ) (n value : ℕ) → n < length words
@@ -81,30 +96,35 @@ by_less P k n less more = go (nat_lt k n) refl
     go true e = less (grind (arith, nat_tests))
     go false e = more (grind (arith, nat_tests))
 
-pub parts_joined : (x from at n m : ℕ) (old mid new : List ℕ)
-    → PartStored x at n (records.row old from) old mid
-    → PartStored x (at + n) m (records.row mid from) mid new → at + n + m ≤ row_words
-    → PartStored x at (n + m) (records.row old from) old new
-parts_joined x from at n m old mid new a b le = record {
+pub parts_joined : (rows x from at n m : ℕ) (old mid new : List ℕ) → x < rows → from < rows
+    → PartStored rows x at n (records.row rows old from) old mid
+    → PartStored rows x (at + n) m (records.row rows mid from) mid new → at + n + m ≤ row_words
+    → PartStored rows x at (n + m) (records.row rows old from) old new
+parts_joined rows x from at n m old mid new here there a b le = record {
   long = b.long ∙ a.long;
-  so_far = λ k l. by_less (records.row new x (at + k) ≡ records.row old from (at + k)) k n
-      (λ less. b.others (row_word x (at + k)) (λ j i e. absurd (omega (arith, i, e, less)))
+  so_far = λ k l. by_less (records.row rows new x (at + k) ≡ records.row rows old from (at + k)) k n
+      (λ less. b.others (row_word rows x (at + k))
+      (λ j i e. let same = (place_apart rows x x (at + k) (at + n + j) here here
+      (omega (arith, l, le)) (omega (arith, i, le)) e).1 in
+      absurd (omega (arith, i, same, less)))
       ∙ a.so_far k less) (λ more. behind k l more);
   others = λ i away. b.others i
-      (λ k l e. away (n + k) (omega (arith, l)) (omega (arith, e)))
+      (λ k l e. let j : at + n + k ≡ at + (n + k) = omega arith in
+      away (n + k) (omega (arith, l)) (e ∙ ap (row_word rows x) j))
       ∙ a.others i (λ k l. away k (omega (arith, l)));
 }
   where
-    behind : (k : ℕ) → k < n + m → n ≤ k → records.row new x (at + k) ≡ records.row old from
-        (at + k)
+    behind : (k : ℕ) → k < n + m → n ≤ k → records.row rows new x (at + k)
+        ≡ records.row rows old from (at + k)
     behind k l more =
         let e : at + n + (k - n) ≡ at + k = omega (arith, more) in
         let j : k - n < m = omega (arith, l, more) in
-        ap (records.row new x) (sym e)
+        ap (records.row rows new x) (sym e)
         ∙ b.so_far (k - n) j
-        ∙ beyond x at n from (at + n + (k - n)) (records.row old from) old mid a (omega arith)
-        (omega (arith, j, le))
-        ∙ ap (records.row old from) e
+        ∙ beyond rows x at n from (at + n + (k - n)) (records.row rows old from) old mid here there
+        a
+        (omega arith) (omega (arith, j, le))
+        ∙ ap (records.row rows old from) e
 
 -- words of two rows that are the same make the same list
 pub same_words : (f h : ℕ → ℕ) (a n : ℕ) → ((k : ℕ) → a ≤ k → k < a + n → h k ≡ f k)
@@ -135,37 +155,42 @@ back_words f child next k ge lt =
     ∙ get_or-map-range_with_len f 0 16 k k 0 lt (omega arith)
 
 -- a word of any row behind the front is as before
-pub behind_front : (x n from k : ℕ) (words old new : List ℕ) → RowStored x n words old new → n ≤ k
-    → k < row_words → records.row new from k ≡ records.row old from k
-behind_front x n from k words old new s le lt = s.others (row_word from k) (λ j l e. absurd
-    (omega (arith, l, e, le)))
+pub behind_front : (rows x n from k : ℕ) (words old new : List ℕ) → x < rows → from < rows
+    → RowStored rows x n words old new → n ≤ k → k < row_words
+    → records.row rows new from k ≡ records.row rows old from k
+behind_front rows x n from k words old new here there s le lt = s.others (row_word rows from k)
+    (λ j l e. let same = (place_apart rows from x k j there here lt (omega (arith, l, le, lt)) e).1
+    in absurd (omega (arith, l, le, same)))
 
-pub entry_stored : (x from child next lengths : ℕ) (old mid new : List ℕ)
-    → records.row old from 0 ≡ 1 → lengths ≡ records.row old from 3
-    → RowStored x 4 (1 ∷ child ∷ next ∷ lengths ∷ []) old mid
-    → PartStored x 4 12 (records.row mid from) mid new
-    → RowStored x 16 (relinked_list (records.row old from) child next) old new
-entry_stored x from child next lengths old mid new kind size a b = record {
+pub entry_stored : (rows x from child next lengths : ℕ) (old mid new : List ℕ) → x < rows
+    → from < rows → records.row rows old from 0 ≡ 1 → lengths ≡ records.row rows old from 3
+    → RowStored rows x 4 (1 ∷ child ∷ next ∷ lengths ∷ []) old mid
+    → PartStored rows x 4 12 (records.row rows mid from) mid new
+    → RowStored rows x 16 (relinked_list (records.row rows old from) child next) old new
+entry_stored rows x from child next lengths old mid new here there kind size a b = record {
   long = b.long ∙ a.long;
   so_far = λ k l. by_less
-      (records.row new x k ≡ get_or (relinked_list (records.row old from) child next) k 0) k 4
-      (λ less. b.others (row_word x k) (λ j i e. absurd (omega (arith, i, e, less)))
+      (records.row rows new x k
+      ≡ get_or (relinked_list (records.row rows old from) child next) k 0) k 4
+      (λ less. b.others (row_word rows x k)
+      (λ j i e. let same = (place_apart rows x x k (4 + j) here here (omega (arith, l))
+      (omega (arith, i)) e).1 in absurd (omega (arith, i, same, less)))
       ∙ a.so_far k less
-      ∙ front_words (records.row old from) 1 child next lengths (sym kind) size k less)
+      ∙ front_words (records.row rows old from) 1 child next lengths (sym kind) size k less)
       (λ more. behind k l more);
   others = λ i away. b.others i (λ k l e. away (4 + k) (omega (arith, l)) e)
       ∙ a.others i (λ k l. away k (omega (arith, l)));
 }
   where
-    behind : (k : ℕ) → k < 16 → 4 ≤ k → records.row new x k
-        ≡ get_or (relinked_list (records.row old from) child next) k 0
+    behind : (k : ℕ) → k < 16 → 4 ≤ k → records.row rows new x k
+        ≡ get_or (relinked_list (records.row rows old from) child next) k 0
     behind k l more =
         let e : 4 + (k - 4) ≡ k = omega (arith, more) in
-        ap (records.row new x) (sym e)
+        ap (records.row rows new x) (sym e)
         ∙ b.so_far (k - 4) (omega (arith, l, more))
-        ∙ ap (records.row mid from) e
-        ∙ behind_front x 4 from k (1 ∷ child ∷ next ∷ lengths ∷ []) old mid a more l
-        ∙ sym (back_words (records.row old from) child next k more l)
+        ∙ ap (records.row rows mid from) e
+        ∙ behind_front rows x 4 from k (1 ∷ child ∷ next ∷ lengths ∷ []) old mid here there a more l
+        ∙ sym (back_words (records.row rows old from) child next k more l)
 
 -- the words behind the front end as before
 pub still_ends : (lengths size : ℕ) (f h : ℕ → ℕ) → lengths ≡ size

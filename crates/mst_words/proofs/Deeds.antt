@@ -23,6 +23,7 @@ use Rattle.mst_words.specs.Steps.{IsWritable}
 use Rattle.mst_words.specs.Stored.{stored, StandsOn, contents_after}
 use Rattle.mst_words.specs.Deeds.{Deed, told_by, trying, giving, pinning, unpinning, forgetting, reading, writing, transferring, asking, noting, asking_current, seeing_all, seeing_told, glancing}
 use Rattle.mst_words.specs.Laws.{Table, IsRuled, IsWordOf, Tells, Makes, IsPublication, Adds, Hears, IsOther}
+use Rattle.mst_words.proofs.Places.{place_above, place_apart}
 use Rattle.mst_words.proofs.Follows.{live_not_drained}
 use Rattle.mst_words.proofs.Worlds.{within}
 use Rattle.mst_words.proofs.Ruling.{Whole, IsQuiet, set_stays, add_stays}
@@ -115,33 +116,39 @@ module _ {S : Type 0} (T : Meaning S) (R N : ℕ) where
   -- ---- what is writable
 
   -- the words of rows lie after those of records
-  behind : (r k x j n : ℕ) → r < n + 2 → n < 33 → k < record_words → record_word r k ≡ row_word x j
-      → ⊥
-  behind r k x j n inside few small same = omega (arith, inside, few, small, same)
+  behind : (r k rows x j n : ℕ) → r < n + 2 → n < 33 → k < record_words
+      → record_word r k ≡ row_word rows x j → ⊥
+  behind r k rows x j n inside few small same = let a = place_above rows x j in
+      omega (arith, inside, few, small, same, a)
 
   -- no word of a live record or of its rows is writable
   pub live_stays : (s : State S View) (a : Ruled T R N s) (id : ℕ) (v : View) (r i : ℕ)
       → SeatAt s.views id v → v.turn ≡ true → IsLive a.parts.cur s.views r
-      → IsWordOf r (a.parts.used r) i → IsWritable T v i → ⊥
+      → IsWordOf R r (a.parts.used r) i → IsWritable T v i → ⊥
   live_stays s a id v r i at on live word can = ⊎_elim
       (λ (t : (k : ℕ) × (k < record_words) × (i ≡ record_word r k)). ⊎_elim
-      (λ (x : (x k : ℕ) × IsBlank T v x × (k < row_words) × (i ≡ row_word x k)). behind r t.0 x.0
-      x.1 N numbered few t.1 (sym t.2 ∙ x.4))
+      (λ (x : (x k : ℕ) × IsBlank T v x × (k < row_words) × (i ≡ row_word v.rows x k)). behind r t.0
+      v.rows x.0 x.1 N numbered few t.1 (sym t.2 ∙ x.4))
       (λ (x : (r k : ℕ) × In r v.drained × (k < record_words) × (i ≡ record_word r k)). let e =
       t.2 in let f = x.4 in let l = t.1 in let m = x.3 in let same : x.0 ≡ r =
       omega (arith, e, f, l, m) in
       live_not_drained N a.parts.cur a.parts.due a.parts.beside s.views v known r live
       (subst (λ (z : ℕ). In z v.drained) same x.2)) can)
-      (λ (t : (x k : ℕ) × In x (a.parts.used r) × (k < row_words) × (i ≡ row_word x k)). ⊎_elim
-      (λ (x : (x k : ℕ) × IsBlank T v x × (k < row_words) × (i ≡ row_word x k)). let e =
-      t.4 in let f = x.4 in let l = t.3 in let m = x.3 in let same : t.0 ≡ x.0 =
-      omega (arith, e, f, l, m) in
+      (λ (t : (x k : ℕ) × In x (a.parts.used r) × (k < row_words) × (i ≡ row_word R x k)). ⊎_elim
+      (λ (x : (x k : ℕ) × IsBlank T v x × (k < row_words) × (i ≡ row_word v.rows x k)).
+      let same : t.0 ≡ x.0 =
+      (place_apart R t.0 x.0 t.1 x.1 ((a.parts.rows.live r live).inside t.0 t.2)
+      (subst (λ (z : ℕ). x.0 < z) sized x.2.0) t.3 x.3
+      (sym t.4 ∙ x.4 ∙ ap (λ (z : ℕ). row_word z x.0 x.1) sized)).0 in
       a.apart.blank id v at on x.0 x.2 r live (subst (λ (z : ℕ). In z (a.parts.used r)) same t.2))
       (λ (x : (r k : ℕ) × In r v.drained × (k < record_words) × (i ≡ record_word r k)). behind x.0
-      x.1 t.0 t.1 N (known.drained x.0 x.2).0 few x.3 (sym x.4 ∙ t.4)) can) word
+      x.1 R t.0 t.1 N (known.drained x.0 x.2).0 few x.3 (sym x.4 ∙ t.4)) can) word
     where
       known : Drains N a.parts.cur a.parts.due a.parts.beside s.views v
       known = a.parts.pins.holder id v at on
+
+      sized : v.rows ≡ R
+      sized = (a.parts.world.placed id v at).rows_is
 
       numbered : r < N + 2
       numbered = (a.parts.rows.live r live).numbered
@@ -151,23 +158,28 @@ module _ {S : Type 0} (T : Meaning S) (R N : ℕ) where
 
   -- no live version reaches a writable row
   pub row_unreached : (s : State S View) (a : Ruled T R N s) (id : ℕ) (v : View) (r x k : ℕ)
-      → SeatAt s.views id v → v.turn ≡ true → IsLive a.parts.cur s.views r → k < row_words
-      → IsWritable T v (row_word x k) → T.Reaches a.parts.desk (T.version a.parts.desk r) x → ⊥
-  row_unreached s a id v r x k at on live small can reached = ⊎_elim
-      (λ (t : (y j : ℕ) × IsBlank T v y × (j < row_words) × (row_word x k ≡ row_word y j)). let e =
-      t.4 in let l = t.3 in let same : x ≡ t.0 = omega (arith, e, l, small) in
+      → SeatAt s.views id v → v.turn ≡ true → IsLive a.parts.cur s.views r → x < R → k < row_words
+      → IsWritable T v (row_word R x k) → T.Reaches a.parts.desk (T.version a.parts.desk r) x → ⊥
+  row_unreached s a id v r x k at on live inside small can reached = ⊎_elim
+      (λ (t : (y j : ℕ) × IsBlank T v y × (j < row_words) × (row_word R x k ≡ row_word v.rows y j)).
+      let same : x ≡ t.0 =
+      (place_apart R x t.0 k t.1 inside (subst (λ (z : ℕ). t.0 < z) sized t.2.0) small t.3
+      (t.4 ∙ ap (λ (z : ℕ). row_word z t.0 t.1) sized)).0 in
       t.2.1 r (subst (λ (n : ℕ). r < n + 2) (sym (a.parts.world.placed id v at).passes_is)
       (a.parts.rows.live r live).numbered)
       (live_not_drained N a.parts.cur a.parts.due a.parts.beside s.views v known r live)
       (subst (λ (d : DeskState). T.Reaches d (T.version d r) t.0)
       (sym (a.parts.turn.holder id v at on).3)
       (subst (λ (z : ℕ). T.Reaches a.parts.desk (T.version a.parts.desk r) z) same reached)))
-      (λ (t : (q j : ℕ) × In q v.drained × (j < record_words) × (row_word x k ≡ record_word q j)).
-      behind t.0 t.1 x k N (known.drained t.0 t.2).0
+      (λ (t : (q j : ℕ) × In q v.drained × (j < record_words) × (row_word R x k ≡ record_word q j)).
+      behind t.0 t.1 R x k N (known.drained t.0 t.2).0
       (let l = a.parts.pins.few in omega (arith, l)) t.3 (sym t.4)) can
     where
       known : Drains N a.parts.cur a.parts.due a.parts.beside s.views v
       known = a.parts.pins.holder id v at on
+
+      sized : v.rows ≡ R
+      sized = (a.parts.world.placed id v at).rows_is
 
 -- ---- of the table of a store
 
@@ -210,7 +222,7 @@ words_tell z s a = let q = a.parts in let stood = q.rows.live q.cur (inl refl) i
   there = q.pins.cur_in;
   version = stood.version ∙ ap (λ (l : History). length l) q.rows.now;
   stands =
-      subst (λ (l : History). StandsOn (row s.words) (field s.words q.cur)
+      subst (λ (l : History). StandsOn (row z.rows s.words) (field s.words q.cur)
       (contents_after z.format l) (q.used q.cur)) q.rows.now stood.stands;
   inside = stood.inside;
   seen = a.seen;

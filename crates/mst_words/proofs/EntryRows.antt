@@ -11,25 +11,25 @@ use Rattle.mst_arena.specs.declared.row.Row.TheVariants.{Entry}
 use Rattle.mst_arena.proofs.Readers.{EntryIn, entry_with}
 use Rattle.mst_arena.proofs.EntryWords.{PairIn, pair_in_words}
 use Rattle.mst_words.specs.declared.view.View.{View}
-use Rattle.mst_words.specs.Records.{row}
+use Rattle.mst_words.specs.Records.{known_row}
 use Rattle.mst_words.specs.Stored.{rows_in}
 use Rattle.mst_words.specs.Access.{may_read, content_of}
 
 -- the lengths of a key and a value
 pub record LengthsAt (v : View) (x : ℕ) : Type 0 where
-  pub key : row v.known_words x lengths_word % 256 ≤ 32
-  pub value : row v.known_words x lengths_word / 256 ≤ 64
+  pub key : known_row v x lengths_word % 256 ≤ 32
+  pub value : known_row v x lengths_word / 256 ≤ 64
 
 pub lengths_at : (v : View) (x : ℕ) → IsSome (part_at keyed_links (content_of v) x) → LengthsAt v x
 lengths_at v x some = go (may_read v x) some
   where
     go : (b : Bool)
-        → IsSome (option_and_then keyed_links (if b then rows_in (row v.known_words) x else None))
+        → IsSome (option_and_then keyed_links (if b then rows_in (known_row v) x else None))
         → LengthsAt v x
     go true some =
         let i : EntryIn _ = entry_with keyed_links _ (λ layer count first tail digest. refl) some in
         let bytes : HasBytes (Entry i.child i.next i.key i.value) = i.bytes in
-        let three : row v.known_words x 3 ≡ length i.key + 256 * length i.value =
+        let three : known_row v x 3 ≡ length i.key + 256 * length i.value =
         sym (ap (λ (l : List ℕ). slice_index l 3) i.same) in
         record {
           key = omega (arith, three, bytes.0);
@@ -39,10 +39,10 @@ lengths_at v x some = go (may_read v x) some
 
 -- the key and the value are the first bytes of their words
 pub record PairAt (v : View) (x : ℕ) (pair : Pair) : Type 0 where
-  pub key : take (row v.known_words x lengths_word % 256)
-      (bytes_in (map (row v.known_words x) (range_with_len first_key_word 4))) ≡ pair.0
-  pub value : take (row v.known_words x lengths_word / 256)
-      (bytes_in (map (row v.known_words x) (range_with_len first_value_word 8))) ≡ pair.1
+  pub key : take (known_row v x lengths_word % 256)
+      (bytes_in (map (known_row v x) (range_with_len first_key_word 4))) ≡ pair.0
+  pub value : take (known_row v x lengths_word / 256)
+      (bytes_in (map (known_row v x) (range_with_len first_value_word 8))) ≡ pair.1
   pub limits : IsKey pair.0 × IsValue pair.1
 
 pub pair_at : (v : View) (x : ℕ) (pair : Pair)
@@ -50,7 +50,7 @@ pub pair_at : (v : View) (x : ℕ) (pair : Pair)
 pair_at v x pair is = go (may_read v x) is
   where
     go : (b : Bool)
-        → option_and_then entry_pair (if b then rows_in (row v.known_words) x else None)
+        → option_and_then entry_pair (if b then rows_in (known_row v) x else None)
         ≡ Some pair → PairAt v x pair
     go true is =
         let p : PairIn _ pair = pair_in_words _ pair is in

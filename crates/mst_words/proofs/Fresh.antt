@@ -125,9 +125,9 @@ fresh_standing first R N ws front digest number = record {
   version = front first_record (omega arith);
   filed = get_or-replicate (N + 2) 0 0 0 (omega arith);
   stands =
-      (empty_stands first (row ws) (field ws 0) (desk_state (fresh_desk R N))
+      (empty_stands first (row R ws) (field ws 0) (desk_state (fresh_desk R N))
       (front 37 (omega arith)) digest number).0;
-  aged = empty_stands first (row ws) (field ws 0) (desk_state (fresh_desk R N))
+  aged = empty_stands first (row R ws) (field ws 0) (desk_state (fresh_desk R N))
       (front 37 (omega arith)) digest number;
   inside = λ x within. absurd (in_nothing x within);
   reached = λ x within. absurd (in_nothing x within);

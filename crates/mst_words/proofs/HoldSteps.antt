@@ -61,7 +61,7 @@ module _ {S : Type 0} (T : Meaning S) (framed : IsFramed T) (R N : ℕ) where
       subst (λ (l : History). Standing T R N ws (l ++ e ∷ []) d into (l ++ e ∷ []) u) h.2
       (standing_same T framed R N v.known_words ws (v.seen ++ e ∷ []) d d into (v.seen ++ e ∷ []) u
       (rw (sym place.rows_is) (rw (sym place.passes_is) ready.stands))
-      (kept_upper v.known_words ws (λ k l. upper k l ∙ held.1 k l) into u)
+      (kept_upper R v.known_words ws (λ k l. upper k l ∙ held.1 k l) into u)
       (agrees_same T framed R N d into)) in
       let cur_now : q.cur ≡ v.desk.current = sym q.rows.desk_at ∙ ap (λ (z : DeskState). z.current)
       (sym h.3) in let due_now : w.due ≡ Some q.cur = ap Some (sym cur_now) in
@@ -254,7 +254,7 @@ module _ {S : Type 0} (T : Meaning S) (framed : IsFramed T) (R N : ℕ) where
       let known : Standing T R N v.known_words q.log q.desk r (q.place r) (q.used r) =
       standing_same T framed R N s.words v.known_words q.log q.desk q.desk r (q.place r)
       (q.used r) (q.rows.live r live)
-      (kept_upper s.words v.known_words (λ k l. sym (held.1 k l)) r (q.used r))
+      (kept_upper R s.words v.known_words (λ k l. sym (held.1 k l)) r (q.used r))
       (agrees_same T framed R N q.desk r) in
       rw place.rows_is
       (rw place.passes_is

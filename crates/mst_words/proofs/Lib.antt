@@ -1,3 +1,4 @@
+pub mod Places
 pub mod Histories
 pub mod Worlds
 pub mod Members

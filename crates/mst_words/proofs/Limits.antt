@@ -9,7 +9,7 @@ use Rattle.mst_arena.specs.declared.row.Row.{Row}
 use Rattle.mst_arena.specs.declared.row.Row.TheVariants.{Entry, Head}
 use Rattle.mst_arena.proofs.Spelling.{words_of_row}
 use Rattle.mst_words.specs.declared.view.View.{View}
-use Rattle.mst_words.specs.Records.{row}
+use Rattle.mst_words.specs.Records.{known_row}
 use Rattle.mst_words.specs.Stored.{rows_in}
 use Rattle.mst_words.specs.Access.{may_read, content_of}
 
@@ -32,7 +32,7 @@ pub head_within : (v : View) (x : ℕ) (h : HeadLinks) → part_at head_links (c
     → IsHead h
 head_within v x h is = go (may_read v x) is
   where
-    go : (b : Bool) → option_and_then head_links (if b then rows_in (row v.known_words) x else None)
+    go : (b : Bool) → option_and_then head_links (if b then rows_in (known_row v) x else None)
         ≡ Some h → IsHead h
     go true is = spelt_head _ h is
     go false is = absurd (let no : None ≡ Some h = is in cc)

@@ -24,6 +24,7 @@ use Rattle.mst_words.specs.Deeds.{Told, Deed, told_by, trying, giving, pinning, 
 use Rattle.mst_words.specs.Laws.{Table, IsRuled, Makes, Adds, Hears}
 use Rattle.mst_words.specs.Moves.{IsReachedBy, moves_of, Does, MakesCurrent, ChangesSeats}
 use Rattle.mst_pin.proofs.Bits.{xor_low, xor_small}
+use Rattle.mst_words.proofs.Places.{place_above}
 use Rattle.mst_words.proofs.Seats.{each_seat, same_view}
 use Rattle.mst_words.proofs.Worlds.{within}
 use Rattle.mst_words.proofs.Steps.{stays}
@@ -135,7 +136,8 @@ word_else s t i n j words other = ap (λ (l : List ℕ). get_or l j 0) words ∙
 above : (z : Shape) (v : View) (i : ℕ) → IsWritable (stored v.format) v i → first_record ≤ i
 above z v i can =
     ⊎_elim (λ (t : (x k : ℕ) × IsBlank (stored v.format) v x × (k < row_words)
-    × (i ≡ row_word x k)). let e = t.4 in omega (arith, e))
+    × (i ≡ row_word v.rows x k)). let e = t.4 in let a = place_above v.rows t.0 t.1 in
+    omega (arith, e, a))
     (λ (t : (r k : ℕ) × In r v.drained × (k < record_words) × (i ≡ record_word r k)). let e =
     t.4 in omega (arith, e)) can
 

@@ -15,6 +15,7 @@ use Rattle.mst_words.specs.Records.{Meaning, IsFramed, field, row, Reads}
 use Rattle.mst_words.specs.Rule.{Turn, Parts, Ruled}
 use Rattle.mst_words.specs.Steps.{IsFree, IsPinned, pins_now, unpins, forgets}
 use Rattle.mst_pin.proofs.Bits.{xor_low}
+use Rattle.mst_words.proofs.Places.{place_above}
 use Rattle.mst_words.proofs.Worlds.{IsInPlaceOf, world_set, each_dealt}
 use Rattle.mst_words.proofs.Turns.{turn_same}
 use Rattle.mst_words.proofs.PinParts.{bits_stay, turned, pin_elsewhere, pin_others, pins_pin}
@@ -54,8 +55,9 @@ module _ {S : Type 0} (T : Meaning S) (framed : IsFramed T) (R N : ℕ) where
     rows_are = rows;
     fields = λ k l. stays s.words 1 n (record_word q.cur k) (λ f. omega arith)
         ∙ ap (λ (z : List ℕ). field z q.cur k) (sym known);
-    kept = λ x within k l. stays s.words 1 n (row_word x k) (λ f. omega arith)
-        ∙ ap (λ (z : List ℕ). row z x k) (sym known);
+    kept = λ x within k l. stays s.words 1 n (row_word R x k)
+        (λ f. let a = place_above R x k in omega (arith, a, f))
+        ∙ ap (λ (z : List ℕ). row R z x k) (sym known);
   }
 
   -- the bit k is that of the pass
@@ -176,8 +178,10 @@ module _ {S : Type 0} (T : Meaning S) (framed : IsFramed T) (R N : ℕ) where
             alone = each_dealt R N T.first q.next q.log s.views id v q.world at;
             version = stood.version ∙ ap (λ (l : History). length l) q.rows.now;
             stands =
-                subst (λ (l : History). T.Stands (row s.words) (field s.words q.cur) (T.after l)
-                (q.used q.cur)) q.rows.now stood.stands;
+                subst (λ (r : ℕ). T.Stands (row r s.words) (field s.words q.cur) (T.after q.log)
+                (q.used q.cur)) (sym place.rows_is)
+                (subst (λ (l : History). T.Stands (row R s.words) (field s.words q.cur) (T.after l)
+                (q.used q.cur)) q.rows.now stood.stands);
             inside = λ x within. subst (λ (z : ℕ). x < z) (sym place.rows_is)
                 (stood.inside x within);
             is = refl;

@@ -11,32 +11,34 @@ use Rattle.mst_words.specs.declared.view.DeskState.{DeskState}
 use Rattle.mst_key.specs.History.{History}
 use Rattle.mst_arena.specs.Lists.{In}
 use Rattle.mst_words.specs.Records.{Meaning, IsFramed, field, row, IsLive, Agrees, Standing, Reads, Rows}
+use Rattle.mst_words.proofs.Places.{place_above}
 use Rattle.mst_words.proofs.Seats.{each_seat}
 use Rattle.mst_words.proofs.Histories.{begins_longer}
 
 -- ---- the words that a record and rows stand on stay
 
-pub Kept : List ℕ → List ℕ → ℕ → List ℕ → Type 0
-Kept ws ws' r u = ((k : ℕ) → k < record_words → field ws' r k ≡ field ws r k)
-    × ((x : ℕ) → In x u → (k : ℕ) → k < row_words → row ws' x k ≡ row ws x k)
+pub Kept : ℕ → List ℕ → List ℕ → ℕ → List ℕ → Type 0
+Kept R ws ws' r u = ((k : ℕ) → k < record_words → field ws' r k ≡ field ws r k)
+    × ((x : ℕ) → In x u → (k : ℕ) → k < row_words → row R ws' x k ≡ row R ws x k)
 
-pub kept_upper : (ws ws' : List ℕ) → ((k : ℕ) → first_record ≤ k → get_or ws' k 0 ≡ get_or ws k 0)
-    → (r : ℕ) (u : List ℕ) → Kept ws ws' r u
+pub kept_upper : (R : ℕ) (ws ws' : List ℕ)
+    → ((k : ℕ) → first_record ≤ k → get_or ws' k 0 ≡ get_or ws k 0)
+    → (r : ℕ) (u : List ℕ) → Kept R ws ws' r u
 unfolding Kept
-kept_upper ws ws' upper r u = (
+kept_upper R ws ws' upper r u = (
   (λ k l. upper (record_word r k) (omega arith)),
-  (λ x _ k l. upper (row_word x k) (omega arith)),
+  (λ x _ k l. upper (row_word R x k) (let a = place_above R x k in omega (arith, a))),
 )
 
 -- one word above the front changes, which is none of those
-pub kept_else : (ws : List ℕ) (i n r : ℕ) (u : List ℕ)
+pub kept_else : (R : ℕ) (ws : List ℕ) (i n r : ℕ) (u : List ℕ)
     → ((k : ℕ) → k < record_words → record_word r k ≢ i)
-    → ((x : ℕ) → In x u → (k : ℕ) → k < row_words → row_word x k ≢ i)
-    → ((j : ℕ) → j ≢ i → get_or (set ws i n) j 0 ≡ get_or ws j 0) → Kept ws (set ws i n) r u
+    → ((x : ℕ) → In x u → (k : ℕ) → k < row_words → row_word R x k ≢ i)
+    → ((j : ℕ) → j ≢ i → get_or (set ws i n) j 0 ≡ get_or ws j 0) → Kept R ws (set ws i n) r u
 unfolding Kept
-kept_else ws i n r u fields rows stay = (
+kept_else R ws i n r u fields rows stay = (
   (λ k l. stay (record_word r k) (fields k l)),
-  (λ x within k l. stay (row_word x k) (rows x within k l)),
+  (λ x within k l. stay (row_word R x k) (rows x within k l)),
 )
 
 module _ {S : Type 0} (T : Meaning S) (framed : IsFramed T) (R N : ℕ) where
@@ -49,7 +51,7 @@ module _ {S : Type 0} (T : Meaning S) (framed : IsFramed T) (R N : ℕ) where
   }
 
   pub standing_to : (ws ws' : List ℕ) (log more : History) (desk desk' : DeskState) (r : ℕ)
-      (p : History) (u : List ℕ) → Standing T R N ws log desk r p u → Kept ws ws' r u
+      (p : History) (u : List ℕ) → Standing T R N ws log desk r p u → Kept R ws ws' r u
       → Agrees T desk desk' r
       → Standing T R N ws' (log ++ more) desk' r p u
   unfolding Kept
@@ -58,9 +60,9 @@ module _ {S : Type 0} (T : Meaning S) (framed : IsFramed T) (R N : ℕ) where
     begins = begins_longer p log more s.begins;
     version = kept.0 0 (omega arith) ∙ s.version;
     filed = a.version ∙ s.filed;
-    stands = framed.stands (row ws) (row ws') (field ws r) (field ws' r) (T.after p) u
+    stands = framed.stands (row R ws) (row R ws') (field ws r) (field ws' r) (T.after p) u
         (kept.1, kept.0) s.stands;
-    aged = framed.aged (row ws) (row ws') (field ws r) (field ws' r) p u desk desk' r
+    aged = framed.aged (row R ws) (row R ws') (field ws r) (field ws' r) p u desk desk' r
         (kept.1, kept.0) s.filed s.reached a s.aged;
     inside = s.inside;
     reached = λ x within. subst (λ (n : ℕ). T.Reaches desk' n x) s.filed
@@ -76,14 +78,14 @@ module _ {S : Type 0} (T : Meaning S) (framed : IsFramed T) (R N : ℕ) where
   append_nil (x ∷ xs) = ap (λ (l : History). x ∷ l) (append_nil xs)
 
   pub standing_same : (ws ws' : List ℕ) (log : History) (desk desk' : DeskState) (r : ℕ)
-      (p : History) (u : List ℕ) → Standing T R N ws log desk r p u → Kept ws ws' r u
+      (p : History) (u : List ℕ) → Standing T R N ws log desk r p u → Kept R ws ws' r u
       → Agrees T desk desk' r → Standing T R N ws' log desk' r p u
   standing_same ws ws' log desk desk' r p u s kept a =
       subst (λ (l : History). Standing T R N ws' l desk' r p u) (append_nil log)
       (standing_to ws ws' log [] desk desk' r p u s kept a)
 
   pub reads_to : (ws ws' : List ℕ) (r : ℕ) (p : History) (u : List ℕ) (v w : View)
-      → Reads T R N ws r p u v → Kept ws ws' r u → w.pinned_history ≡ v.pinned_history
+      → Reads T R N ws r p u v → Kept R ws ws' r u → w.pinned_history ≡ v.pinned_history
       → w.pinned_rows ≡ v.pinned_rows → w.known_words ≡ v.known_words → Reads T R N ws' r p u w
   unfolding Kept
   reads_to ws ws' r p u v w h kept place rows known = record {
@@ -91,7 +93,7 @@ module _ {S : Type 0} (T : Meaning S) (framed : IsFramed T) (R N : ℕ) where
     rows_are = rows ∙ h.rows_are;
     fields = λ k l. kept.0 k l ∙ h.fields k l ∙ ap (λ (z : List ℕ). field z r k) (sym known);
     kept = λ x within k l. kept.1 x within k l ∙ h.kept x within k l
-        ∙ ap (λ (z : List ℕ). row z x k) (sym known);
+        ∙ ap (λ (z : List ℕ). row R z x k) (sym known);
   }
 
   -- what is in the holder's hands
@@ -121,7 +123,7 @@ module _ {S : Type 0} (T : Meaning S) (framed : IsFramed T) (R N : ℕ) where
     -- the frame: one view changes, words that no live version stands on change, and the desk stays
     -- the same for live records
     pub rows_to : (ws' : List ℕ) (desk' : DeskState) (w : View) → desk'.current ≡ cur
-        → ((r : ℕ) → IsLive cur vs r → Kept ws ws' r (used r))
+        → ((r : ℕ) → IsLive cur vs r → Kept R ws ws' r (used r))
         → ((r : ℕ) → IsLive cur vs r → Agrees T desk desk' r)
         → ((r : ℕ) → w.pin ≡ Some r → IsLive cur vs r × Reads T R N ws' r (place r) (used r) w)
         → (w.turn ≡ true → IsHeld ws' w)
@@ -147,7 +149,7 @@ module _ {S : Type 0} (T : Meaning S) (framed : IsFramed T) (R N : ℕ) where
         → (w.turn ≡ true → IsHeld ws' w)
         → Rows T R N cur ws' log desk place used (set vs id w)
     rows_upper ws' w upper long mine held =
-        rows_to ws' desk w q.desk_at (λ r _. kept_upper ws ws' upper r (used r))
+        rows_to ws' desk w q.desk_at (λ r _. kept_upper R ws ws' upper r (used r))
         (λ r _. agrees_same desk r) mine held
         (λ i u _ e on. held_upper ws ws' u u upper long refl (q.held i u e on))
 
@@ -160,7 +162,7 @@ module _ {S : Type 0} (T : Meaning S) (framed : IsFramed T) (R N : ℕ) where
     pin_stays ws' w upper pin is_place is_rows is_held r e = (
       inr (id, v, at, sym pin ∙ e),
       reads_to ws ws' r (place r) (used r) v w
-          (q.reads id v at r (sym pin ∙ e)) (kept_upper ws ws' upper r (used r)) is_place is_rows
+          (q.reads id v at r (sym pin ∙ e)) (kept_upper R ws ws' upper r (used r)) is_place is_rows
           is_held,
     )
 
@@ -207,16 +209,16 @@ module _ {S : Type 0} (T : Meaning S) (framed : IsFramed T) (R N : ℕ) where
                 t.3) l in
                 moved longer r not
                 (standing_to ws ws' log (e ∷ []) desk desk' r (place r) (used r) (q.live r b)
-                (kept_upper ws ws' upper r (used r)) (agree r b)));
+                (kept_upper R ws ws' upper r (used r)) (agree r b)));
             reads =
                 each_seat (λ i x. (r : ℕ) → x.pin ≡ Some r → Reads T R N ws' r
                 (then_for into longer place r) (then_for into u used r) x) vs id w
                 (λ r f. read_at longer r w (λ is. free id v at (sym pin ∙ f ∙ ap Some is))
                 (reads_to ws ws' r (place r) (used r) v w (q.reads id v at r (sym pin ∙ f))
-                (kept_upper ws ws' upper r (used r)) is_place is_rows is_held))
+                (kept_upper R ws ws' upper r (used r)) is_place is_rows is_held))
                 (λ i x _ f r g. read_at longer r x (λ is. free i x f (g ∙ ap Some is))
                 (reads_to ws ws' r (place r) (used r) x x (q.reads i x f r g)
-                (kept_upper ws ws' upper r (used r)) refl refl refl));
+                (kept_upper R ws ws' upper r (used r)) refl refl refl));
             held = each_seat (λ i x. x.turn ≡ true → IsHeld ws' x) vs id w
                 (λ on. held_upper ws ws' v w upper long is_held (q.held id v at (sym turn ∙ on)))
                 (λ i x _ f on. held_upper ws ws' x x upper long refl (q.held i x f on));

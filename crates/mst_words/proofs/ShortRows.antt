@@ -9,7 +9,7 @@ use Rattle.mst_arena.proofs.Packing.{past_word}
 use Rattle.mst_arena.proofs.Readers.{EntryIn, entry_with}
 use Rattle.mst_arena.proofs.EntryParts.{links_in_words}
 use Rattle.mst_words.specs.declared.view.View.{View}
-use Rattle.mst_words.specs.Records.{row}
+use Rattle.mst_words.specs.Records.{known_row}
 use Rattle.mst_words.specs.Stored.{rows_in}
 use Rattle.mst_words.specs.Access.{may_read, content_of, IsPadded}
 
@@ -79,20 +79,20 @@ value_words f a is_a ends =
 -- an entry that a pass may read
 pub record KeyOf (v : View) (x : ℕ) : Type 0 where
   pub readable : may_read v x ≡ true
-  pub ends : row v.known_words x 3 % 256 ≡ 16
-      → (0 ≡ row v.known_words x 6) × (0 ≡ row v.known_words x 7)
+  pub ends : known_row v x 3 % 256 ≡ 16
+      → (0 ≡ known_row v x 6) × (0 ≡ known_row v x 7)
 
 pub record ValueOf (v : View) (x : ℕ) : Type 0 where
   pub readable : may_read v x ≡ true
-  pub ends : row v.known_words x 3 / 256 ≡ 32
-      → (0 ≡ row v.known_words x 12) × (0 ≡ row v.known_words x 13)
-      × (0 ≡ row v.known_words x 14) × (0 ≡ row v.known_words x 15)
+  pub ends : known_row v x 3 / 256 ≡ 32
+      → (0 ≡ known_row v x 12) × (0 ≡ known_row v x 13)
+      × (0 ≡ known_row v x 14) × (0 ≡ known_row v x 15)
 
 pub key_of : (v : View) (x : ℕ) → IsSome (part_at keyed_links (content_of v) x) → KeyOf v x
 key_of v x some = go (may_read v x) refl some
   where
     go : (b : Bool) → may_read v x ≡ b
-        → IsSome (option_and_then keyed_links (if b then rows_in (row v.known_words) x else None))
+        → IsSome (option_and_then keyed_links (if b then rows_in (known_row v) x else None))
         → KeyOf v x
     go true e some = record {
       readable = e;
@@ -105,7 +105,7 @@ pub value_of : (v : View) (x : ℕ) → IsSome (part_at entry_value (content_of 
 value_of v x some = go (may_read v x) refl some
   where
     go : (b : Bool) → may_read v x ≡ b
-        → IsSome (option_and_then entry_value (if b then rows_in (row v.known_words) x else None))
+        → IsSome (option_and_then entry_value (if b then rows_in (known_row v) x else None))
         → ValueOf v x
     go true e some = record {
       readable = e;
@@ -117,8 +117,8 @@ value_of v x some = go (may_read v x) refl some
 -- an entry that is copied
 pub record Source (v : View) (x : ℕ) : Type 0 where
   pub readable : may_read v x ≡ true
-  pub kind : row v.known_words x 0 ≡ 1
-  pub ends : IsPadded (row v.known_words x 3) (row v.known_words x)
+  pub kind : known_row v x 0 ≡ 1
+  pub ends : IsPadded (known_row v x 3) (known_row v x)
 
 by_two : (f : ℕ → ℕ) → (0 ≡ f 6) × (0 ≡ f 7) → (k : ℕ) → k < 2 → f (6 + k) ≡ 0
 by_two f ends zero lt = sym ends.0
@@ -137,7 +137,7 @@ pub source_of : (v : View) (x : ℕ) → IsSome (part_at keyed_links (content_of
 source_of v x some = go (may_read v x) refl some
   where
     go : (b : Bool) → may_read v x ≡ b
-        → IsSome (option_and_then keyed_links (if b then rows_in (row v.known_words) x else None))
+        → IsSome (option_and_then keyed_links (if b then rows_in (known_row v) x else None))
         → Source v x
     go true e some =
         let i = entry_with keyed_links _ (λ layer count first tail digest. refl) some in
@@ -145,26 +145,26 @@ source_of v x some = go (may_read v x) refl some
           readable = e;
           kind = sym (ap (λ (l : List ℕ). slice_index l 0) i.same);
           ends = record {
-            key = λ is k lt. let size : row v.known_words x 3 % 256 ≡ 16 = omega (arith, is) in
-                by_two (row v.known_words x) (key_ends _ i size) k lt;
-            value = λ is k lt. let size : row v.known_words x 3 / 256 ≡ 32 = omega (arith, is) in
-                by_four (row v.known_words x) (value_ends _ i size) k lt;
+            key = λ is k lt. let size : known_row v x 3 % 256 ≡ 16 = omega (arith, is) in
+                by_two (known_row v x) (key_ends _ i size) k lt;
+            value = λ is k lt. let size : known_row v x 3 / 256 ≡ 32 = omega (arith, is) in
+                by_four (known_row v x) (value_ends _ i size) k lt;
           };
         }
     go false e some = cc
 
 -- its links are small, and stand in words 1 and 2
 pub record LinksAt (v : View) (x : ℕ) : Type 0 where
-  pub child : row v.known_words x 1 ≤ 65535
-  pub next : row v.known_words x 2 ≤ 65535
+  pub child : known_row v x 1 ≤ 65535
+  pub next : known_row v x 2 ≤ 65535
   pub ends : part_at bare_links (content_of v) x ≡ Some
-      (record { child = row v.known_words x 1; next = row v.known_words x 2 })
+      (record { child = known_row v x 1; next = known_row v x 2 })
 
 pub links_of : (v : View) (x : ℕ) → IsSome (part_at keyed_links (content_of v) x) → LinksAt v x
 links_of v x some = go (may_read v x) refl some
   where
     go : (b : Bool) → may_read v x ≡ b
-        → IsSome (option_and_then keyed_links (if b then rows_in (row v.known_words) x else None))
+        → IsSome (option_and_then keyed_links (if b then rows_in (known_row v) x else None))
         → LinksAt v x
     go true e some = let w = links_in_words _ some in
         record { child = w.child; next = w.next; ends = rw e w.ends }

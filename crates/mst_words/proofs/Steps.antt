@@ -16,6 +16,7 @@ use Rattle.mst_words.specs.Steps.{IsReadable, IsWritable, reads, writes}
 use Rattle.mst_words.proofs.Worlds.{world_set}
 use Rattle.mst_words.proofs.Turns.{turn_same, only_one}
 use Rattle.mst_words.proofs.PinParts.{bits_stay, pins_same, drains_same}
+use Rattle.mst_words.proofs.Places.{place_above, place_below, place_apart}
 use Rattle.mst_words.proofs.RowParts.{Kept, kept_else, agrees_same, rows_to}
 use Rattle.mst_words.proofs.Marks.{clear_same, counts_same}
 use Rattle.mst_words.proofs.Paths.{path_same}
@@ -57,15 +58,17 @@ module _ {S : Type 0} (T : Meaning S) (framed : IsFramed T) (R N : ℕ) where
           (λ (t : (v.turn ≡ true) × (first_record ≤ i)). (q.rows.held id v at t.0).1 i t.1)
           (λ (t : ((r k : ℕ) × (v.pin ≡ Some r) × (k < record_words) × (i ≡ record_word r k))
           ⊎ ((r x k : ℕ) × (v.pin ≡ Some r) × In x v.pinned_rows × (k < row_words)
-          × (i ≡ row_word x k))). ⊎_elim
+          × (i ≡ row_word v.rows x k))). ⊎_elim
           (λ (t : (r k : ℕ) × (v.pin ≡ Some r) × (k < record_words) × (i ≡ record_word r k)). ap
           (λ (z : ℕ). get_or s.words z 0) t.4 ∙ (q.rows.reads id v at t.0 t.2).fields t.1 t.3
           ∙ ap (λ (z : ℕ). get_or v.known_words z 0) (sym t.4))
           (λ (t : (r x k : ℕ) × (v.pin ≡ Some r) × In x v.pinned_rows × (k < row_words)
-          × (i ≡ row_word x k)). let h = q.rows.reads id v at t.0 t.3 in
-          ap (λ (z : ℕ). get_or s.words z 0) t.6
+          × (i ≡ row_word v.rows x k)). let h = q.rows.reads id v at t.0 t.3 in
+          let is : i ≡ row_word R t.1 t.2 = t.6
+          ∙ ap (λ (z : ℕ). row_word z t.1 t.2) (q.world.placed id v at).rows_is in
+          ap (λ (z : ℕ). get_or s.words z 0) is
           ∙ h.kept t.1 (subst (λ (l : List ℕ). In t.1 l) h.rows_are t.4) t.2 t.5
-          ∙ ap (λ (z : ℕ). get_or v.known_words z 0) (sym t.6)) t)
+          ∙ ap (λ (z : ℕ). get_or v.known_words z 0) (sym is)) t)
           can,
     ),
   )
@@ -145,40 +148,51 @@ module _ {S : Type 0} (T : Meaning S) (framed : IsFramed T) (R N : ℕ) where
       below : (s : St) (q : Parts T R N s) → get_elem? s.views id ≡ some me.0 → i < table_words R
       below s q at = let e = (q.world.placed id me.0 at).rows_is in let few =
           q.pins.few in
-          ⊎_elim (λ (t : (x k : ℕ) × IsBlank T me.0 x × (k < row_words) × (i ≡ row_word x k)).
-          let a = t.4 in let b = t.3 in let c = t.2.0 in omega arith)
+          ⊎_elim (λ (t : (x k : ℕ) × IsBlank T me.0 x × (k < row_words)
+          × (i ≡ row_word me.0.rows x k)).
+          let a = t.4 in let b = place_below me.0.rows t.0 t.1 t.2.0 t.3 in
+          omega (arith, a, b, e))
           (λ (t : (r k : ℕ) × In r me.0.drained × (k < record_words) × (i ≡ record_word r k)).
           let a = t.4 in let b = t.3 in let c =
           ((q.pins.holder id me.0 at on).drained t.0 t.2).0 in omega arith) can
 
       above : first_record ≤ i
       above =
-          ⊎_elim (λ (t : (x k : ℕ) × IsBlank T me.0 x × (k < row_words) × (i ≡ row_word x k)).
-          let e = t.4 in omega arith)
+          ⊎_elim (λ (t : (x k : ℕ) × IsBlank T me.0 x × (k < row_words)
+          × (i ≡ row_word me.0.rows x k)).
+          let e = t.4 in let a = place_above me.0.rows t.0 t.1 in omega (arith, e, a))
           (λ (t : (r k : ℕ) × In r me.0.drained × (k < record_words) × (i ≡ record_word r k)).
           let e = t.4 in omega arith) can
 
       low : (j : ℕ) → j < first_record → get_or (set s.words i x) j 0 ≡ get_or s.words j 0
       low j l = stays s.words i x j (λ e. let a = above in omega arith)
 
-      kept : (r : ℕ) → IsLive whole.parts.cur s.views r → Kept s.words (set s.words i x) r
+      sized : me.0.rows ≡ R
+      sized = (whole.parts.world.placed id me.0 at).rows_is
+
+      kept : (r : ℕ) → IsLive whole.parts.cur s.views r → Kept R s.words (set s.words i x) r
           (whole.parts.used r)
       kept r live = ⊎_elim
-          (λ (t : (x k : ℕ) × IsBlank T me.0 x × (k < row_words) × (i ≡ row_word x k)). kept_else
-          s.words i x r (whole.parts.used r)
+          (λ (t : (x k : ℕ) × IsBlank T me.0 x × (k < row_words) × (i ≡ row_word me.0.rows x k)).
+          kept_else R s.words i x r (whole.parts.used r)
           (λ k l e. let a = t.4 in let b = (whole.parts.rows.live r live).numbered in let few =
-          whole.parts.pins.few in omega arith)
-          (λ y within k l e. let a = t.4 in let b = t.3 in let same : y ≡ t.0 =
-          omega arith in blank_apart T framed R N s whole.parts id me.0 at on t.0 t.2 r live
+          whole.parts.pins.few in let c = place_above me.0.rows t.0 t.1 in
+          omega (arith, a, b, few, c, e, l))
+          (λ y within k l e. let is : i ≡ row_word R t.0 t.1 = t.4
+          ∙ ap (λ (z : ℕ). row_word z t.0 t.1) sized in
+          let same : y ≡ t.0 =
+          (place_apart R y t.0 k t.1 ((whole.parts.rows.live r live).inside y within)
+          (subst (λ (z : ℕ). t.0 < z) sized t.2.0) l t.3 (e ∙ is)).0 in blank_apart T framed R N s
+          whole.parts id me.0 at on t.0 t.2 r live
           (subst (λ (z : ℕ). In z (whole.parts.used r)) same within))
           (λ j other. stays s.words i x j other))
           (λ (t : (r k : ℕ) × In r me.0.drained × (k < record_words) × (i ≡ record_word r k)).
-          kept_else s.words i x r (whole.parts.used r)
+          kept_else R s.words i x r (whole.parts.used r)
           (λ k l e. let a = t.4 in let b = t.3 in let same : t.0 ≡ r =
           omega arith in live_not_drained N whole.parts.cur whole.parts.due whole.parts.beside
           s.views me.0 (whole.parts.pins.holder id me.0 at on) r live
           (subst (λ (z : ℕ). In z me.0.drained) same t.2))
           (λ y within k l e. let a = t.4 in let b = t.3 in let c =
           ((whole.parts.pins.holder id me.0 at on).drained t.0 t.2).0 in let few =
-          whole.parts.pins.few in omega arith)
+          whole.parts.pins.few in let d = place_above R y k in omega (arith, a, b, c, few, d, e))
           (λ j other. stays s.words i x j other)) can

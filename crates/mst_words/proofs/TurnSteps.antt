@@ -250,14 +250,15 @@ module _ {S : Type 0} (T : Meaning S) (framed : IsFramed T) (R N : ℕ) where
             (λ own. absurd (let c : false ≡ true = own in cc));
         rows = rows_to T framed R N q.cur s.words q.log q.desk q.place q.used s.views id v q.rows at
             ws d w (current ∙ ap (λ (z : DeskState). z.current) h.3 ∙ q.rows.desk_at)
-            (λ r _. kept_upper s.words ws upper r (q.used r))
+            (λ r _. kept_upper R s.words ws upper r (q.used r))
             (λ r l. subst (λ (z : DeskState). Agrees T z d r) h.3
             (agrees r (q.rows.live r l).numbered
             (live_not_drained N q.cur q.due q.beside s.views v known r l)))
             (λ r e. (
               inr (id, v, at, e),
               reads_to T framed R N s.words ws r (q.place r) (q.used r) v
-                  w (q.rows.reads id v at r e) (kept_upper s.words ws upper r (q.used r)) refl refl
+                  w (q.rows.reads id v at r e) (kept_upper R s.words ws upper r (q.used r)) refl
+                  refl
                   refl,
             ))
             (λ own. absurd (let c : false ≡ true = own in cc))

@@ -13,7 +13,7 @@ use Rattle.mst_arena.proofs.WayLemmas.{way_in_words}
 use Rattle.mst_arena.proofs.StopLemmas.{Goes, entry_met, in_gap, at_key, past_entry}
 use Rattle.atomic_table.specs.Table.{Me}
 use Rattle.mst_words.specs.declared.view.View.{View}
-use Rattle.mst_words.specs.Records.{row}
+use Rattle.mst_words.specs.Records.{known_row}
 use Rattle.mst_words.specs.Stored.{rows_in}
 use Rattle.mst_words.specs.Access.{may_read, content_of}
 use Rattle.mst_words.proofs.ShortRows.{key_of}
@@ -21,18 +21,18 @@ use Rattle.mst_words.proofs.ShortRows.{key_of}
 -- the links of an entry are small, and the order by words chooses the way
 pub record WayAt (k : List ℕ) (v : View) (x : ℕ) : Type 0 where
   pub readable : may_read v x ≡ true
-  pub child : row v.known_words x 1 ≤ 65535
-  pub next : row v.known_words x 2 ≤ 65535
+  pub child : known_row v x 1 ≤ 65535
+  pub next : known_row v x 2 ≤ 65535
   pub way : part_at (entry_way k) (content_of v) x ≡ Some
-      (by_order (words_order k (row v.known_words x)) (Child (row v.known_words x 1)) Here
-      (Next (row v.known_words x 2)))
+      (by_order (words_order k (known_row v x)) (Child (known_row v x 1)) Here
+      (Next (known_row v x 2)))
 
 pub way_of_row : (k : List ℕ) (v : View) (x : ℕ) → IsKey k → IsBytes k
     → IsSome (part_at keyed_links (content_of v) x) → WayAt k v x
 way_of_row k v x size all some = go (may_read v x) refl some
   where
     go : (b : Bool) → may_read v x ≡ b
-        → IsSome (option_and_then keyed_links (if b then rows_in (row v.known_words) x else None))
+        → IsSome (option_and_then keyed_links (if b then rows_in (known_row v) x else None))
         → WayAt k v x
     go true e some = let w = way_in_words k _ size all some in
         record { readable = e; child = w.child; next = w.next; way = rw e w.way }
@@ -40,40 +40,40 @@ way_of_row k v x size all some = go (may_read v x) refl some
 
 -- the way, where the order by words and the link are known
 module _ {k : List ℕ} {v : View} {x : ℕ} (w : WayAt k v x) {o : Ordering}
-    (order : o ≡ words_order k (row v.known_words x)) where
+    (order : o ≡ words_order k (known_row v x)) where
   by_words : part_at (entry_way k) (content_of v) x ≡ Some
-      (by_order o (Child (row v.known_words x 1)) Here (Next (row v.known_words x 2)))
+      (by_order o (Child (known_row v x 1)) Here (Next (known_row v x 2)))
   by_words =
       w.way ∙ ap (λ (r : Ordering). Some
-      (by_order r (Child (row v.known_words x 1)) Here (Next (row v.known_words x 2)))) (sym order)
+      (by_order r (Child (known_row v x 1)) Here (Next (known_row v x 2)))) (sym order)
 
-  pub way_to_child : {n : ℕ} → o ≡ Less → n ≡ row v.known_words x 1 → part_at (entry_way k)
+  pub way_to_child : {n : ℕ} → o ≡ Less → n ≡ known_row v x 1 → part_at (entry_way k)
       (content_of v) x ≡ Some (Child n)
   way_to_child is word =
       by_words ∙ ap
       (λ (r : Ordering). Some
-      (by_order r (Child (row v.known_words x 1)) Here (Next (row v.known_words x 2)))) is
+      (by_order r (Child (known_row v x 1)) Here (Next (known_row v x 2)))) is
       ∙ ap (λ (l : ℕ). Some (Child l)) (sym word)
 
   pub way_here : o ≡ Equal → part_at (entry_way k) (content_of v) x ≡ Some Here
   way_here is =
       by_words ∙ ap
       (λ (r : Ordering). Some
-      (by_order r (Child (row v.known_words x 1)) Here (Next (row v.known_words x 2)))) is
+      (by_order r (Child (known_row v x 1)) Here (Next (known_row v x 2)))) is
 
-  pub way_to_next : {n : ℕ} → o ≡ Greater → n ≡ row v.known_words x 2 → part_at (entry_way k)
+  pub way_to_next : {n : ℕ} → o ≡ Greater → n ≡ known_row v x 2 → part_at (entry_way k)
       (content_of v) x ≡ Some (Next n)
   way_to_next is word =
       by_words ∙ ap
       (λ (r : Ordering). Some
-      (by_order r (Child (row v.known_words x 1)) Here (Next (row v.known_words x 2)))) is
+      (by_order r (Child (known_row v x 1)) Here (Next (known_row v x 2)))) is
       ∙ ap (λ (l : ℕ). Some (Next l)) (sym word)
 
 -- a word of a row that was loaded while the words are the same
 pub loaded_still : {old now : Me (Option lives.State) View} → now ≡ old → (x i : ℕ) → {n : ℕ}
-    → n ≡ row now.0.known_words x i → n ≡ row old.0.known_words x i
+    → n ≡ known_row now.0 x i → n ≡ known_row old.0 x i
 loaded_still same x i {n} =
-    subst (λ (m : Me (Option lives.State) View). n ≡ row m.0.known_words x i) same
+    subst (λ (m : Me (Option lives.State) View). n ≡ known_row m.0 x i) same
 
 -- a search has come to an entry
 module _ {k : List ℕ} {old : Me (Option lives.State) View} {count first passed link : ℕ}
@@ -87,24 +87,24 @@ module _ {k : List ℕ} {old : Me (Option lives.State) View} {count first passed
   -- and knows the order of the key and the entry's, and then a link, while the words are the same
   module _ (size : IsKey k) (all : IsBytes k) {now : Me (Option lives.State) View}
       (same : now ≡ old)
-      {o : Ordering} (order : o ≡ words_order k (row now.0.known_words (link - 1))) where
+      {o : Ordering} (order : o ≡ words_order k (known_row now.0 (link - 1))) where
     pub met : WayAt k old.0 (link - 1)
     met = way_of_row k old.0 (link - 1) size all (entry_met s lt).there
 
-    ordered : o ≡ words_order k (row old.0.known_words (link - 1))
+    ordered : o ≡ words_order k (known_row old.0 (link - 1))
     ordered = subst
-        (λ (m : Me (Option lives.State) View). o ≡ words_order k (row m.0.known_words (link - 1)))
+        (λ (m : Me (Option lives.State) View). o ≡ words_order k (known_row m.0 (link - 1)))
         same order
 
     pub stops_at : o ≡ Equal → stop_from k (content_of old.0) count first ≡ Some
         (Found link (count - passed))
     stops_at is = at_key s lt (way_here met ordered is) refl
 
-    pub stops_before : {n : ℕ} → o ≡ Less → n ≡ row old.0.known_words (link - 1) 1
+    pub stops_before : {n : ℕ} → o ≡ Less → n ≡ known_row old.0 (link - 1) 1
         → stop_from k (content_of old.0) count first ≡ Some (Gap link n (count - passed))
     stops_before is word = in_gap s lt (way_to_child met ordered is word) refl
 
-    pub goes_on : {n : ℕ} → o ≡ Greater → n ≡ row old.0.known_words (link - 1) 2
+    pub goes_on : {n : ℕ} → o ≡ Greater → n ≡ known_row old.0 (link - 1) 2
         → Goes k (content_of old.0) count first (passed + 1) n
     goes_on is word = record {
       some = s.some;

@@ -251,7 +251,7 @@ event = record { pass = 2; change = Remove (97 ∷ []) }
 abbrev pub later : DeskState
 later = record { current = 1; versions = 0 ∷ 1 ∷ 0 ∷ 0 ∷ []; lives = replicate 4 Free }
 
-empty_still : AgedOn One (row held) (field held 1) later (event ∷ []) []
+empty_still : AgedOn One (row 4 held) (field held 1) later (event ∷ []) []
 unfolding tree tree_within
 empty_still = (
   (

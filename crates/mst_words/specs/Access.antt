@@ -7,7 +7,7 @@ use Rattle.mst_arena.specs.Content.{Content}
 use Rattle.mst_arena.specs.Lives as lives
 use Rattle.mst_words.specs.declared.view.View.{View}
 use Rattle.mst_words.specs.Layout.{first_row, row_word, table_words}
-use Rattle.mst_words.specs.Records.{row}
+use Rattle.mst_words.specs.Records.{row, known_row}
 use Rattle.mst_words.specs.Stored.{rows_in, version_of}
 
 -- a seat at a table: which table, its place there, and what the pass knows and holds of the slot
@@ -15,6 +15,11 @@ pub record Seated : Type 0 where
   pub table : TableId
   pub id : ℕ
   pub me : Me (Option lives.State) View
+
+-- a table with one slot and the words of a store of so many rows
+pub record IsSized (board : TableId) (rows : ℕ) : Type 0 where
+  pub slots : board.slots ≡ 1
+  pub wide : board.words ≡ table_words rows
 
 -- a seat of this table, which has the words of a store of so many rows
 pub record IsAt (board seat : TableId) (rows : ℕ) : Type 0 where
@@ -50,7 +55,7 @@ may_read v x = nat_lt x v.rows && (v.turn || (is_some v.pin && list_any (eqb x) 
 
 -- the rows that it may read, as the words spell them
 abbrev pub content_of : View → Content
-content_of v x = if may_read v x then rows_in (row v.known_words) x else None
+content_of v x = if may_read v x then rows_in (known_row v) x else None
 
 -- for each number below n
 abbrev pub all_below : ℕ → (ℕ → Bool) → Bool
@@ -64,21 +69,22 @@ is_unreached v x = all_below (v.passes + 2) (λ r. list_any (eqb r) v.drained
 
 -- the holder of the turn, which knows the words, may write such rows, before it publishes
 abbrev pub may_write : View → ℕ → Bool
-may_write v x = nat_lt (row_word x 15) (length v.known_words) && nat_lt x v.rows && v.turn
+may_write v x = eqb (length v.known_words) (table_words v.rows) && nat_lt x v.rows && v.turn
     && is_none v.pin && is_none v.due && is_unreached v x
 
--- the first n words of a row are those of a list, and no other word has changed
-pub record RowStored (x n : ℕ) (words old new : List ℕ) : Type 0 where
+-- the first n words of a row are those of a list, and no other word has changed, in a table of so
+-- many rows
+pub record RowStored (rows x n : ℕ) (words old new : List ℕ) : Type 0 where
   pub long : length new ≡ length old
-  pub so_far : (k : ℕ) → k < n → row new x k ≡ slice_index words k
-  pub others : (i : ℕ) → ((k : ℕ) → k < n → i ≢ row_word x k)
+  pub so_far : (k : ℕ) → k < n → row rows new x k ≡ slice_index words k
+  pub others : (i : ℕ) → ((k : ℕ) → k < n → i ≢ row_word rows x k)
       → slice_index new i ≡ slice_index old i
 
 -- so many words of a row, from one on, are those of a function, and no other word has changed
-pub record PartStored (x at n : ℕ) (word : ℕ → ℕ) (old new : List ℕ) : Type 0 where
+pub record PartStored (rows x at n : ℕ) (word : ℕ → ℕ) (old new : List ℕ) : Type 0 where
   pub long : length new ≡ length old
-  pub so_far : (k : ℕ) → k < n → row new x (at + k) ≡ word (at + k)
-  pub others : (i : ℕ) → ((k : ℕ) → k < n → i ≢ row_word x (at + k))
+  pub so_far : (k : ℕ) → k < n → row rows new x (at + k) ≡ word (at + k)
+  pub others : (i : ℕ) → ((k : ℕ) → k < n → i ≢ row_word rows x (at + k))
       → slice_index new i ≡ slice_index old i
 
 -- if these are the lengths of a key of 16 bytes and a value of 32, the words behind both are 0

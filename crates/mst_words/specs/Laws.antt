@@ -41,10 +41,10 @@ HaveMade s t = (i : ℕ) (v : View) → SeatAt s.views i v → 0 < v.number
 abbrev pub HasTurn : Table → View → Type 0
 HasTurn s v = (i : ℕ) × SeatAt s.views i v × (v.turn ≡ true)
 
--- a word of a record, or of a row that stands for its version
-abbrev pub IsWordOf : ℕ → List ℕ → ℕ → Type 0
-IsWordOf r used i = ((k : ℕ) × (k < record_words) × (i ≡ record_word r k))
-    ⊎ ((x k : ℕ) × In x used × (k < row_words) × (i ≡ row_word x k))
+-- a word of a record, or of a row that stands for its version, in a table of so many rows
+abbrev pub IsWordOf : ℕ → ℕ → List ℕ → ℕ → Type 0
+IsWordOf rows r used i = ((k : ℕ) × (k < record_words) × (i ≡ record_word r k))
+    ⊎ ((x k : ℕ) × In x used × (k < row_words) × (i ≡ row_word rows x k))
 
 -- The words tell what a history leaves, which some seat has seen: the word of the current record
 -- names it, its first word is the number of events, and it stands for their map on rows of the
@@ -58,7 +58,8 @@ pub record Tells (z : Shape) (s : Table) (log : History) : Type 0 where
   pub small : mask < masks
   pub there : current < z.passes + 2
   pub version : field s.words current 0 ≡ length log
-  pub stands : StandsOn (row s.words) (field s.words current) (contents_after z.format log) used
+  pub stands : StandsOn (row z.rows s.words) (field s.words current) (contents_after z.format log)
+      used
   pub inside : (x : ℕ) → In x used → x < z.rows
   pub seen : IsSeen (stored z.format) z.rows z.passes log s.views
 

@@ -1,7 +1,7 @@
 -- Where the words of a table lie, and how many there are. Word 0 is the turn, word 1 the current
 -- record and the mask of its pins; then follow a word DONE for each of the most records, the words
 -- of these records, and the words of the rows.
-use Rattle.std.specs.Prelude.{ℕ, ◌+◌, ◌*◌}
+use Rattle.std.specs.Prelude.{ℕ, ◌+◌, ◌-◌, ◌*◌, nat_lt, if◌then◌else◌}
 
 -- the most passes that a table serves
 abbrev pub most_passes : ℕ
@@ -44,9 +44,14 @@ first_row = 278
 abbrev pub record_word : ℕ → ℕ → ℕ
 record_word r k = r * record_words + k + first_record
 
--- the place of word k of a row
-abbrev pub row_word : ℕ → ℕ → ℕ
-row_word x k = x * row_words + k + first_row
+-- The place of word k of row x, in a table of so many rows. The words of rows lie in three lanes:
+-- words 1 to 4 of all rows, which a search loads; then words 5 to 11 and 0; and then words 12 to 15
+unfoldable pub row_word : ℕ → ℕ → ℕ → ℕ
+row_word rows x k =
+    if nat_lt k 1 then rows * 4 + x * 8 + 7 + first_row
+    else if nat_lt k 5 then x * 4 + (k - 1) + first_row
+    else if nat_lt k 12 then rows * 4 + x * 8 + (k - 5) + first_row
+    else rows * 12 + x * 4 + (k - 12) + first_row
 
 -- how many words a table with so many rows has
 abbrev pub table_words : ℕ → ℕ

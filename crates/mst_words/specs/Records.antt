@@ -14,9 +14,13 @@ use Rattle.mst_words.specs.World.{SeatAt}
 abbrev pub field : List ℕ → ℕ → ℕ → ℕ
 field ws r k = slice_index ws (record_word r k)
 
--- a word of a row
-abbrev pub row : List ℕ → ℕ → ℕ → ℕ
-row ws x k = slice_index ws (row_word x k)
+-- a word of a row, of a table of so many rows
+abbrev pub row : ℕ → List ℕ → ℕ → ℕ → ℕ
+row rows ws x k = slice_index ws (row_word rows x k)
+
+-- a word of a row, as the seat knows the words
+abbrev pub known_row : View → ℕ → ℕ → ℕ
+known_row v = row v.rows v.known_words
 
 -- What the rule is about: the format of version 0; the map of a history with its format; when the
 -- words of rows and of a record stand for a map, on which rows; when they stand for the map of a
@@ -76,8 +80,8 @@ module _ {S : Type 0} (T : Meaning S) where
       pub begins : IsPrefix place log
       pub version : field ws r 0 ≡ length place
       pub filed : T.version desk r ≡ length place
-      pub stands : T.Stands (row ws) (field ws r) (T.after place) used
-      pub aged : T.Aged (row ws) (field ws r) desk place used
+      pub stands : T.Stands (row R ws) (field ws r) (T.after place) used
+      pub aged : T.Aged (row R ws) (field ws r) desk place used
       pub inside : (x : ℕ) → In x used → x < R
       pub reached : (x : ℕ) → In x used → T.Reaches desk (length place) x
       pub exactly : (x : ℕ) → x < R → T.Reaches desk (length place) x → In x used
@@ -88,7 +92,8 @@ module _ {S : Type 0} (T : Meaning S) where
       pub place_is : v.pinned_history ≡ place
       pub rows_are : v.pinned_rows ≡ used
       pub fields : (k : ℕ) → k < record_words → field ws r k ≡ field v.known_words r k
-      pub kept : (x : ℕ) → In x used → (k : ℕ) → k < row_words → row ws x k ≡ row v.known_words x k
+      pub kept : (x : ℕ) → In x used → (k : ℕ) → k < row_words → row R ws x k
+          ≡ row R v.known_words x k
 
     -- The current record stands for the whole history and each pinned one for its place. What a
     -- pinned seat may read is as it was. The holder of the turn knows all words of records and rows

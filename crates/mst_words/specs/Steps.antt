@@ -24,7 +24,8 @@ no_event = record { pass = 0; change = Remove [] }
 abbrev pub IsReadable : View → ℕ → Type 0
 IsReadable v i = ((v.turn ≡ true) × (first_record ≤ i))
     ⊎ (((r k : ℕ) × (v.pin ≡ Some r) × (k < record_words) × (i ≡ record_word r k))
-    ⊎ ((r x k : ℕ) × (v.pin ≡ Some r) × In x v.pinned_rows × (k < row_words) × (i ≡ row_word x k)))
+    ⊎ ((r x k : ℕ) × (v.pin ≡ Some r) × In x v.pinned_rows × (k < row_words)
+    × (i ≡ row_word v.rows x k)))
 
 -- the word DONE of the record that the seat pins
 abbrev pub IsDoneAtPin : View → ℕ → Type 0
@@ -184,7 +185,8 @@ module _ {S : Type 0} where
 module _ {S : Type 0} (T : Meaning S) where
   -- a word of a blank row, or of a record that was found drained
   abbrev pub IsWritable : View → ℕ → Type 0
-  IsWritable v i = ((x k : ℕ) × IsBlank T v x × (k < row_words) × (i ≡ row_word x k))
+  IsWritable v i = ((x k : ℕ) × IsBlank T v x × (k < row_words)
+      × (i ≡ row_word v.rows x k))
       ⊎ ((r k : ℕ) × In r v.drained × (k < record_words) × (i ≡ record_word r k))
 
   -- The pass, one of the store's, has the turn and the slot with its desk, and has seen the whole
@@ -272,7 +274,7 @@ module _ {S : Type 0} (T : Meaning S) where
     pub own : events_of m.0.number log ≡ m.0.mine
     pub alone : IsOfPasses m.0.passes log
     pub version : field words cur 0 ≡ length log
-    pub stands : T.Stands (row words) (field words cur) (T.after log) used
+    pub stands : T.Stands (row m.0.rows words) (field words cur) (T.after log) used
     pub inside : (x : ℕ) → In x used → x < m.0.rows
     pub is : m' ≡ (
       record m.0 {

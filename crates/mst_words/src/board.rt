@@ -23,11 +23,13 @@ pub type Token<A> = Seat<Option<Desk<A>>, View>;
 #[derive(Drop)]
 pub struct Board<A: Allocator + Copy> {
     pub(crate) table: Table<Option<Desk<A>>, View, Shape, Rule<A>, A>,
+    /// How many rows it has.
+    pub(crate) rows: u32,
 }
 
 impl<A: Allocator + Copy> Model for Board<A> {
-    ghost use Rattle.std.specs.Prelude.{◌≡◌};
     ghost use Rattle.atomic_table.specs.Seated.{TableId, table_id_coded};
+    ghost use Rattle.mst_words.specs.Access.{IsSized};
 
     ghost Value = { TableId };
 
@@ -35,7 +37,7 @@ impl<A: Allocator + Copy> Model for Board<A> {
 
     ghost view = { λ b. b.table.shared.table_id };
 
-    ghost invariant = { λ b. b.table.shared.table_id.slots ≡ 1 };
+    ghost invariant = { λ b. IsSized b.table.shared.table_id b.rows };
 }
 
 /// The slot, with the desk.
@@ -65,6 +67,12 @@ impl<A: Allocator + Copy> Board<A> {
             // the table's refusal says no more than that there was no memory
             return Err(Memory::from(AllocError));
         };
-        Ok((Board { table }, seat))
+        Ok((
+            Board {
+                table,
+                rows: shape.rows,
+            },
+            seat,
+        ))
     }
 }

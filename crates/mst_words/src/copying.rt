@@ -36,7 +36,7 @@ impl<A: Allocator + Copy> Board<A> {
         requires own { IsAt self.now seat.old.table_id seat.old.me.0.rows }
         requires there { IsSome (part_at keyed_links (content_of seat.old.me.0) from) }
         requires blank { IsTrue (may_write seat.old.me.0 to) }
-        requires lengths { lengths ≡ records.row seat.old.me.0.known_words from lengths_word }
+        requires lengths { lengths ≡ records.known_row seat.old.me.0 from lengths_word }
         ensures entry { (pair : Pair)
             → part_at entry_pair (content_of seat.old.me.0) from ≡ Some pair
             → (m : List ℕ) → HasTaken hasher.old m
@@ -47,8 +47,8 @@ impl<A: Allocator + Copy> Board<A> {
               record seat.old.me.0 { known_words = seat.new.me.0.known_words },
               seat.old.me.1,
             )) }
-        ensures stored { RowStored to row_words
-            (relinked_list (records.row seat.old.me.0.known_words from) links.child links.next)
+        ensures stored { RowStored seat.old.me.0.rows to row_words
+            (relinked_list (records.known_row seat.old.me.0 from) links.child links.next)
             seat.old.me.0.known_words seat.new.me.0.known_words }
     {
         let (key, value) = self.copy_words(seat, from, to, links, lengths);
@@ -82,8 +82,8 @@ impl<A: Allocator + Copy> Board<A> {
               record seat.old.me.0 { known_words = seat.new.me.0.known_words },
               seat.old.me.1,
             )) }
-        ensures stored { RowStored to row_words
-            (relinked_list (records.row seat.old.me.0.known_words from) links.child links.next)
+        ensures stored { RowStored seat.old.me.0.rows to row_words
+            (relinked_list (records.known_row seat.old.me.0 from) links.child links.next)
             seat.old.me.0.known_words seat.new.me.0.known_words }
     {
         let lengths = self.word(seat, from, LENGTHS_WORD);

@@ -33,12 +33,12 @@ pub fn rule_laws()
         → HaveMade s t → HaveMade t s → length b.parts.log ≡ length a.parts.log }
     // no word of a live record is writable, nor one of a row that stands for its version
     ensures stays { (z : Shape) (s : Table) (a : IsRuled z s) (v : View) (r i : ℕ) → HasTurn s v
-        → IsLive a.parts.cur s.views r → IsWordOf r (a.parts.used r) i
+        → IsLive a.parts.cur s.views r → IsWordOf z.rows r (a.parts.used r) i
         → IsWritable (stored z.format) v i → ⊥ }
     // a row that is writable is reached by no live version
     ensures row { (z : Shape) (s : Table) (a : IsRuled z s) (v : View) (r x k : ℕ) → HasTurn s v
-        → IsLive a.parts.cur s.views r → k < row_words
-        → IsWritable (stored z.format) v (row_word x k)
+        → IsLive a.parts.cur s.views r → x < z.rows → k < row_words
+        → IsWritable (stored z.format) v (row_word z.rows x k)
         → Reaches a.parts.desk (version_of a.parts.desk r) x → ⊥ }
     // the history grows by its event at a publication, and stays at every other step
     ensures grows { (z : Shape) (s t : Table) (a : IsRuled z s) (b : IsRuled z t) (e : Event)

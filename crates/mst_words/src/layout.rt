@@ -73,7 +73,8 @@ pub(crate) const FIRST_DIGEST: usize = FIRST_RECORD + FIRST_ROOT_DIGEST_WORD;
 pub(crate) const FIRST_FORMAT: usize = FIRST_RECORD + FORMAT_WORD;
 
 /// How many words lie unused after the records. With them the first row begins where a cache line
-/// of 64 bytes does, if the table begins 16 bytes after such a place, as with glibc's allocator.
+/// of 64 bytes does, if the table begins 16 bytes after such a place, as a large one does with
+/// glibc's allocator.
 const SPARE_WORDS: usize = 4;
 
 /// The place of the first word of the first row.
@@ -87,12 +88,25 @@ pub const fn record_word(which: u32, k: usize) -> usize
     which as usize * RECORD_WORDS + k + FIRST_RECORD
 }
 
-/// The place of word k of a row.
-pub const fn row_word(row: u32, k: usize) -> usize
+/// The place of word k of a row, in a table of so many rows. The words of rows lie in three lanes:
+/// words 1 to 4 of all rows, then words 5 to 11 and 0, and then words 12 to 15. A search loads
+/// those of the first lane, mostly, so a cache line that it loads has them of two rows.
+#[inline(always)]
+pub const fn row_word(rows: u32, row: u32, k: usize) -> usize
     requires there { k < ROW_WORDS }
-    ensures place { result ≡ row_word row k }
+    ensures place { result ≡ row_word rows row k }
 {
-    row as usize * ROW_WORDS + k + FIRST_ROW
+    let rows = rows as usize;
+    let row = row as usize;
+    if k < 1 {
+        rows * 4 + row * 8 + 7 + FIRST_ROW
+    } else if k < 5 {
+        row * 4 + (k - 1) + FIRST_ROW
+    } else if k < 12 {
+        rows * 4 + row * 8 + (k - 5) + FIRST_ROW
+    } else {
+        rows * 12 + row * 4 + (k - 12) + FIRST_ROW
+    }
 }
 
 /// How many words a table with so many rows has.

@@ -5,7 +5,7 @@
 ghost use Rattle.std.specs.Prelude.{◌≡◌, ◌+◌, ◌-◌, ◌^◌, ◌<◌, ◌≤◌, ◌++◌, ◌∷◌, [], ℕ, length, map, slice_set, true, IsTrue, IsSome, Some, vec_capacity};
 ghost use Rattle.mst_key.specs.Map.{Pair};
 ghost use Rattle.std.specs.List.{range_with_len};
-ghost use Rattle.mst_words.specs.Layout.{row_words, row_word};
+ghost use Rattle.mst_words.specs.Layout.{row_words, row_word, table_words};
 ghost use Rattle.mst_words.specs.Records as records;
 ghost use Rattle.mst_words.specs.Access.{IsAt, may_read, content_of, may_write, RowStored, PartStored, IsPadded, relinked_list};
 ghost use Rattle.mst_arena.specs.Content.{part_at};
@@ -14,8 +14,7 @@ ghost use Rattle.mst_arena.specs.Words.{lengths_word, first_key_word, first_valu
 
 use crate::board::{Board, Token};
 use crate::layout::{
-    CHILD_WORD, FIRST_KEY_WORD, FIRST_ROW, FIRST_VALUE_WORD, LENGTHS_WORD, NEXT_WORD, ROW_WORDS,
-    row_word,
+    CHILD_WORD, FIRST_KEY_WORD, FIRST_ROW, FIRST_VALUE_WORD, LENGTHS_WORD, NEXT_WORD, row_word,
 };
 use mst_arena::{BareLinks, Row};
 use mst_key::{Key, Value};
@@ -34,32 +33,57 @@ enum Storing {
 }
 
 impl<A: Allocator + Copy> Board<A> {
+    // How many rows the table has.
+    #[inline(always)]
+    fn row_count(&self) -> u32
+        ensures wide { self.now.words ≡ table_words result }
+    {
+        self.rows
+    }
+
+    // Word k of a row of a table of so many rows: one load. Where several words are loaded or
+    // stored, the number of rows is then read once.
+    #[inline(always)]
+    fn word_of(&self, seat: &mut Token<A>, rows: u32, row: u32, k: usize) -> u64
+        requires own { IsAt self.now seat.old.table_id seat.old.me.0.rows }
+        requires wide { self.now.words ≡ table_words rows }
+        requires readable { may_read seat.old.me.0 row ≡ true }
+        requires there { k < row_words }
+        ensures word { result ≡ records.known_row seat.old.me.0 row k }
+        ensures same { (seat.new.table_id ≡ seat.old.table_id) × (seat.new.id ≡ seat.old.id)
+            × (seat.new.me ≡ seat.old.me) }
+    {
+        self.load(seat, row_word(rows, row, k))
+    }
+
     /// Word k of a row: one load.
     pub(crate) fn word(&self, seat: &mut Token<A>, row: u32, k: usize) -> u64
         requires own { IsAt self.now seat.old.table_id seat.old.me.0.rows }
         requires readable { may_read seat.old.me.0 row ≡ true }
         requires there { k < row_words }
-        ensures word { result ≡ records.row seat.old.me.0.known_words row k }
+        ensures word { result ≡ records.known_row seat.old.me.0 row k }
         ensures same { (seat.new.table_id ≡ seat.old.table_id) × (seat.new.id ≡ seat.old.id)
             × (seat.new.me ≡ seat.old.me) }
     {
-        self.load(seat, row_word(row, k))
+        let rows = self.row_count();
+        self.word_of(seat, rows, row, k)
     }
 
-    /// Word k of the row that a link leads to: one load. It adds to the link no more than a
-    /// constant, so that a search which goes from link to link does not reckon the number of each
-    /// row.
+    /// Word k of the row that a link leads to, one of words 1 to 4: one load. It adds to the link
+    /// no more than a constant, so that a search which goes from link to link reckons neither the
+    /// number of each row nor where other words lie.
     pub(crate) fn linked_word(&self, seat: &mut Token<A>, link: usize, k: usize) -> u64
         requires own { IsAt self.now seat.old.table_id seat.old.me.0.rows }
         requires some { 0 < link }
         requires narrow { link ≤ 2 ^ 32 }
         requires readable { may_read seat.old.me.0 (link - 1) ≡ true }
-        requires there { k < row_words }
-        ensures word { result ≡ records.row seat.old.me.0.known_words (link - 1) k }
+        requires some_word { 0 < k }
+        requires there { k < 5 }
+        ensures word { result ≡ records.known_row seat.old.me.0 (link - 1) k }
         ensures same { (seat.new.table_id ≡ seat.old.table_id) × (seat.new.id ≡ seat.old.id)
             × (seat.new.me ≡ seat.old.me) }
     {
-        self.load(seat, link * ROW_WORDS + k + (FIRST_ROW - ROW_WORDS))
+        self.load(seat, link * 4 + k + (FIRST_ROW - 5))
     }
 
     /// The words of a row from one on: a load for each.
@@ -73,13 +97,14 @@ impl<A: Allocator + Copy> Board<A> {
         requires readable { may_read seat.old.me.0 row ≡ true }
         requires there { from + N ≤ row_words }
         ensures words { result
-            ≡ map (records.row seat.old.me.0.known_words row) (range_with_len from N) }
+            ≡ map (records.known_row seat.old.me.0 row) (range_with_len from N) }
         ensures same { (seat.new.table_id ≡ seat.old.table_id) × (seat.new.id ≡ seat.old.id)
             × (seat.new.me ≡ seat.old.me) }
     {
+        let rows = self.row_count();
         let mut words = [0; N];
         for k in 0..N {
-            words[k] = self.word(seat, row, from + k);
+            words[k] = self.word_of(seat, rows, row, from + k);
         }
         words
     }
@@ -106,9 +131,9 @@ impl<A: Allocator + Copy> Board<A> {
     fn key_words(&self, seat: &mut Token<A>, row: u32, lengths: u64) -> [u64; 4]
         requires own { IsAt self.now seat.old.table_id seat.old.me.0.rows }
         requires there { IsSome (part_at keyed_links (content_of seat.old.me.0) row) }
-        requires lengths { lengths ≡ records.row seat.old.me.0.known_words row lengths_word }
+        requires lengths { lengths ≡ records.known_row seat.old.me.0 row lengths_word }
         ensures words { result
-            ≡ map (records.row seat.old.me.0.known_words row) (range_with_len first_key_word 4) }
+            ≡ map (records.known_row seat.old.me.0 row) (range_with_len first_key_word 4) }
         ensures same { (seat.new.table_id ≡ seat.old.table_id) × (seat.new.id ≡ seat.old.id)
             × (seat.new.me ≡ seat.old.me) }
     {
@@ -125,9 +150,9 @@ impl<A: Allocator + Copy> Board<A> {
     pub(crate) fn value_words(&self, seat: &mut Token<A>, row: u32, lengths: u64) -> [u64; 8]
         requires own { IsAt self.now seat.old.table_id seat.old.me.0.rows }
         requires there { IsSome (part_at entry_value (content_of seat.old.me.0) row) }
-        requires lengths { lengths ≡ records.row seat.old.me.0.known_words row lengths_word }
+        requires lengths { lengths ≡ records.known_row seat.old.me.0 row lengths_word }
         ensures words { result
-            ≡ map (records.row seat.old.me.0.known_words row) (range_with_len first_value_word 8) }
+            ≡ map (records.known_row seat.old.me.0 row) (range_with_len first_value_word 8) }
         ensures same { (seat.new.table_id ≡ seat.old.table_id) × (seat.new.id ≡ seat.old.id)
             × (seat.new.me ≡ seat.old.me) }
     {
@@ -144,7 +169,7 @@ impl<A: Allocator + Copy> Board<A> {
     pub(crate) fn pair_by(&self, seat: &mut Token<A>, row: u32, lengths: u64) -> (Key, Value)
         requires own { IsAt self.now seat.old.table_id seat.old.me.0.rows }
         requires there { IsSome (part_at keyed_links (content_of seat.old.me.0) row) }
-        requires lengths { lengths ≡ records.row seat.old.me.0.known_words row lengths_word }
+        requires lengths { lengths ≡ records.known_row seat.old.me.0 row lengths_word }
         ensures pair { part_at entry_pair (content_of seat.old.me.0) row ≡ Some result }
         ensures same { (seat.new.table_id ≡ seat.old.table_id) × (seat.new.id ≡ seat.old.id)
             × (seat.new.me ≡ seat.old.me) }
@@ -204,24 +229,35 @@ impl<A: Allocator + Copy> Board<A> {
     /// Sets word k of a blank row to `value`. A store costs some twenty times as much as a load: so
     /// it is dearer to store each word than those alone that change, unless almost all do.
     #[inline(always)]
-    fn store_word(&self, seat: &mut Token<A>, row: u32, k: usize, value: u64, storing: Storing)
+    fn store_word(
+        &self,
+        seat: &mut Token<A>,
+        rows: u32,
+        row: u32,
+        k: usize,
+        value: u64,
+        storing: Storing,
+    )
         requires own { IsAt self.now seat.old.table_id seat.old.me.0.rows }
+        requires wide { self.now.words ≡ table_words rows }
         requires blank { IsTrue (may_write seat.old.me.0 row) }
         requires there { k < row_words }
         ensures same { (seat.new.table_id ≡ seat.old.table_id) × (seat.new.id ≡ seat.old.id) }
         ensures stored { seat.new.me ≡ (
           record seat.old.me.0 {
-            known_words = slice_set seat.old.me.0.known_words (row_word row k) value;
+            known_words =
+                slice_set seat.old.me.0.known_words (row_word seat.old.me.0.rows row k) value;
           },
           seat.old.me.1,
         ) }
-        ensures room { row_word row 15 < length seat.old.me.0.known_words }
+        ensures room { (row < seat.old.me.0.rows)
+            × (length seat.old.me.0.known_words ≡ table_words seat.old.me.0.rows) }
     {
         match storing {
-            Storing::Each => self.store(seat, row_word(row, k), value),
+            Storing::Each => self.store(seat, row_word(rows, row, k), value),
             Storing::Changed => {
-                if self.word(seat, row, k) != value {
-                    self.store(seat, row_word(row, k), value);
+                if self.word_of(seat, rows, row, k) != value {
+                    self.store(seat, row_word(rows, row, k), value);
                 }
             }
         }
@@ -242,11 +278,12 @@ impl<A: Allocator + Copy> Board<A> {
               record seat.old.me.0 { known_words = seat.new.me.0.known_words },
               seat.old.me.1,
             )) }
-        ensures stored { RowStored row N words.now
+        ensures stored { RowStored seat.old.me.0.rows row N words.now
             seat.old.me.0.known_words seat.new.me.0.known_words }
     {
+        let rows = self.row_count();
         for k in 0..N {
-            self.store_word(seat, row, k, words[k], Storing::Changed);
+            self.store_word(seat, rows, row, k, words[k], Storing::Changed);
         }
     }
 
@@ -270,25 +307,27 @@ impl<A: Allocator + Copy> Board<A> {
         requires blank { IsTrue (may_write seat.old.me.0 to) }
         requires there { at + (N + M) ≤ row_words }
         requires zeros { (k : ℕ) → k < M
-            → records.row seat.old.me.0.known_words from (at + (N + k)) ≡ 0 }
+            → records.known_row seat.old.me.0 from (at + (N + k)) ≡ 0 }
         ensures words { result
-            ≡ map (records.row seat.old.me.0.known_words from) (range_with_len at N) }
+            ≡ map (records.known_row seat.old.me.0 from) (range_with_len at N) }
         ensures same { (seat.new.table_id ≡ seat.old.table_id) × (seat.new.id ≡ seat.old.id)
             × (seat.new.me ≡ (
               record seat.old.me.0 { known_words = seat.new.me.0.known_words },
               seat.old.me.1,
             )) }
-        ensures stored { PartStored to at (N + M) (records.row seat.old.me.0.known_words from)
+        ensures stored { PartStored seat.old.me.0.rows to at (N + M)
+            (records.known_row seat.old.me.0 from)
             seat.old.me.0.known_words seat.new.me.0.known_words }
     {
+        let rows = self.row_count();
         let mut words = [0; N];
         for k in 0..N {
-            let word = self.word(seat, from, at + k);
+            let word = self.word_of(seat, rows, from, at + k);
             words[k] = word;
-            self.store_word(seat, to, at + k, word, storing);
+            self.store_word(seat, rows, to, at + k, word, storing);
         }
         for k in 0..M {
-            self.store_word(seat, to, at + (N + k), 0, Storing::Changed);
+            self.store_word(seat, rows, to, at + (N + k), 0, Storing::Changed);
         }
         words
     }
@@ -307,18 +346,18 @@ impl<A: Allocator + Copy> Board<A> {
         requires own { IsAt self.now seat.old.table_id seat.old.me.0.rows }
         requires readable { may_read seat.old.me.0 from ≡ true }
         requires blank { IsTrue (may_write seat.old.me.0 to) }
-        requires ends { IsPadded lengths (records.row seat.old.me.0.known_words from) }
+        requires ends { IsPadded lengths (records.known_row seat.old.me.0 from) }
         ensures key { result.0
-            ≡ map (records.row seat.old.me.0.known_words from) (range_with_len first_key_word 4) }
+            ≡ map (records.known_row seat.old.me.0 from) (range_with_len first_key_word 4) }
         ensures value { result.1
-            ≡ map (records.row seat.old.me.0.known_words from) (range_with_len first_value_word 8) }
+            ≡ map (records.known_row seat.old.me.0 from) (range_with_len first_value_word 8) }
         ensures same { (seat.new.table_id ≡ seat.old.table_id) × (seat.new.id ≡ seat.old.id)
             × (seat.new.me ≡ (
               record seat.old.me.0 { known_words = seat.new.me.0.known_words },
               seat.old.me.1,
             )) }
-        ensures stored { PartStored to first_key_word 12
-            (records.row seat.old.me.0.known_words from)
+        ensures stored { PartStored seat.old.me.0.rows to first_key_word 12
+            (records.known_row seat.old.me.0 from)
             seat.old.me.0.known_words seat.new.me.0.known_words }
     {
         if lengths == COMMON_LENGTHS {
@@ -357,20 +396,20 @@ impl<A: Allocator + Copy> Board<A> {
         requires own { IsAt self.now seat.old.table_id seat.old.me.0.rows }
         requires readable { may_read seat.old.me.0 from ≡ true }
         requires blank { IsTrue (may_write seat.old.me.0 to) }
-        requires kind { records.row seat.old.me.0.known_words from 0 ≡ 1 }
-        requires ends { IsPadded lengths (records.row seat.old.me.0.known_words from) }
-        requires lengths { lengths ≡ records.row seat.old.me.0.known_words from lengths_word }
+        requires kind { records.known_row seat.old.me.0 from 0 ≡ 1 }
+        requires ends { IsPadded lengths (records.known_row seat.old.me.0 from) }
+        requires lengths { lengths ≡ records.known_row seat.old.me.0 from lengths_word }
         ensures key { result.0
-            ≡ map (records.row seat.old.me.0.known_words from) (range_with_len first_key_word 4) }
+            ≡ map (records.known_row seat.old.me.0 from) (range_with_len first_key_word 4) }
         ensures value { result.1
-            ≡ map (records.row seat.old.me.0.known_words from) (range_with_len first_value_word 8) }
+            ≡ map (records.known_row seat.old.me.0 from) (range_with_len first_value_word 8) }
         ensures same { (seat.new.table_id ≡ seat.old.table_id) × (seat.new.id ≡ seat.old.id)
             × (seat.new.me ≡ (
               record seat.old.me.0 { known_words = seat.new.me.0.known_words },
               seat.old.me.1,
             )) }
-        ensures stored { RowStored to row_words
-            (relinked_list (records.row seat.old.me.0.known_words from) links.child links.next)
+        ensures stored { RowStored seat.old.me.0.rows to row_words
+            (relinked_list (records.known_row seat.old.me.0 from) links.child links.next)
             seat.old.me.0.known_words seat.new.me.0.known_words }
     {
         let front = [1, u64::from(links.child), u64::from(links.next), lengths];

@@ -24,7 +24,7 @@ impl<'a, A: Allocator + Copy> PassSeat<'a, A> {
     fn word(&mut self, row: u32, k: usize) -> u64
         requires readable { may_read self.old.me.0 row ≡ true }
         requires there { k < row_words }
-        ensures word { result ≡ records.row self.old.me.0.known_words row k }
+        ensures word { result ≡ records.known_row self.old.me.0 row k }
         ensures same { self.new ≡ self.old }
     {
         self.board.word(&mut self.token, row, k)
@@ -35,7 +35,7 @@ impl<'a, A: Allocator + Copy> PassSeat<'a, A> {
         requires readable { may_read self.old.me.0 row ≡ true }
         requires there { from + N ≤ row_words }
         ensures words { result
-            ≡ map (records.row self.old.me.0.known_words row) (range_with_len from N) }
+            ≡ map (records.known_row self.old.me.0 row) (range_with_len from N) }
         ensures same { self.new ≡ self.old }
     {
         self.board.words(&mut self.token, row, from)
@@ -46,7 +46,7 @@ impl<'a, A: Allocator + Copy> PassSeat<'a, A> {
     fn entry_words(&mut self, row: u32) -> [u64; 7]
         requires there { IsSome (part_at keyed_links (content_of self.old.me.0) row) }
         ensures words { result
-            ≡ map (records.row self.old.me.0.known_words row) (range_with_len 1 7) }
+            ≡ map (records.known_row self.old.me.0 row) (range_with_len 1 7) }
         ensures same { self.new ≡ self.old }
     {
         let [child, next, lengths] = self.words::<3>(row, CHILD_WORD);

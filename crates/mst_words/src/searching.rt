@@ -38,13 +38,13 @@ impl<A: Allocator + Copy> Board<A> {
         requires readable { may_read seat.old.me.0 (link - 1) ≡ true }
         requires there { k < row_words }
         ensures order { result ≡ ordering_then before
-            (nat_cmp number (records.row seat.old.me.0.known_words (link - 1) k)) }
+            (nat_cmp number (records.known_row seat.old.me.0 (link - 1) k)) }
         ensures same { (seat.new.table_id ≡ seat.old.table_id) × (seat.new.id ≡ seat.old.id)
             × (seat.new.me ≡ seat.old.me) }
     {
         match before {
             Ordering::Less => Ordering::Less,
-            Ordering::Equal => number.cmp(&self.linked_word(seat, link, k)),
+            Ordering::Equal => number.cmp(&self.word(seat, (link - 1) as u32, k)),
             Ordering::Greater => Ordering::Greater,
         }
     }
@@ -57,7 +57,7 @@ impl<A: Allocator + Copy> Board<A> {
         requires narrow { link ≤ 2 ^ 32 }
         requires readable { may_read seat.old.me.0 (link - 1) ≡ true }
         ensures order { result ≡ ordering_then before
-            (nat_cmp len (records.row seat.old.me.0.known_words (link - 1) 3 % 256)) }
+            (nat_cmp len (records.known_row seat.old.me.0 (link - 1) 3 % 256)) }
         ensures same { (seat.new.table_id ≡ seat.old.table_id) × (seat.new.id ≡ seat.old.id)
             × (seat.new.me ≡ seat.old.me) }
     {
@@ -76,13 +76,13 @@ impl<A: Allocator + Copy> Board<A> {
         requires narrow { link ≤ 2 ^ 32 }
         requires readable { may_read seat.old.me.0 (link - 1) ≡ true }
         ensures order { nat_cmp (word_from key.now 0)
-            (records.row seat.old.me.0.known_words (link - 1) 4) ≡ Equal
-            → result ≡ words_order key.now (records.row seat.old.me.0.known_words (link - 1)) }
+            (records.known_row seat.old.me.0 (link - 1) 4) ≡ Equal
+            → result ≡ words_order key.now (records.known_row seat.old.me.0 (link - 1)) }
         ensures same { (seat.new.table_id ≡ seat.old.table_id) × (seat.new.id ≡ seat.old.id)
             × (seat.new.me ≡ seat.old.me) }
     {
         let [_, second, third, last] = key.words();
-        let order = second.cmp(&self.linked_word(seat, link, FIRST_KEY_WORD + 1));
+        let order = second.cmp(&self.word(seat, (link - 1) as u32, FIRST_KEY_WORD + 1));
         let order = self.next_order(seat, order, third, link, FIRST_KEY_WORD + 2);
         let order = self.next_order(seat, order, last, link, FIRST_KEY_WORD + 3);
         self.length_order(seat, order, key.len(), link)
@@ -96,7 +96,7 @@ impl<A: Allocator + Copy> Board<A> {
         requires narrow { link ≤ 2 ^ 32 }
         requires readable { may_read seat.old.me.0 (link - 1) ≡ true }
         ensures order { result
-            ≡ words_order key.now (records.row seat.old.me.0.known_words (link - 1)) }
+            ≡ words_order key.now (records.known_row seat.old.me.0 (link - 1)) }
         ensures limits { IsKey key.now }
         ensures range { IsBytes key.now }
         ensures same { (seat.new.table_id ≡ seat.old.table_id) × (seat.new.id ≡ seat.old.id)

@@ -1,14 +1,27 @@
-use Rattle.std.proofs.Common.{rules}
+use Rattle.std.proofs.Common.{arith}
+use Rattle.mst_words.proofs.Places.{by_lane}
 use Rattle.mst_words.proofs.layout.row_word.Goals as goal
 
-pub overflow_mul-result : goal.overflow_mul-result
-overflow_mul-result c = search rules
+pub returns-then-k-lt1 : goal.returns-then-k-lt1
+returns-then-k-lt1 c = let t = c.if-k-lt1.true in
+    by_lane _ c.args.rows c.args.row c.args.k (λ a e. omega (arith, e))
+    (λ a b e. absurd (omega (arith, t, a))) (λ a b e. absurd (omega (arith, t, a)))
+    (λ a e. absurd (omega (arith, t, a)))
 
-pub overflow_add-result : goal.overflow_add-result
-overflow_add-result c = search rules
+pub returns-then-k-lt5 : goal.returns-then-k-lt5
+returns-then-k-lt5 c = let t = c.if-k-lt5.true in let f = c.if-k-lt1.false in
+    by_lane _ c.args.rows c.args.row c.args.k (λ a e. absurd (omega (arith, f, a)))
+    (λ a b e. omega (arith, a, e)) (λ a b e. absurd (omega (arith, t, a)))
+    (λ a e. absurd (omega (arith, t, a)))
 
-pub overflow_add-result-2 : goal.overflow_add-result-2
-overflow_add-result-2 c = search rules
+pub returns-then-k-lt12 : goal.returns-then-k-lt12
+returns-then-k-lt12 c = let t = c.if-k-lt12.true in let f = c.if-k-lt5.false in
+    by_lane _ c.args.rows c.args.row c.args.k (λ a e. absurd (omega (arith, f, a)))
+    (λ a b e. absurd (omega (arith, f, b))) (λ a b e. omega (arith, a, e))
+    (λ a e. absurd (omega (arith, t, a)))
 
-pub returns : goal.returns
-returns c = search rules
+pub returns-else-k-lt12 : goal.returns-else-k-lt12
+returns-else-k-lt12 c = let f = c.if-k-lt12.false in
+    by_lane _ c.args.rows c.args.row c.args.k (λ a e. absurd (omega (arith, f, a)))
+    (λ a b e. absurd (omega (arith, f, b))) (λ a b e. absurd (omega (arith, f, b)))
+    (λ a e. omega (arith, a, e))

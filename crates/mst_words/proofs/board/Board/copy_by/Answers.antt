@@ -19,7 +19,7 @@ copy_words-requires-clause-kind g c =
 
 pub copy_words-requires-clause-ends : goal.copy_words-requires-clause-ends
 copy_words-requires-clause-ends g c =
-    subst (λ (n : ℕ). IsPadded n (records.row c.args.seat.now.me.0.known_words c.args.from))
+    subst (λ (n : ℕ). IsPadded n (records.known_row c.args.seat.now.me.0 c.args.from))
     (sym c.requires.lengths) (source_of c.args.seat.now.me.0 c.args.from c.requires.there).ends
 
 pub hash_copied-requires-clause-key : goal.hash_copied-requires-clause-key
@@ -42,7 +42,7 @@ pub returns-clause-entry : goal.returns-clause-entry
 returns-clause-entry g c pair is m took =
     let v : View = c.args.seat.now.me.0 in
     let p : PairAt v c.args.from pair = pair_at v c.args.from pair is in
-    let lengths : c.args.lengths ≡ records.row v.known_words c.args.from 3 = c.requires.lengths in
+    let lengths : c.args.lengths ≡ records.known_row v c.args.from 3 = c.requires.lengths in
     let key : take (c.args.lengths % 256) (bytes_in c.copy_words.result.0) ≡ pair.0 =
     (λ i. take (lengths i % 256) (bytes_in (c.copy_words.ensures.key i))) ∙ p.key in
     let value : take (c.args.lengths / 256) (bytes_in c.copy_words.result.1) ≡ pair.1 =

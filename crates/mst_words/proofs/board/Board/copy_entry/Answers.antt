@@ -19,13 +19,13 @@ kept_as old now new same =
 
 stored_as : (old now : Me (Option lives.State) View) (words : List ℕ) (from to child nxt : ℕ)
     → now ≡ old
-    → RowStored to 16 (relinked_list (records.row now.0.known_words from) child nxt)
+    → RowStored now.0.rows to 16 (relinked_list (records.known_row now.0 from) child nxt)
     now.0.known_words words
-    → RowStored to 16 (relinked_list (records.row old.0.known_words from) child nxt)
+    → RowStored old.0.rows to 16 (relinked_list (records.known_row old.0 from) child nxt)
     old.0.known_words words
 stored_as old now words from to child nxt same =
     subst (λ (me : Me (Option lives.State) View).
-    RowStored to 16 (relinked_list (records.row me.0.known_words from) child nxt)
+    RowStored me.0.rows to 16 (relinked_list (records.known_row me.0 from) child nxt)
     me.0.known_words words) same
 
 -- ---- a key of 16 bytes and a value of 32

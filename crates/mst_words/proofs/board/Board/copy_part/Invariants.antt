@@ -12,11 +12,12 @@ invariant-loop-k g l =
         record l.fn.seat.me.0 { known_words = l.seat.me.0.known_words },
         l.fn.seat.me.1,
       );
-      stored : PartStored l.to l.at l.k (records.row l.fn.seat.me.0.known_words l.from)
+      stored : PartStored l.fn.seat.me.0.rows l.to l.at l.k
+          (records.known_row l.fn.seat.me.0 l.from)
           l.fn.seat.me.0.known_words l.seat.me.0.known_words;
       length : length l.words ≡ g.row.N;
       so_far : (j : ℕ)
-          → j < l.k → get_or l.words j 0 ≡ records.row l.fn.seat.me.0.known_words l.from
+          → j < l.k → get_or l.words j 0 ≡ records.known_row l.fn.seat.me.0 l.from
           (l.at + j);
     }
 
@@ -29,7 +30,7 @@ invariant-loop-k-2 g l =
         record l.fn.seat.me.0 { known_words = l.seat.me.0.known_words },
         l.fn.seat.me.1,
       );
-      stored : PartStored l.to l.at (g.row.N + l.k)
-          (records.row l.fn.seat.me.0.known_words l.from) l.fn.seat.me.0.known_words
+      stored : PartStored l.fn.seat.me.0.rows l.to l.at (g.row.N + l.k)
+          (records.known_row l.fn.seat.me.0 l.from) l.fn.seat.me.0.known_words
           l.seat.me.0.known_words;
     }

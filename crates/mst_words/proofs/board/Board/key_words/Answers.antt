@@ -7,7 +7,7 @@ use Rattle.mst_words.proofs.board.Board.key_words.Goals as goal
 pub returns-then-lengths-eq16-clause-words : goal.returns-then-lengths-eq16-clause-words
 returns-then-lengths-eq16-clause-words g c =
     let v : View = c.args.seat.now.me.0 in
-    let f : ℕ → ℕ = records.row v.known_words c.args.row in
+    let f : ℕ → ℕ = records.known_row v c.args.row in
     let two : c.words.result ≡ f 4 ∷ f 5 ∷ [] = c.words.ensures.words in
     key_four f c.words.result two
     ((key_of v c.args.row c.requires.there).ends

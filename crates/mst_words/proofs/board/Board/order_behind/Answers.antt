@@ -10,11 +10,11 @@ bounds-words-2 g c = search rules
 pub bounds-words-3 : goal.bounds-words-3
 bounds-words-3 g c = search rules
 
-pub linked_word-requires-clause-readable : goal.linked_word-requires-clause-readable
-linked_word-requires-clause-readable g c = search rules
+pub word-requires-clause-readable : goal.word-requires-clause-readable
+word-requires-clause-readable g c = search rules
 
-pub linked_word-requires-clause-there : goal.linked_word-requires-clause-there
-linked_word-requires-clause-there g c = search rules
+pub word-requires-clause-there : goal.word-requires-clause-there
+word-requires-clause-there g c = search rules
 
 pub next_order-order-requires-clause-readable : goal.next_order-order-requires-clause-readable
 next_order-order-requires-clause-readable g c = search rules
@@ -40,8 +40,8 @@ returns-clause-order g c = search rules
 pub returns-clause-same : goal.returns-clause-same
 returns-clause-same g c = search rules
 
-pub linked_word-requires-clause-own : goal.linked_word-requires-clause-own
-linked_word-requires-clause-own g c = search rules
+pub word-requires-clause-own : goal.word-requires-clause-own
+word-requires-clause-own g c = search rules
 
 pub next_order-order-requires-clause-own : goal.next_order-order-requires-clause-own
 next_order-order-requires-clause-own g c = search rules

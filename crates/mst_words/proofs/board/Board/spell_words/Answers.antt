@@ -26,15 +26,15 @@ take_words-requires-clause-value g c =
 pub returns-clause-entry : goal.returns-clause-entry
 returns-clause-entry g c pair is m took =
     let v : View = c.args.seat.now.me.0 in
-    let f : ℕ → ℕ = records.row v.known_words c.args.row in
+    let f : ℕ → ℕ = records.known_row v c.args.row in
     let p : PairAt v c.args.row pair = pair_at v c.args.row pair is in
     let lengths : c.word-lengths.result ≡ f 3 = c.word-lengths.ensures.word in
     let key_words : c.words-key.result ≡ map f (range_with_len 4 4) = c.words-key.ensures.words
-    ∙ ap (λ me. map (records.row me.0.known_words c.args.row) (range_with_len 4 4))
+    ∙ ap (λ me. map (records.known_row me.0 c.args.row) (range_with_len 4 4))
     c.word-lengths.ensures.same.2 in
     let value_words : c.words-value.result ≡ map f (range_with_len 8 8) =
     c.words-value.ensures.words
-    ∙ ap (λ me. map (records.row me.0.known_words c.args.row) (range_with_len 8 8))
+    ∙ ap (λ me. map (records.known_row me.0 c.args.row) (range_with_len 8 8))
     (c.words-key.ensures.same.2 ∙ c.word-lengths.ensures.same.2) in
     let key : take (c.word-lengths.result % 256) (bytes_in c.words-key.result) ≡ pair.0 =
     (λ i. take (lengths i % 256) (bytes_in (key_words i))) ∙ p.key in

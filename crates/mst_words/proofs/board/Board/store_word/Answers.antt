@@ -1,28 +1,60 @@
-use Rattle.std.proofs.Common.{ℕ, Option, sym, subst}
+use Rattle.std.proofs.Common.{◌≡◌, ◌∙◌, ◌<◌, ℕ, Option, true, ap, arith, subst, sym}
+use Rattle.atomic_table.specs.Seated.{TableId}
 use Rattle.atomic_table.specs.Table.{Me}
 use Rattle.mst_arena.specs.Lives as lives
 use Rattle.mst_words.specs.declared.view.View.{View}
-use Rattle.mst_words.specs.Layout.{row_word}
+use Rattle.mst_words.specs.Layout.{row_word, row_words, table_words}
 use Rattle.mst_words.specs.Steps.{IsWritable}
 use Rattle.mst_words.specs.Stored.{stored}
-use Rattle.mst_words.proofs.Accesses.{blank_may, writable}
+use Rattle.mst_words.specs.Access.{IsAt, may_write}
+use Rattle.mst_words.proofs.Accesses.{blank_may, blank_parts, rows_of_table, writable}
+use Rattle.mst_words.proofs.Places.{place_below}
 use Rattle.mst_words.proofs.board.Board.store_word.Goals as goal
 
-pub word-requires-clause-readable : goal.word-requires-clause-readable
-word-requires-clause-readable g c = blank_may c.args.seat.now.me.0 c.args.row c.requires.blank
+-- where the word lies
+there : {board seat : TableId} (v : View) (rows x k i : ℕ) → IsAt board seat v.rows
+    → board.words ≡ table_words rows → i ≡ row_word rows x k → i ≡ row_word v.rows x k
+there v rows x k i own wide is = is
+    ∙ ap (λ (r : ℕ). row_word r x k) (rows_of_table own wide)
+
+within : {board seat : TableId} (v : View) (x k i : ℕ) → IsAt board seat v.rows
+    → may_write v x ≡ true → k < row_words → i ≡ row_word v.rows x k → i < board.words
+within v x k i own blank lt is = let below = place_below v.rows x k
+    (blank_parts v x blank).inside lt in let w = own.wide in omega (arith, is, below, w)
+
+pub word_of-requires-clause-readable : goal.word_of-requires-clause-readable
+word_of-requires-clause-readable g c =
+    blank_may c.args.seat.now.me.0 c.args.row c.requires.blank
+
+pub store-requires-clause-there : goal.store-requires-clause-there
+store-requires-clause-there g c = let v = c.args.seat.now.me.0 in
+    within v c.args.row c.args.k c.row_word.result c.requires.own c.requires.blank
+    c.requires.there
+    (there v c.args.rows c.args.row c.args.k c.row_word.result c.requires.own c.requires.wide
+    c.row_word.ensures.place)
 
 pub store-requires-clause-writable : goal.store-requires-clause-writable
-store-requires-clause-writable g c =
-    subst (λ (i : ℕ). IsWritable (stored c.args.seat.now.me.0.format) c.args.seat.now.me.0 i)
-    (sym c.row_word.ensures.place)
-    (writable c.args.seat.now.me.0 c.args.row c.args.k c.requires.blank c.requires.there)
+store-requires-clause-writable g c = let v = c.args.seat.now.me.0 in
+    subst (λ (i : ℕ). IsWritable (stored v.format) v i)
+    (sym (there v c.args.rows c.args.row c.args.k c.row_word.result c.requires.own c.requires.wide
+    c.row_word.ensures.place))
+    (writable v c.args.row c.args.k c.requires.blank c.requires.there)
 
-pub store-requires-then-word-value-clause-writable :
-    goal.store-requires-then-word-value-clause-writable
-store-requires-then-word-value-clause-writable g c =
-    subst (λ (i : ℕ). IsWritable (stored c.word.new.seat.me.0.format) c.word.new.seat.me.0 i)
-    (sym c.row_word-then-word-value.ensures.place)
+pub store-requires-then-word_of-value-clause-there :
+    goal.store-requires-then-word_of-value-clause-there
+store-requires-then-word_of-value-clause-there g c = let v = c.args.seat.now.me.0 in
+    within v c.args.row c.args.k c.row_word-then-word_of-value.result c.requires.own
+    c.requires.blank c.requires.there
+    (there v c.args.rows c.args.row c.args.k c.row_word-then-word_of-value.result c.requires.own
+    c.requires.wide c.row_word-then-word_of-value.ensures.place)
+
+pub store-requires-then-word_of-value-clause-writable :
+    goal.store-requires-then-word_of-value-clause-writable
+store-requires-then-word_of-value-clause-writable g c = let v = c.args.seat.now.me.0 in
+    subst (λ (i : ℕ). IsWritable (stored c.word_of.new.seat.me.0.format) c.word_of.new.seat.me.0 i)
+    (sym {A = ℕ} (there v c.args.rows c.args.row c.args.k c.row_word-then-word_of-value.result
+    c.requires.own c.requires.wide c.row_word-then-word_of-value.ensures.place))
     (subst (λ (z : Me (Option lives.State) View). IsWritable (stored z.0.format) z.0
-    (row_word c.args.row c.args.k))
-    (sym c.word.ensures.same.2)
-    (writable c.args.seat.now.me.0 c.args.row c.args.k c.requires.blank c.requires.there))
+    (row_word v.rows c.args.row c.args.k))
+    (sym c.word_of.ensures.same.2)
+    (writable v c.args.row c.args.k c.requires.blank c.requires.there))

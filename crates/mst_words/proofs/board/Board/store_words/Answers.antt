@@ -11,13 +11,14 @@ loop-k-preserved g c = let k = c.loop-k.invariant in let s = c.store_word.ensure
   kept = stored_once c.args.seat.now.me c.loop-k.seat.me c.store_word.new.seat.me _ _ k.kept
       s.stored;
   stored = stored_next c.args.seat.now.me c.loop-k.seat.me c.store_word.new.seat.me c.args.row
-      c.loop-k.k (get_or c.args.words.now c.loop-k.k 0) c.args.words.now s.stored k.stored
+      c.loop-k.k (get_or c.args.words.now c.loop-k.k 0) c.args.words.now k.kept s.stored k.stored
       (omega arith) s.room refl;
 }
 
 pub returns-clause-stored : goal.returns-clause-stored
 returns-clause-stored g c = let e : c.loop-k.k ≡ g.row.N = (omega arith) in
-    subst (λ (n : ℕ). RowStored c.args.row n c.args.words.now c.args.seat.now.me.0.known_words
+    subst (λ (n : ℕ). RowStored c.args.seat.now.me.0.rows c.args.row n c.args.words.now
+    c.args.seat.now.me.0.known_words
     c.loop-k.seat.me.0.known_words) e c.loop-k.invariant.stored
 
 pub loop-k-init : goal.loop-k-init

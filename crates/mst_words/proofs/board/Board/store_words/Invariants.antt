@@ -11,5 +11,6 @@ invariant-loop-k g l =
         record l.fn.seat.me.0 { known_words = l.seat.me.0.known_words },
         l.fn.seat.me.1,
       );
-      stored : RowStored l.row l.k l.words l.fn.seat.me.0.known_words l.seat.me.0.known_words;
+      stored : RowStored l.fn.seat.me.0.rows l.row l.k l.words l.fn.seat.me.0.known_words
+          l.seat.me.0.known_words;
     }

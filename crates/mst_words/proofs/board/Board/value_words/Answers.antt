@@ -7,7 +7,7 @@ use Rattle.mst_words.proofs.board.Board.value_words.Goals as goal
 pub returns-then-lengths-eq32-clause-words : goal.returns-then-lengths-eq32-clause-words
 returns-then-lengths-eq32-clause-words g c =
     let v : View = c.args.seat.now.me.0 in
-    let f : ℕ → ℕ = records.row v.known_words c.args.row in
+    let f : ℕ → ℕ = records.known_row v c.args.row in
     let four : c.words.result ≡ f 8 ∷ f 9 ∷ f 10 ∷ f 11 ∷ [] = c.words.ensures.words in
     value_words f c.words.result four
     ((value_of v c.args.row c.requires.there).ends

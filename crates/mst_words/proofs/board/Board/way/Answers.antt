@@ -2,7 +2,7 @@ use Rattle.std.proofs.Common.{◌≡◌, ◌+◌, ◌-◌, ◌∙◌, ℕ, List,
 use Rattle.atomic_table.specs.Table.{Me}
 use Rattle.mst_arena.specs.Lives as lives
 use Rattle.mst_words.specs.declared.view.View.{View}
-use Rattle.mst_words.specs.Records.{row}
+use Rattle.mst_words.specs.Records.{known_row}
 use Rattle.mst_words.specs.Access.{may_read}
 use Rattle.std.specs.declared.cmp.Ordering.{Ordering}
 use Rattle.mst_arena.specs.Ways.{words_order}
@@ -20,10 +20,10 @@ order-requires-clause-readable g c =
 
 -- the order of the key and the entry's
 by_row : {o : Ordering} (k : List ℕ) (v : View) (x : ℕ)
-    → o ≡ words_order k (row v.known_words (x + 1 - 1)) → o ≡ words_order k (row v.known_words x)
+    → o ≡ words_order k (known_row v (x + 1 - 1)) → o ≡ words_order k (known_row v x)
 by_row {o} k v x order =
     let at : x + 1 - 1 ≡ x = omega arith in
-    subst (λ (n : ℕ). o ≡ words_order k (row v.known_words n)) at order
+    subst (λ (n : ℕ). o ≡ words_order k (known_row v n)) at order
 
 -- ---- the key is below that of the entry
 
@@ -32,9 +32,9 @@ module _ (g : Over) (c : goal.After-word g) where
   before = way_of_row c.args.key.now c.args.seat.now.me.0 c.args.row c.order.ensures.limits
       c.order.ensures.range c.requires.there
 
-  child_is : c.word.result ≡ row c.args.seat.now.me.0.known_words c.args.row 1
+  child_is : c.word.result ≡ known_row c.args.seat.now.me.0 c.args.row 1
   child_is = c.word.ensures.word
-      ∙ ap (λ (m : Me (Option lives.State) View). row m.0.known_words c.args.row 1)
+      ∙ ap (λ (m : Me (Option lives.State) View). known_row m.0 c.args.row 1)
       c.order.ensures.same.2
 
 pub overflow_cast-result : goal.overflow_cast-result
@@ -61,9 +61,9 @@ module _ (g : Over) (c : goal.After-word-in-Greater g) where
   behind = way_of_row c.args.key.now c.args.seat.now.me.0 c.args.row c.order.ensures.limits
       c.order.ensures.range c.requires.there
 
-  next_is : c.word-in-Greater.result ≡ row c.args.seat.now.me.0.known_words c.args.row 2
+  next_is : c.word-in-Greater.result ≡ known_row c.args.seat.now.me.0 c.args.row 2
   next_is = c.word-in-Greater.ensures.word
-      ∙ ap (λ (m : Me (Option lives.State) View). row m.0.known_words c.args.row 2)
+      ∙ ap (λ (m : Me (Option lives.State) View). known_row m.0 c.args.row 2)
       c.order.ensures.same.2
 
 pub overflow_cast-result-in-Greater : goal.overflow_cast-result-in-Greater

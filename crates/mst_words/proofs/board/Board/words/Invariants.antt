@@ -10,6 +10,6 @@ invariant-loop-k g l =
       me : l.seat.me ≡ l.fn.seat.me;
       length : length l.words ≡ g.row.N;
       so_far : (j : ℕ)
-          → j < l.k → get_or l.words j 0 ≡ records.row l.fn.seat.me.0.known_words l.row
+          → j < l.k → get_or l.words j 0 ≡ records.known_row l.fn.seat.me.0 l.row
           (l.from + j);
     }

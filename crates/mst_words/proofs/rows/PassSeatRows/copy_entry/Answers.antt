@@ -24,18 +24,18 @@ module _ (g : Over) (c : goal.After-copy_entry g) where
       ≡ (record m.0 { known_words = c.copy_entry.new.seat.me.0.known_words }, m.1)) same_me
       c.copy_entry.ensures.same.2
 
-  stored : RowStored c.args.to 16
-      (relinked_list (records.row c.args.self.now.me.0.known_words c.args.from) c.args.links.child
+  stored : RowStored c.args.self.now.me.0.rows c.args.to 16
+      (relinked_list (records.known_row c.args.self.now.me.0 c.args.from) c.args.links.child
       c.args.links.next) c.args.self.now.me.0.known_words c.copy_entry.new.seat.me.0.known_words
-  stored = subst (λ (m : Me (Option lives.State) View). RowStored c.args.to 16
-      (relinked_list (records.row m.0.known_words c.args.from) c.args.links.child c.args.links.next)
+  stored = subst (λ (m : Me (Option lives.State) View). RowStored m.0.rows c.args.to 16
+      (relinked_list (records.known_row m.0 c.args.from) c.args.links.child c.args.links.next)
       m.0.known_words c.copy_entry.new.seat.me.0.known_words) same_me c.copy_entry.ensures.stored
 
 pub returns-clause-writes : goal.returns-clause-writes
 returns-clause-writes g c =
     let old : Me (Option lives.State) View = c.args.self.now.me in
     let new : Me (Option lives.State) View = c.copy_entry.new.seat.me in
-    let linked = relinked_list (records.row old.0.known_words c.args.from) c.args.links.child
+    let linked = relinked_list (records.known_row old.0 c.args.from) c.args.links.child
     c.args.links.next in
     entry_copied old.0 c.args.from c.args.links.child c.args.links.next _
     (λ value. Writes (content_of old.0) (content_of new.0) c.args.to value)
@@ -61,7 +61,7 @@ returns-clause-kept g c =
     let new : Seated = record { table = seat.table_id; id = seat.id; me = seat.me } in
     let known = (blank_parts c.args.self.now.me.0 c.args.to c.requires.blank).known in
     beside_stays c.args.self.now new c.args.to
-    (relinked_list (records.row c.args.self.now.me.0.known_words c.args.from) c.args.links.child
+    (relinked_list (records.known_row c.args.self.now.me.0 c.args.from) c.args.links.child
     c.args.links.next)
     (same_seated (with_words seat.me.0.known_words c.args.self.now) seat.table_id seat.id seat.me
     (s.0 ∙ ap (λ (z : Seated). z.table) c.self.view_is)

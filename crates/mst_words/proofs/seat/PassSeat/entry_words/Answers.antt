@@ -10,11 +10,11 @@ use Rattle.mst_words.proofs.seat.PassSeat.entry_words.Goals as goal
 pub returns-then-lengths-eq16-clause-words : goal.returns-then-lengths-eq16-clause-words
 returns-then-lengths-eq16-clause-words g c =
     let v : View = c.args.self.now.me.0 in
-    let f : ℕ → ℕ = records.row v.known_words c.args.row in
+    let f : ℕ → ℕ = records.known_row v c.args.row in
     let three : c.words.result ≡ f 1 ∷ f 2 ∷ f 3 ∷ [] = c.words.ensures.words in
     let two : c.words-then-lengths-eq16.result ≡ f 4 ∷ f 5 ∷ [] =
     c.words-then-lengths-eq16.ensures.words
-    ∙ ap (λ (z : Seated). map (records.row z.me.0.known_words c.args.row) (range_with_len 4 2))
+    ∙ ap (λ (z : Seated). map (records.known_row z.me.0 c.args.row) (range_with_len 4 2))
     c.words.ensures.same in
     let third : slice_index_or c.words.result 2 0 ≡ f 3 =
     ap (λ (l : List ℕ). slice_index_or l 2 0) three in

@@ -20,9 +20,11 @@ module _ (g : Over) (c : goal.After-store_words g) where
       ≡ (record m.0 { known_words = c.store_words.new.seat.me.0.known_words }, m.1)) same_me
       c.store_words.ensures.same.2
 
-  stored : RowStored c.args.row 16 c.args.words.now c.args.self.now.me.0.known_words
+  stored : RowStored c.args.self.now.me.0.rows c.args.row 16 c.args.words.now
+      c.args.self.now.me.0.known_words
       c.store_words.new.seat.me.0.known_words
-  stored = subst (λ (m : Me (Option lives.State) View). RowStored c.args.row 16 c.args.words.now
+  stored =
+      subst (λ (m : Me (Option lives.State) View). RowStored m.0.rows c.args.row 16 c.args.words.now
       m.0.known_words c.store_words.new.seat.me.0.known_words) same_me c.store_words.ensures.stored
 
 pub returns-clause-writes : goal.returns-clause-writes
