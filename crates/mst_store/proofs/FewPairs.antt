@@ -19,7 +19,7 @@ use Rattle.mst_arena.proofs.Stands.{all-append, all-front, all-back}
 use Rattle.mst_path.proofs.lemmas.versions.Versions.{rows_of_map}
 use Rattle.mst_words.specs.declared.view.View.{View}
 use Rattle.mst_words.specs.Access.{may_read, content_of}
-use Rattle.mst_words.specs.Records.{row}
+use Rattle.mst_words.specs.Records.{known_row}
 use Rattle.mst_words.specs.Stored.{rows_in}
 use Rattle.mst_words.proofs.Accesses.{inside}
 use Rattle.mst_versions.specs.declared.reading.PinnedVersion.{PinnedVersion}
@@ -88,7 +88,7 @@ readable : (v : View) (x : ℕ) (r : Row) → content_of v x ≡ Some r → x < 
 readable v x r is = go (may_read v x) refl is
   where
     go : (b : Bool) → may_read v x ≡ b
-        → (if b then rows_in (row v.known_words) x else None) ≡ Some r → x < v.rows
+        → (if b then rows_in (known_row v) x else None) ≡ Some r → x < v.rows
     go true may has = inside v x may
     go false may has = absurd (let no : None ≡ Some r = has in cc)
 

@@ -4,7 +4,7 @@ use mathlib.Core.Logic.{dite}
 use native.Mathlib.Decide.{ℕ_discrete}
 use Rattle.std.specs.Prelude.{◌↔◌, slice_get, IsTrue}
 use Rattle.std.specs.List.{AllByRecursion}
-use Rattle.std.proofs.lemmas.Bool.{lt-ltb}
+use Rattle.std.proofs.lemmas.Bool.{eq-eqb, lt-ltb}
 use Rattle.std.proofs.lemmas.List.{length-map}
 use Rattle.mst_key.specs.declared.format.Format.{Format}
 use Rattle.mst_key.specs.History.{format_after}
@@ -20,7 +20,7 @@ use Rattle.mst_path.proofs.lemmas.rows.FreeCounts.{count_swept}
 use Rattle.mst_path.proofs.lemmas.versions.KeptRoom.{held_free}
 use Rattle.mst_path.proofs.lemmas.versions.Reached.{same_swept, settled_swept, free_swept}
 use Rattle.mst_words.specs.declared.view.View.{View}
-use Rattle.mst_words.specs.Layout.{row_word}
+use Rattle.mst_words.specs.Layout.{table_words}
 use Rattle.mst_words.specs.Records.{IsBlank, row, field}
 use Rattle.mst_words.specs.Steps.{Takes}
 use Rattle.mst_words.specs.Stored.{contents_after, format_number, rows_in, root_in, stored, state_of}
@@ -104,14 +104,13 @@ module _ (before taken : SeatState) (p : Takes (stored before.0.format) before t
   blank_free drained blocked found asked a h x free =
       let inside : x < length p.desk.lives = free_inside a.live.items p.desk.lives x free in
       let lt : x < before.0.rows = (let r = p.is_desk.rows_is in omega (arith, inside, r)) in
-      let there : row_word x 15 < length p.words = (let w = p.wide in omega (arith, lt, w)) in
       let pinless : before.0.pin ≡ None = h.knows.holder.1 in
       let none : is_unreached (asked_view drained blocked found asked) x ≡ true =
       unreached (before.0.passes + 2) (state_of p.desk) a
       (asked_seat drained blocked found asked) h p.is_desk.settled x free inside in
       ap (λ (b : Bool). b && nat_lt x before.0.rows && true && is_none before.0.pin && true
       && is_unreached (asked_view drained blocked found asked) x)
-      (lt-ltb (row_word x 15) (length p.words) there)
+      (eq-eqb (length p.words) (table_words before.0.rows) p.wide)
       ∙ ap (λ (b : Bool). true && b && true && is_none before.0.pin && true && is_unreached
       (asked_view drained blocked found asked) x) (lt-ltb x before.0.rows lt)
       ∙ ap (λ (o : Option ℕ). true && true && true && is_none o && true && is_unreached
@@ -283,11 +282,13 @@ module _ (before taken : SeatState) (p : Takes (stored before.0.format) before t
   known {A} drained blocked found asked a root h here =
       let v : View = asked_view drained blocked found asked in
       let s = p.stands.aged.0 in
-      let content : AllByRecursion (λ x. content_of v x ≡ rows_in (row p.words) x) (numbers s.0) =
-      subst (AllByRecursion (λ x. content_of v x ≡ rows_in (row p.words) x)) (sym s.1)
-      (each (λ x. content_of v x ≡ rows_in (row p.words) x) p.used
+      let content : AllByRecursion (λ x. content_of v x ≡ rows_in (row before.0.rows p.words) x)
+      (numbers s.0) =
+      subst (AllByRecursion (λ x. content_of v x ≡ rows_in (row before.0.rows p.words) x)) (sym s.1)
+      (each (λ x. content_of v x ≡ rows_in (row before.0.rows p.words) x) p.used
       (λ x within. reads_all v x refl (p.stands.inside x within))) in
-      let t = aged_frame before.0.format format_there (rows_in (row p.words)) (content_of v)
+      let t = aged_frame before.0.format format_there (rows_in (row before.0.rows p.words))
+      (content_of v)
       (root_in (field p.words p.desk.current)) root p.log p.desk.lives
       (map (swept_life a.live.items) p.desk.lives) s.0 content here (swept_ages a h.now)
       p.stands.aged.1 in
@@ -341,7 +342,7 @@ module _ (before taken : SeatState) (p : Takes (stored before.0.format) before t
       let few_rows : before.0.rows ≤ 65535 = subst (λ (z : SeatState). z.0.rows ≤ 65535) p.is few in
       let at : which ≡ p.desk.current =
       current ∙ ap (λ (d : State). d.current) (desk_there before taken p desk slot) in
-      let link = link_of_root (row p.words) (field p.words p.desk.current)
+      let link = link_of_root (row before.0.rows p.words) (field p.words p.desk.current)
       (contents_after before.0.format p.log) p.used before.0.rows p.stands.stands
       p.stands.inside in
       let same : field m.0.known_words which 1 ≡ field p.words p.desk.current 1 =

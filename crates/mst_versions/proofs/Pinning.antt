@@ -11,7 +11,7 @@ use Rattle.mst_node.specs.Tree.{tree}
 use Rattle.mst_arena.specs.Standing.{Placed, none, head, link_of, used, chain_used, numbers, Stands, StandsAt}
 use Rattle.mst_arena.specs.Lists.{In}
 use Rattle.mst_words.specs.declared.view.View.{View}
-use Rattle.mst_words.specs.Records.{row, field}
+use Rattle.mst_words.specs.Records.{row, known_row, field}
 use Rattle.mst_words.specs.Steps.{PinsNow}
 use Rattle.mst_words.specs.Stored.{Contents, contents_after, rows_in, root_in, StandsOn, stored}
 use Rattle.mst_words.specs.Access.{content_of}
@@ -41,15 +41,15 @@ in_list x (y ∷ ys) within =
 
 -- a pinned pass may read the rows that stand for its version
 reads_stood : (v : View) (r x : ℕ) → v.pin ≡ Some r → In x v.pinned_rows → x < v.rows
-    → content_of v x ≡ rows_in (row v.known_words) x
+    → content_of v x ≡ rows_in (known_row v) x
 reads_stood v r x pin within lt =
     ap (λ (b : Bool). if (b && (v.turn || (is_some v.pin && list_any (eqb x) v.pinned_rows)))
-    then rows_in (row v.known_words) x else None) (lt-ltb x v.rows lt)
+    then rows_in (known_row v) x else None) (lt-ltb x v.rows lt)
     ∙ ap (λ (b : Bool). if (v.turn || (b && list_any (eqb x) v.pinned_rows)) then rows_in
-    (row v.known_words) x else None) (ap is_some pin)
-    ∙ ap (λ (b : Bool). if (v.turn || b) then rows_in (row v.known_words) x else None)
+    (known_row v) x else None) (ap is_some pin)
+    ∙ ap (λ (b : Bool). if (v.turn || b) then rows_in (known_row v) x else None)
     (in_list x v.pinned_rows within)
-    ∙ ap (λ (b : Bool). if b then rows_in (row v.known_words) x else None) (or-true v.turn)
+    ∙ ap (λ (b : Bool). if b then rows_in (known_row v) x else None) (or-true v.turn)
 
 abbrev Slot : Type 0
 Slot = Option lives.State
@@ -58,7 +58,8 @@ Slot = Option lives.State
 pub pinned_link : (m m' : Me Slot View) (found which : ℕ)
     (p : PinsNow (stored m.0.format) m found m') → p.cur ≡ which → m.0.rows ≤ 65535
     → field m'.0.known_words which 1 ≤ 65535
-pinned_link m m' found which p is few = let l = link_of_root (row p.words) (field p.words p.cur)
+pinned_link m m' found which p is few = let l =
+    link_of_root (row m.0.rows p.words) (field p.words p.cur)
     (contents_after m.0.format p.log) p.used m.0.rows p.stands p.inside in
     let same : field m'.0.known_words which 1 ≡ field p.words p.cur 1 =
     ap (λ (z : Me Slot View). field z.0.known_words which 1) p.is
@@ -83,10 +84,11 @@ pinned_root m m' found p at few is version link =
       asked = m.0.asked + 1;
     }
 
-    content : AllByRecursion (λ x. content_of w x ≡ rows_in (row p.words) x) (numbers p.stands.0)
-    content = subst (AllByRecursion (λ x. content_of w x ≡ rows_in (row p.words) x))
+    content : AllByRecursion (λ x. content_of w x ≡ rows_in (row m.0.rows p.words) x)
+        (numbers p.stands.0)
+    content = subst (AllByRecursion (λ x. content_of w x ≡ rows_in (row m.0.rows p.words) x))
         (sym p.stands.1)
-        (each (λ x. content_of w x ≡ rows_in (row p.words) x) p.used
+        (each (λ x. content_of w x ≡ rows_in (row m.0.rows p.words) x) p.used
         (λ x within. reads_stood w p.cur x refl within (p.inside x within)))
 
     f : Format
@@ -94,7 +96,8 @@ pinned_root m m' found p at few is version link =
 
     stood : Stands f (content_of w) (root_in (field p.words p.cur)) (after p.log)
     stood =
-        (stands_frame f (rows_in (row p.words)) (content_of w) (root_in (field p.words p.cur))
+        (stands_frame f (rows_in (row m.0.rows p.words)) (content_of w)
+        (root_in (field p.words p.cur))
         (root_in (field p.words p.cur)) (after p.log) p.stands.0 content refl).0
 
     known : at.version ≡ field p.words at.pinned 0 → at.link ≡ field p.words at.pinned 1
@@ -124,9 +127,9 @@ pinned_root m m' found p at few is version link =
 
 -- the holder of the turn may read every row
 pub reads_all : (v : View) (x : ℕ) → v.turn ≡ true → x < v.rows → content_of v x ≡ rows_in
-    (row v.known_words) x
+    (known_row v) x
 reads_all v x on lt =
     ap (λ (b : Bool). if (b && (v.turn || (is_some v.pin && list_any (eqb x) v.pinned_rows)))
-    then rows_in (row v.known_words) x else None) (lt-ltb x v.rows lt)
+    then rows_in (known_row v) x else None) (lt-ltb x v.rows lt)
     ∙ ap (λ (b : Bool). if (b || (is_some v.pin && list_any (eqb x) v.pinned_rows)) then rows_in
-    (row v.known_words) x else None) on
+    (known_row v) x else None) on

@@ -19,10 +19,11 @@ use Rattle.mst_words.specs.Layout.{row_word}
 use Rattle.mst_words.specs.declared.view.View.{View}
 use Rattle.mst_words.specs.declared.view.DeskState.{DeskState}
 use Rattle.mst_words.specs.Access.{content_of}
-use Rattle.mst_words.specs.Records.{row, field, Standing, Agrees}
+use Rattle.mst_words.specs.Records.{row, known_row, field, Standing, Agrees}
 use Rattle.mst_words.specs.Steps.{IsReady, IsGiving}
 use Rattle.mst_words.specs.Stored.{AgedOn, stored, desk_state, rows_in, root_in, format_number, version_of}
 use Rattle.mst_words.proofs.Framed.{aged_frame, same_row}
+use Rattle.mst_words.proofs.Places.{place_above}
 use Rattle.mst_versions.specs.declared.turn.Turn.{Turn}
 use Rattle.mst_versions.specs.Turns.{SeatState, HoldsDesk, HasMade}
 use Rattle.mst_versions.specs.Filing.{OthersKept}
@@ -61,12 +62,14 @@ module _ {A : Type 0} (t : Turn A) (root : Root) (format : Format) (e : Event) (
       inside (slice_get t.desk.lives x) (next t.desk) r in
       let b = slice_get_within t.desk.lives x l.0 l.1 in let n = holds.rows_is in omega arith
 
-  same_content : AllByRecursion (λ x. rows_in (row held) x ≡ content_of m.0 x) (numbers made.stands)
-  same_content = each (λ x. rows_in (row held) x ≡ content_of m.0 x) (numbers made.stands)
+  same_content : AllByRecursion (λ x. rows_in (row m.0.rows held) x ≡ content_of m.0 x)
+      (numbers made.stands)
+  same_content = each (λ x. rows_in (row m.0.rows held) x ≡ content_of m.0 x) (numbers made.stands)
       (λ x within.
-      same_row (row m.0.known_words) (row held) x
-      (λ k lt. kept.others (row_word x k) (λ j l is. let i = holds.into_in in let f =
-      holds.few in omega arith)) ∙ sym (reads_all m.0 x holds.holder.0 (within_rows x within)))
+      same_row (known_row m.0) (row m.0.rows held) x
+      (λ k lt. kept.others (row_word m.0.rows x k) (λ j l is. let i = holds.into_in in let f =
+      holds.few in let a = place_above m.0.rows x k in omega (arith, i, f, a, l, is)))
+      ∙ sym (reads_all m.0 x holds.holder.0 (within_rows x within)))
 
   numbered : length (m.0.seen ++ e ∷ []) ≡ version t.desk + 1
   numbered = length_more m.0.seen e ∙ ap (λ (n : ℕ). n + 1) (sym holds.version_is)
@@ -74,18 +77,19 @@ module _ {A : Type 0} (t : Turn A) (root : Root) (format : Format) (e : Event) (
   -- the words mean this, in each format that is that of the version
   abbrev aged_in : Format → Type 0
   aged_in f =
-      (s : Stands f (rows_in (row held)) (root_in (field held t.into)) (after (m.0.seen ++ e ∷ [])))
+      (s : Stands f (rows_in (row m.0.rows held)) (root_in (field held t.into))
+      (after (m.0.seen ++ e ∷ [])))
       × (numbers s ≡ numbers made.stands) × (field held t.into 6 ≡ format_number f)
       × HasAges m.0.format t.desk.lives (m.0.seen ++ e ∷ []) s.tree.placed
 
   aged_leaves : aged_in leaves
   aged_leaves = subst aged_in made.format_is
-      (let moved = aged_frame m.0.format format (content_of m.0) (rows_in (row held)) root
+      (let moved = aged_frame m.0.format format (content_of m.0) (rows_in (row m.0.rows held)) root
       (root_in (field held t.into)) (m.0.seen ++ e ∷ []) t.desk.lives t.desk.lives made.stands
       same_content spelt (λ x v _ _. refl) made.aged in
       (moved.0, moved.1, numbered_format, moved.2))
 
-  aged : AgedOn m.0.format (row held) (field held t.into) state (m.0.seen ++ e ∷ [])
+  aged : AgedOn m.0.format (row m.0.rows held) (field held t.into) state (m.0.seen ++ e ∷ [])
       (numbers made.stands)
   aged = let a = aged_leaves in ((a.0, a.1, a.2), a.3)
 
