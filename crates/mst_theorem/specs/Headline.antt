@@ -244,4 +244,4 @@ pub record Holds (z : Shape) (s : Table) (a : IsRuled z s) (store : StoreId)
   pub one : IsOneOrder store run a.parts.log order
   pub tells : Tells z s a.parts.log
   pub stays : (v : View) (r i : ℕ) → HasTurn s v → IsLive a.parts.cur s.views r
-      → IsWordOf r (a.parts.used r) i → IsWritable (stored z.format) v i → ⊥
+      → IsWordOf z.rows r (a.parts.used r) i → IsWritable (stored z.format) v i → ⊥
