@@ -1,21 +1,25 @@
-"""The record of which texts the wrong bodies of each crate were tried on.
+"""The record of which wrong bodies were tried, and on which text.
 
-tests/wrong_bodies.tsv has a line for each crate: its name, how many were refused, with which kit,
-and a hash of what the verdicts depend on: the crate's own text and wrong bodies, and of each crate
-below what others can cite: its code without the bodies of functions, its definitions, and what its
-lemmas state. Comments count for nothing."""
+tests/wrong_bodies.tsv has a line for each: its crate, its name, with which kit it was refused, and
+a hash of what its verdict depends on. That is its own text; the functions whose goals judge it,
+with their answers; of its crate and of each crate below what others can cite: code without the
+bodies of functions, definitions, and what lemmas state. If it changes a definition or a clause, or
+nothing says what judges it, it is the whole text of its crate. Comments count for nothing."""
 import contextlib
 import fcntl
+import functools
 import glob
 import hashlib
 import os
 import subprocess
 
 from kit import ROOT
-from wrong_bodies.sources import functions_of, read
+from wrong_bodies.edits import Edit, paths_of
+from wrong_bodies.sources import Sources, functions_of, read
 
 RECORD = "tests/wrong_bodies.tsv"
-HEAD = "crate\trefused\tkit\thash"
+HEAD = "crate\twrong body\tkit\thash"
+OPENED = {"abbrev", "unfoldable", "data", "record", "use", "mod", "syntax"}
 
 
 def files(folder, part, ending):
@@ -36,37 +40,43 @@ def without_bodies(text):
     return "\n".join(lines)
 
 
-def stated(text):
-    """What lemmas state: a text in antt without the equations of what cannot be unfolded."""
+def without_hidden(text):
+    """Code without what crates above cannot name: a module's own functions and its imports."""
+    lines = text.split("\n")
+    for it in functions_of("", text):
+        first = it.first
+        if not lines[first].startswith((" ", "pub ")):
+            while first and lines[first - 1].startswith(("#[", "//")):
+                first -= 1
+            lines[first : it.end + 1] = [""] * (it.end + 1 - first)
+    return "\n".join(it for it in lines if not it.startswith("use "))
+
+
+def stated(text, is_own):
+    """What lemmas state, only those that other crates see unless it is their own: a text in antt
+    without the equations of what cannot be unfolded."""
     kept, opened, is_kept = [], set(), True
     for line in text.split("\n"):
         if line and not line[0].isspace() and line[0] not in "})|":
             name = line.split()[-1] if line.startswith("mod ") else line.split()[0]
             words = line.split(" : ")[0].split()
-            if {"abbrev", "unfoldable", "data", "record", "use", "mod", "syntax"} & {*words}:
+            if OPENED & {*words}:
                 opened.add(words[-1])
                 is_kept = True
             else:
-                is_kept = " : " in line.split(" = ")[0] or name in opened
+                is_seen = is_own or words[0] in ("pub", "module", "mutual")
+                is_kept = is_seen and " : " in line.split(" = ")[0] or name in opened
         if is_kept:
             kept.append(line)
     return "\n".join(kept)
 
 
-def edits_of(crate):
-    """A crate's wrong bodies by their names, wherever they stand."""
-    found = [
-        it for part in ("must-fail", "wrong-bodies") for it in files(crate.folder, part, "edit")
-    ]
-    return sorted(found, key=os.path.basename)
-
-
 def own_text(crate):
-    """What a crate's verdicts depend on of its own."""
+    """The whole text of a crate: its code, its definitions and its proofs."""
     parts = [bare(read(it), "//") for it in files(crate.folder, "src", "rt")]
     for part in ("specs", "proofs"):
         parts += [bare(read(it), "--") for it in files(crate.folder, part, "antt")]
-    return parts + [bare(read(it), "#") for it in edits_of(crate)]
+    return parts
 
 
 def lemma_files(folder):
@@ -75,21 +85,54 @@ def lemma_files(folder):
     return [it for it in files(folder, "proofs", "antt") if not it.endswith(answers)]
 
 
-def shown_text(crate):
-    """What crates above can cite of a crate."""
-    parts = [bare(without_bodies(read(it)), "//") for it in files(crate.folder, "src", "rt")]
+def shown_text(crate, is_own):
+    """What a crate's own proofs, or those of crates above, can cite of a crate."""
+    parts = []
+    for file in files(crate.folder, "src", "rt"):
+        text = read(file) if is_own else without_hidden(read(file))
+        parts.append(bare(without_bodies(text), "//"))
     parts += [bare(read(it), "--") for it in files(crate.folder, "specs", "antt")]
-    return parts + [bare(stated(read(it)), "--") for it in lemma_files(crate.folder)]
+    return parts + [bare(stated(read(it), is_own), "--") for it in lemma_files(crate.folder)]
 
 
-def hash_of(crate):
-    """The hash of all that the verdicts on a crate's wrong bodies depend on."""
-    made = hashlib.sha256("\0".join(own_text(crate)).encode())
-    for below in sorted(crate.below(), key=lambda it: it.name):
-        made.update("\0".join([below.name, *shown_text(below)]).encode())
-    return made.hexdigest()[:32]
+@functools.lru_cache(maxsize=None)
+def shown(crate, is_own=False):
+    """A hash of what a crate's own proofs, or those of crates above, can cite of a crate."""
+    return hash_of([crate.name, *shown_text(crate, is_own)])
 
 
+def hash_of(parts):
+    return hashlib.sha256("\0".join(parts).encode()).hexdigest()[:16]
+
+
+def judged_by(edit, sources):
+    """The functions that judge a wrong body, with those that share a proof with them: their texts
+    and answers."""
+    keys = {it.key() for it in edit.judges}
+    judges = [it for it in sources.functions if it.key() in keys]
+    return [bare(sources.text_of(it), "//") for it in judges] + [
+        bare(sources.proofs_of(it), "--") for it in judges
+    ]
+
+
+def hashes(crate):
+    """The hash of what the verdict on each wrong body of a crate depends on, by its name."""
+    sources, whole = Sources(crate.folder), None
+    below = [shown(it) for it in sorted(crate.below(), key=lambda it: it.name)]
+    below.append(shown(crate, True))
+    found = {}
+    for path in paths_of(crate):
+        edit = Edit(path, sources)
+        if edit.changes or edit.why or edit.is_alone():
+            whole = whole or own_text(crate)
+            parts = whole
+        else:
+            parts = judged_by(edit, sources)
+        found[edit.name] = hash_of([read(path), *parts, *below])
+    return found
+
+
+@functools.lru_cache(maxsize=None)
 def kit():
     """The version of the kit, without what follows its name."""
     ran = subprocess.run(["rt", "version"], capture_output=True, text=True, check=True)
@@ -97,17 +140,20 @@ def kit():
 
 
 def lines():
-    """The lines of the record, by crate."""
+    """The lines of the record: of each wrong body, by its crate and its name, the kit and the
+    hash."""
     path = f"{ROOT}/{RECORD}"
     if not os.path.exists(path):
         return {}
     rows = [it.split("\t") for it in read(path).rstrip("\n").split("\n")[1:]]
-    return {row[0]: row for row in rows}
+    return {(row[0], row[1]): row[2:] for row in rows}
 
 
 def write(rows):
-    with open(f"{ROOT}/{RECORD}", "w", encoding="utf-8") as file:
-        file.write("\n".join([HEAD, *("\t".join(rows[it]) for it in sorted(rows))]) + "\n")
+    text = "\n".join([HEAD, *("\t".join([*it, *rows[it]]) for it in sorted(rows))]) + "\n"
+    with open(f"{ROOT}/{RECORD}.new", "w", encoding="utf-8") as file:
+        file.write(text)
+    os.replace(f"{ROOT}/{RECORD}.new", f"{ROOT}/{RECORD}")
 
 
 @contextlib.contextmanager
@@ -118,30 +164,50 @@ def locked():
         yield
 
 
-def note(crate, refused):
-    """Notes that this many wrong bodies, all that the crate has, were refused."""
-    row = [crate.name, str(refused), kit(), hash_of(crate)]
-    with locked():
-        write({**lines(), crate.name: row})
+def untried(crate):
+    """The hash of each wrong body of a crate that the record has not, or on another text."""
+    rows = lines()
+    return {
+        name: made for name, made in hashes(crate).items()
+        if rows.get((crate.name, name), [""])[-1] != made
+    }
 
 
-def strike(crate):
-    """Takes a crate's line out of the record."""
+def note(crate, name, made):
+    """Notes that a wrong body was refused, by the hash of what its verdict depends on."""
     with locked():
-        write({name: row for name, row in lines().items() if name != crate.name})
+        write({**lines(), (crate.name, name): [kit(), made]})
+
+
+def tidy(crate):
+    """Takes those lines of a crate out of the record that are of another text than stands here,
+    where it may just have changed."""
+    shown.cache_clear()
+    now = hashes(crate)
+    with locked():
+        kept = {
+            it: row for it, row in lines().items()
+            if it[0] != crate.name or now.get(it[1]) == row[-1]
+        }
+        write(kept)
 
 
 def faults(crates):
-    """What is wrong with the record of these crates, which have wrong bodies, and the crates that
-    have no line in it."""
-    rows, found, untried = lines(), [], []
+    """What is wrong with the record of these crates, which have wrong bodies, a line each, and the
+    number of wrong bodies that were tried on the text that stands here."""
+    rows, found, tried = lines(), [], 0
     for crate in crates:
-        count = len(edits_of(crate))
-        row = rows.pop(crate.name, None)
-        if row is None:
-            untried.append(crate.name)
-        elif row[1] != str(count):
-            found.append(f"{crate.name}: {row[1]} of its {count} wrong bodies were tried")
-        elif row[3] != hash_of(crate):
-            found.append(f"{crate.name}: its wrong bodies were tried on another text")
-    return found + [f"{it}: the record names no such crate" for it in rows], untried
+        now = hashes(crate)
+        old = {name: row for (of, name), row in rows.items() if of == crate.name}
+        lacking = sorted(now.keys() - old.keys())
+        other = sorted(it for it in now.keys() & old.keys() if old[it][-1] != now[it])
+        gone = sorted(old.keys() - now.keys())
+        tried += len(now) - len(lacking) - len(other)
+        for what, names in (
+            ("not tried", lacking), ("tried on another text", other), ("there are no more", gone),
+        ):
+            if names:
+                some = ", ".join(names[:3]) + (", .." if len(names) > 3 else "")
+                found.append(f"{crate.name}: {len(names)} {what}: {some}")
+    strangers = sorted({of for of, _ in rows} - {it.name for it in crates})
+    return found + [f"{it}: the record names no such crate" for it in strangers], tried

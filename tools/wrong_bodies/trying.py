@@ -9,7 +9,7 @@ from concurrent.futures import FIRST_COMPLETED, ProcessPoolExecutor, wait
 from multiprocessing import get_context
 
 from kit import kept_work, rt, seconds
-from wrong_bodies.edits import Edit, paths_of
+from wrong_bodies.edits import Edit
 from wrong_bodies.rounds import rounds_of
 from wrong_bodies.sources import Sources, read
 from wrong_bodies.verdicts import PLACE, FUNCTION, Said, told, verdict
@@ -157,10 +157,10 @@ class Trial:
         found = {numbers[edit]: tried for edit, tried in found.items()}
         return found, [[numbers[it] for it in part] for part in again if part], used
 
-    def run(self, show, lanes=1):
-        """Tries all wrong bodies of the crate, so many rounds side by side. `show` gets each with
+    def run(self, paths, show, lanes=1):
+        """Tries these wrong bodies of the crate, so many rounds side by side. `show` gets each with
         what was found of it."""
-        self.edits = [Edit(it, self.sources) for it in paths_of(self.crate)]
+        self.edits = [Edit(it, self.sources) for it in paths]
         for edit in self.edits:
             if any(self.name_of(it) is None for it in edit.judges):
                 edit.judges = []
