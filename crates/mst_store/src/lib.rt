@@ -16,7 +16,8 @@
 //!
 //! One pass at a time writes. Meanwhile [`Pass::try_put`] and [`Pass::try_remove`] of another pass
 //! return [`Busy`](WriteFault::Busy), and its [`Pass::put`] and [`Pass::remove`] wait and may never
-//! return. [`Pass::try_apply`] and [`Pass::apply`] make many edits in one turn, as one version.
+//! return. [`Pass::try_apply`] and [`Pass::apply`] make many edits in one turn, as one version;
+//! [`Pass::prepare`] makes them, and leaves open whether they are published.
 //!
 //! What all passes saw and did is one history; after [`meet`] or [`settle`] passes have seen the
 //! same part of it. `specs/Passes.antt` has the definitions that the contracts cite.

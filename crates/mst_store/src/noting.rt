@@ -1,5 +1,5 @@
-//! Whether a pass has seen as many events as a version number tells. The number goes with a message:
-//! one history is the same to all passes up to it (`note_laws` of `mst_theorem`).
+//! Whether a pass has seen as many events as a version number tells. The number goes with a
+//! message: up to it the history is the same to all passes (`note_laws` of `mst_theorem`).
 ghost use Rattle.std.specs.Prelude.{◌≡◌, ◌≤◌, ◌+◌, ◌↔◌, true, length};
 ghost use Rattle.mst_store.specs.Passes.{Looks};
 
@@ -7,8 +7,12 @@ use crate::pass::Pass;
 use std::alloc::Allocator;
 
 impl<'a, A: Allocator + Copy> Pass<'a, A> {
-    /// Looks, and says whether the pass has then seen as many events as a number tells, which may
-    /// be the version that another pass told of.
+    /// Looks, and says whether the pass has then seen as many events as the number tells, which may
+    /// be what another pass had of [`Pass::made`] or [`Pass::version`], and sent with a message.
+    ///
+    /// If so, this pass has seen all that the other had seen or written then, and no later call of
+    /// it answers as of before that. So the number alone makes reads and writes of several threads
+    /// causally consistent: read your writes, monotonic reads, writes follow reads.
     pub fn has_seen(&mut self, version: u64) -> bool
         ensures looks { Looks self.old self.new }
         ensures exact { result ≡ true ↔ version ≤ length self.new.seen }

@@ -113,7 +113,8 @@ after_stays fault change p q r = after_missed r.tries p q
 migration_stays : (fault : MigrateFault) (to : Format) (p q : Known)
     → RefusesMigration fault to p q → Stays p q
 migration_stays migrate.Busy to p q r = refuses_stays write.Busy (Migrate to) p q r
-migration_stays migrate.VersionsSpent to p q r = refuses_stays write.VersionsSpent (Migrate to) p q r
+migration_stays migrate.VersionsSpent to p q r =
+    refuses_stays write.VersionsSpent (Migrate to) p q r
 migration_stays (migrate.Memory why) to p q r = looks_stays p q r.0
 migration_stays migrate.NoRoom to p q r = refuses_stays write.NoRoom (Migrate to) p q r.0
 

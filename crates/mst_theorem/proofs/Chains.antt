@@ -80,7 +80,8 @@ first_goes p c cs q h = subst (λ (z : Known). Goes c.operation z c.new) h.0
 
 pub leads_later : (p : Known) (cs : List Call) (q : Known) → Leads p cs q
     → IsPrefix p.seen q.seen
-leads_later p [] q h = subst (λ (z : Known). IsPrefix p.seen z.seen) (sym h) (IsPrefix-itself p.seen)
+leads_later p [] q h = subst (λ (z : Known). IsPrefix p.seen z.seen) (sym h)
+    (IsPrefix-itself p.seen)
 leads_later p (c ∷ cs) q h = IsPrefix-chain p.seen c.new.seen q.seen
     (goes_later c.operation p c.new (first_goes p c cs q h)) (leads_later c.new cs q h.2)
 

@@ -1,4 +1,5 @@
--- Calls that are listed in the order of the steps at which they take effect see no less and no less.
+-- Calls that are listed in the order of the steps at which they take effect see no less and no
+-- less.
 use Rattle.std.proofs.Common.{◌≡◌, ◌+◌, ◌<◌, ◌≤◌, Bool, inl, List, [], ◌∷◌, ◌++◌, length, filter, ap, ◌∙◌, arith, length-append}
 use Rattle.std.specs.List.{AllByRecursion}
 use Rattle.mst_key.specs.History.{History}

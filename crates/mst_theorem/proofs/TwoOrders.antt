@@ -1,5 +1,5 @@
--- Two calls of two passes stand in one of two orders. So a get beside a put of its key finds nothing
--- or what was put.
+-- Two calls of two passes stand in one of two orders. So a get beside a put of its key finds
+-- nothing or what was put.
 use Rattle.std.proofs.Common.{◌≡◌, ◌⊎◌, ◌≢◌, ℕ, suc, ◌==◌, List, [], ◌∷◌, length, inl, inr, refl, sym, ap, ◌∙◌, subst, arith, eq-eqb, ne_eqb, Option, Some, None, Result, Ok, Err}
 use mathlib.Core.Logic.{dite}
 use native.Mathlib.Decide.{ℕ_discrete}
@@ -13,10 +13,12 @@ use Rattle.mst_theorem.proofs.Filters.{take_in, leave_out}
 abbrev AreCalls : List Call → List Call → Type 0
 AreCalls order run = (n : ℕ) → calls_of n order ≡ calls_of n run
 
-mine : (c : Call) (cs : List Call) (n : ℕ) → c.old.number ≡ n → calls_of n (c ∷ cs) ≡ c ∷ calls_of n cs
+mine : (c : Call) (cs : List Call) (n : ℕ) → c.old.number ≡ n
+    → calls_of n (c ∷ cs) ≡ c ∷ calls_of n cs
 mine c cs n is = take_in (λ (d : Call). d.old.number == n) c cs (eq-eqb c.old.number n is)
 
-others : (c : Call) (cs : List Call) (n : ℕ) → c.old.number ≢ n → calls_of n (c ∷ cs) ≡ calls_of n cs
+others : (c : Call) (cs : List Call) (n : ℕ) → c.old.number ≢ n
+    → calls_of n (c ∷ cs) ≡ calls_of n cs
 others c cs n not = leave_out (λ (d : Call). d.old.number == n) c cs (ne_eqb c.old.number n not)
 
 some_none : (c : Call) (cs : List Call) → c ∷ cs ≡ [] → ⊥

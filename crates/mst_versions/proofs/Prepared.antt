@@ -129,7 +129,8 @@ module _ {A : Type 0} (number : ℕ) (edits : List Edit) (p : Preparation A) (s 
       let n = z.me.0 in
       ap (λ (x : StoreId). known_of x number n.seen n.mine n.asked n.missed n.found (Some v))
       (store_is s z same.0 added.free.4 added.free.5 added.free.6)
-      ∙ ap (λ (x : History). known_of (store_of s) number x n.mine n.asked n.missed n.found (Some v))
+      ∙ ap (λ (x : History). known_of (store_of s) number x n.mine n.asked n.missed n.found
+      (Some v))
       added.seen
       ∙ ap (λ (x : History). known_of (store_of s) number (m.seen ++ batch_of number edits ∷ []) x
       n.asked n.missed n.found (Some v)) added.mine
