@@ -24,9 +24,18 @@ static const char *of_proof(int32_t told) {
     }
 }
 
+/* Whether a call returns this number of a proof of a sharded map. S4 and S9 test a part of it, and
+ * tell the part's test, P1 to P10. */
+static int is_of_sharded_proof(int32_t told) {
+    if (told > -100 || told <= -1000)
+        return 0;
+    int32_t test = MST_SHARDED_TEST(told), part = MST_PART_TEST(told);
+    return test == 4 || test == 9 ? part >= 1 && part <= 10 : part == 0;
+}
+
 /* The tests of a proof of a sharded map, by their hundreds. */
 static const char *of_sharded_proof(int32_t told) {
-    switch (told <= -100 && told > -1000 ? MST_SHARDED_TEST(told) : 0) {
+    switch (is_of_sharded_proof(told) ? MST_SHARDED_TEST(told) : 0) {
     case 1: return "the proof fails S1: its first byte is not the format's";
     case 2: return "the proof fails S2: it is cut short";
     case 3: return "the proof fails S3: the lower bound is no key";
