@@ -33,9 +33,9 @@ enum Storing {
 }
 
 impl<A: Allocator + Copy> Board<A> {
-    // How many rows the table has.
+    /// How many rows the table has.
     #[inline(always)]
-    fn row_count(&self) -> u32
+    pub(crate) fn row_count(&self) -> u32
         ensures wide { self.now.words ≡ table_words result }
     {
         self.rows
@@ -86,6 +86,31 @@ impl<A: Allocator + Copy> Board<A> {
         self.load(seat, link * 4 + k + (FIRST_ROW - 5))
     }
 
+    // The words of a row from one on, in a table of so many rows: a load for each.
+    #[inline(always)]
+    fn words_of<const N: usize>(
+        &self,
+        seat: &mut Token<A>,
+        rows: u32,
+        row: u32,
+        from: usize,
+    ) -> [u64; N]
+        requires own { IsAt self.now seat.old.table_id seat.old.me.0.rows }
+        requires wide { self.now.words ≡ table_words rows }
+        requires readable { may_read seat.old.me.0 row ≡ true }
+        requires there { from + N ≤ row_words }
+        ensures words { result
+            ≡ map (records.known_row seat.old.me.0 row) (range_with_len from N) }
+        ensures same { (seat.new.table_id ≡ seat.old.table_id) × (seat.new.id ≡ seat.old.id)
+            × (seat.new.me ≡ seat.old.me) }
+    {
+        let mut words = [0; N];
+        for k in 0..N {
+            words[k] = self.word_of(seat, rows, row, from + k);
+        }
+        words
+    }
+
     /// The words of a row from one on: a load for each.
     pub(crate) fn words<const N: usize>(
         &self,
@@ -102,11 +127,7 @@ impl<A: Allocator + Copy> Board<A> {
             × (seat.new.me ≡ seat.old.me) }
     {
         let rows = self.row_count();
-        let mut words = [0; N];
-        for k in 0..N {
-            words[k] = self.word_of(seat, rows, row, from + k);
-        }
-        words
+        self.words_of::<N>(seat, rows, row, from)
     }
 
     /// The links of an entry: two loads.
@@ -126,10 +147,12 @@ impl<A: Allocator + Copy> Board<A> {
         }
     }
 
-    // The words of an entry's key. Behind a key of 16 bytes they are 0, and not loaded.
+    // The words of an entry's key, in a table of so many rows. Behind a key of 16 bytes they are 0,
+    // and not loaded.
     #[inline(always)]
-    fn key_words(&self, seat: &mut Token<A>, row: u32, lengths: u64) -> [u64; 4]
+    fn key_words(&self, seat: &mut Token<A>, rows: u32, row: u32, lengths: u64) -> [u64; 4]
         requires own { IsAt self.now seat.old.table_id seat.old.me.0.rows }
+        requires wide { self.now.words ≡ table_words rows }
         requires there { IsSome (part_at keyed_links (content_of seat.old.me.0) row) }
         requires lengths { lengths ≡ records.known_row seat.old.me.0 row lengths_word }
         ensures words { result
@@ -138,17 +161,25 @@ impl<A: Allocator + Copy> Board<A> {
             × (seat.new.me ≡ seat.old.me) }
     {
         if lengths % 256 == 16 {
-            let [a, b] = self.words::<2>(seat, row, FIRST_KEY_WORD);
+            let [a, b] = self.words_of::<2>(seat, rows, row, FIRST_KEY_WORD);
             [a, b, 0, 0]
         } else {
-            self.words::<4>(seat, row, FIRST_KEY_WORD)
+            self.words_of::<4>(seat, rows, row, FIRST_KEY_WORD)
         }
     }
 
-    /// The words of an entry's value. Behind a value of 32 bytes they are 0, and not loaded.
+    /// The words of an entry's value, in a table of so many rows. Behind a value of 32 bytes they
+    /// are 0, and not loaded.
     #[inline(always)]
-    pub(crate) fn value_words(&self, seat: &mut Token<A>, row: u32, lengths: u64) -> [u64; 8]
+    pub(crate) fn value_words(
+        &self,
+        seat: &mut Token<A>,
+        rows: u32,
+        row: u32,
+        lengths: u64,
+    ) -> [u64; 8]
         requires own { IsAt self.now seat.old.table_id seat.old.me.0.rows }
+        requires wide { self.now.words ≡ table_words rows }
         requires there { IsSome (part_at entry_value (content_of seat.old.me.0) row) }
         requires lengths { lengths ≡ records.known_row seat.old.me.0 row lengths_word }
         ensures words { result
@@ -157,25 +188,32 @@ impl<A: Allocator + Copy> Board<A> {
             × (seat.new.me ≡ seat.old.me) }
     {
         if lengths / 256 == 32 {
-            let [a, b, c, d] = self.words::<4>(seat, row, FIRST_VALUE_WORD);
+            let [a, b, c, d] = self.words_of::<4>(seat, rows, row, FIRST_VALUE_WORD);
             [a, b, c, d, 0, 0, 0, 0]
         } else {
-            self.words::<8>(seat, row, FIRST_VALUE_WORD)
+            self.words_of::<8>(seat, rows, row, FIRST_VALUE_WORD)
         }
     }
 
-    /// The pair of an entry of these lengths.
+    /// The pair of an entry of these lengths, in a table of so many rows.
     #[inline(always)]
-    pub(crate) fn pair_by(&self, seat: &mut Token<A>, row: u32, lengths: u64) -> (Key, Value)
+    pub(crate) fn pair_by(
+        &self,
+        seat: &mut Token<A>,
+        rows: u32,
+        row: u32,
+        lengths: u64,
+    ) -> (Key, Value)
         requires own { IsAt self.now seat.old.table_id seat.old.me.0.rows }
+        requires wide { self.now.words ≡ table_words rows }
         requires there { IsSome (part_at keyed_links (content_of seat.old.me.0) row) }
         requires lengths { lengths ≡ records.known_row seat.old.me.0 row lengths_word }
         ensures pair { part_at entry_pair (content_of seat.old.me.0) row ≡ Some result }
         ensures same { (seat.new.table_id ≡ seat.old.table_id) × (seat.new.id ≡ seat.old.id)
             × (seat.new.me ≡ seat.old.me) }
     {
-        let key = self.key_words(seat, row, lengths);
-        let value = self.value_words(seat, row, lengths);
+        let key = self.key_words(seat, rows, row, lengths);
+        let value = self.value_words(seat, rows, row, lengths);
         match Row::read_pair(lengths, &key, &value) {
             Some(pair) => pair,
             None => unreachable!(),
@@ -192,11 +230,12 @@ impl<A: Allocator + Copy> Board<A> {
         ensures same { (seat.new.table_id ≡ seat.old.table_id) × (seat.new.id ≡ seat.old.id)
             × (seat.new.me ≡ seat.old.me) }
     {
+        let rows = self.row_count();
         let lengths = self.word(seat, row, LENGTHS_WORD);
         if lengths == COMMON_LENGTHS {
-            self.pair_by(seat, row, COMMON_LENGTHS)
+            self.pair_by(seat, rows, row, COMMON_LENGTHS)
         } else {
-            self.pair_by(seat, row, lengths)
+            self.pair_by(seat, rows, row, lengths)
         }
     }
 
@@ -218,11 +257,12 @@ impl<A: Allocator + Copy> Board<A> {
         ensures same { (seat.new.table_id ≡ seat.old.table_id) × (seat.new.id ≡ seat.old.id)
             × (seat.new.me ≡ seat.old.me) }
     {
+        let rows = self.row_count();
         let lengths = self.word(seat, row, LENGTHS_WORD);
         if lengths == COMMON_LENGTHS {
-            list.push_reserved(self.pair_by(seat, row, COMMON_LENGTHS));
+            list.push_reserved(self.pair_by(seat, rows, row, COMMON_LENGTHS));
         } else {
-            list.push_reserved(self.pair_by(seat, row, lengths));
+            list.push_reserved(self.pair_by(seat, rows, row, lengths));
         }
     }
 

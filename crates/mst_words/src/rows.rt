@@ -165,7 +165,8 @@ impl<'a, A: Allocator + Copy> Rows for PassSeat<'a, A> {
     #[inline(always)]
     fn value(&mut self, row: u32) -> Value {
         let lengths = self.word(row, LENGTHS_WORD);
-        let words = self.board.value_words(&mut self.token, row, lengths);
+        let rows = self.board.row_count();
+        let words = self.board.value_words(&mut self.token, rows, row, lengths);
         match Row::read_value(lengths, &words) {
             Some(value) => value,
             None => unreachable!(),

@@ -106,7 +106,8 @@ impl<A: Allocator + Copy> Board<A> {
             × (seat.new.me ≡ seat.old.me) }
     {
         if format == Format::One && self.word(seat, row, LENGTHS_WORD) == COMMON_LENGTHS {
-            let (key, value) = self.pair_by(seat, row, COMMON_LENGTHS);
+            let rows = self.row_count();
+            let (key, value) = self.pair_by(seat, rows, row, COMMON_LENGTHS);
             if take_common(sink, format, child, key.bytes(), value.bytes()) {
                 return;
             }

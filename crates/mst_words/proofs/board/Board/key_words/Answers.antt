@@ -8,7 +8,7 @@ pub returns-then-lengths-eq16-clause-words : goal.returns-then-lengths-eq16-clau
 returns-then-lengths-eq16-clause-words g c =
     let v : View = c.args.seat.now.me.0 in
     let f : ℕ → ℕ = records.known_row v c.args.row in
-    let two : c.words.result ≡ f 4 ∷ f 5 ∷ [] = c.words.ensures.words in
-    key_four f c.words.result two
+    let two : c.words_of.result ≡ f 4 ∷ f 5 ∷ [] = c.words_of.ensures.words in
+    key_four f c.words_of.result two
     ((key_of v c.args.row c.requires.there).ends
     (omega (arith, c.requires.lengths, c.if-lengths-eq16.true)))

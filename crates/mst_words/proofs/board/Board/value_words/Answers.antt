@@ -8,7 +8,7 @@ pub returns-then-lengths-eq32-clause-words : goal.returns-then-lengths-eq32-clau
 returns-then-lengths-eq32-clause-words g c =
     let v : View = c.args.seat.now.me.0 in
     let f : ℕ → ℕ = records.known_row v c.args.row in
-    let four : c.words.result ≡ f 8 ∷ f 9 ∷ f 10 ∷ f 11 ∷ [] = c.words.ensures.words in
-    value_words f c.words.result four
+    let four : c.words_of.result ≡ f 8 ∷ f 9 ∷ f 10 ∷ f 11 ∷ [] = c.words_of.ensures.words in
+    value_words f c.words_of.result four
     ((value_of v c.args.row c.requires.there).ends
     (omega (arith, c.requires.lengths, c.if-lengths-eq32.true)))

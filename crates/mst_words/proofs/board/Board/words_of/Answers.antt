@@ -2,7 +2,7 @@ use Rattle.std.proofs.Common.{arith}
 use Rattle.std.proofs.lemmas.Grind.{common_steps}
 use Rattle.mst_words.specs.Records as records
 use Rattle.mst_words.proofs.Accesses.{fill_from}
-use Rattle.mst_words.proofs.board.Board.words.Goals as goal
+use Rattle.mst_words.proofs.board.Board.words_of.Goals as goal
 
 pub returns-clause-words : goal.returns-clause-words
 returns-clause-words g c = fill_from (records.known_row c.args.seat.now.me.0 c.args.row)

@@ -1,6 +1,6 @@
 use Rattle.std.proofs.Common.{◌≡◌, ◌+◌, ◌<◌, ℕ, length, get_or}
 use Rattle.mst_words.specs.Records as records
-use Rattle.mst_words.proofs.board.Board.words.Given as goal
+use Rattle.mst_words.proofs.board.Board.words_of.Given as goal
 
 abbrev pub invariant-loop-k : goal.invariant-loop-k
 invariant-loop-k g l =
