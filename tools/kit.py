@@ -24,6 +24,9 @@ def load_rt():
 
 
 rt = load_rt()
+# some versions of the kit let the clones of a machine share what their checks kept
+if hasattr(rt, "share_work"):
+    rt.share_work(is_alone=False)
 ROOT = subprocess.run(
     ["git", "rev-parse", "--show-toplevel"], capture_output=True, text=True, check=True
 ).stdout.strip()
