@@ -1,5 +1,5 @@
--- What each call leaves of its pass, by what its contract says.
-use Rattle.std.proofs.Common.{◌≡◌, ◌⊎◌, ℕ, List, [], ◌∷◌, ◌++◌, refl, sym, ap, ◌∙◌, subst, ⊎_elim}
+-- What each call leaves of its pass follows from what its contract says.
+use Rattle.std.proofs.Common.{◌≡◌, ◌⊎◌, ℕ, ◌+◌, List, [], ◌∷◌, ◌++◌, refl, sym, ap, ◌∙◌, subst, ⊎_elim, arith}
 use Rattle.mst_key.specs.declared.format.Format.{Format}
 use Rattle.mst_key.specs.declared.history.Change.{Change}
 use Rattle.mst_key.specs.declared.history.Change.TheVariants.{Put, Remove, Migrate, Batch}
@@ -8,6 +8,7 @@ use Rattle.mst_key.specs.declared.history.Event.{Event}
 use Rattle.mst_key.specs.Map.{Pair, map_get, map_next, map_range}
 use Rattle.mst_key.specs.History.{History, Reply, after, format_after, reply, events_of, IsPrefix}
 use Rattle.mst_key.proofs.HistoryLaws.{IsPrefix-itself}
+use Rattle.mst_words.proofs.Histories.{events_own}
 use Rattle.mst_node.specs.Text as text
 use Rattle.mst_node.specs.Trail.{proof_text}
 use Rattle.mst_versions.specs.declared.faults.WriteFault.{WriteFault}
@@ -18,34 +19,13 @@ use Rattle.mst_versions.specs.declared.faults.MigrateFault.{MigrateFault}
 use Rattle.mst_versions.specs.declared.faults.MigrateFault.TheVariants as migrate
 use Rattle.mst_versions.specs.Migrating.{RefusesMigration}
 use Rattle.mst_versions.specs.Applying.{RefusesBatch}
+use Rattle.mst_versions.specs.Writes.{rows_of}
 use Rattle.mst_store.specs.declared.faults.ChangeFault.{ChangeFault}
 use Rattle.mst_store.specs.declared.faults.BatchFault.{BatchFault}
 use Rattle.mst_store.specs.Passes.{Known, having_asked, having_missed, made_by, format_seen, Looks, FindsBusy, Answers, Wrote, Refuses}
 use Rattle.mst_store.specs.Waiting.{WroteAfter, RefusesAfter, RefusesBatchAfter, as_tried, as_tried_batch}
-use Rattle.mst_theorem.specs.Headline.{Reading, Operation, got, came_next, ranged, told_format, told_root, proved, told_version, counted, refused, silent, wrote, read, left_by, IsTold, Reads, IsRefused, IsRefusedMore, Hears, IsSilent, Says, IsUnderWay, IsHonest}
-
--- nothing was added to the history
-pub record Stays (p q : Known) : Type 0 where
-  pub store : q.store ≡ p.store
-  pub number : q.number ≡ p.number
-  pub later : IsPrefix p.seen q.seen
-  pub mine : q.mine ≡ p.mine
-  pub own : events_of p.number p.seen ≡ p.mine → events_of q.number q.seen ≡ q.mine
-
--- an event was added to a history that the pass saw then
-pub record Adds (e : Event) (answered : Reply) (p q : Known) : Type 0 where
-  pub log : History
-  pub store : q.store ≡ p.store
-  pub number : q.number ≡ p.number
-  pub later : IsPrefix p.seen log
-  pub seen : q.seen ≡ log ++ e ∷ []
-  pub mine : q.mine ≡ p.mine ++ e ∷ []
-  pub own : events_of q.number q.seen ≡ q.mine
-  pub answer : answered ≡ reply p.store.format log e
-
-abbrev pub Goes : Operation → Known → Known → Type 0
-Goes (wrote change answered) p q = Adds (made_by p change) answered p q
-Goes (read reading) p q = Stays p q × IsTold (left_by q.store.format q.seen) reading
+use Rattle.mst_theorem.specs.Headline.{Reading, Operation, got, came_next, ranged, told_format, told_root, proved, told_version, has_seen, counted, refused, silent, wrote, read, left_by, IsTold, Stays, Adds, IsHonest}
+use Rattle.mst_theorem.specs.Contracts.{Reads, IsRefused, IsRefusedMore, Hears, IsSilent, Says, IsPublished, ByContract}
 
 looks_stays : (p q : Known) → Looks p q → Stays p q
 looks_stays p q l = record {
@@ -178,6 +158,10 @@ reads question p found q r = ⊎_elim
       b.1 ∙ ap (λ (z : Known). question (format_seen z) (after z.seen)) (sym b.0),
     )) r
 
+-- the rows of the map are those that are not free
+same_left : (free rows held all : ℕ) → free + rows ≡ all → free + held ≡ all → rows ≡ held
+same_left free rows held all a b = omega (arith, a, b)
+
 says : (reading : Reading) (p q : Known) → Says reading p q
     → Stays p q × IsTold (left_by q.store.format q.seen) reading
 says (got k found) p q h = reads (λ _ m. map_get m k) p found q h
@@ -188,7 +172,13 @@ says (told_root digest) p q h = reads text.root p digest q h
 says (proved k proof) p q h = reads (λ f m. proof_text f m k) p proof q h
 says (told_version number) p q h =
     (⊎_elim (λ (x : Looks p q). looks_stays p q x) (λ (x : q ≡ p). same_stays p q x) h.0, h.1)
-says (counted rows) p q h = (looks_stays p q h.0, h.1)
+says (has_seen number answer) p q h = (looks_stays p q h.0, h.1)
+says (counted rows) p q h = let held : ℕ = rows_of (format_seen q) (after q.seen) in (
+  looks_stays p q h.0,
+  ⊎_elim (λ (x : rows ≡ held). x)
+      (λ (x : (free : ℕ) × (free + rows ≡ q.store.rows) × (free + held ≡ q.store.rows)).
+      same_left x.0 rows held q.store.rows x.1 x.2) h.1,
+)
 says (refused change) p q h = (refused_stays change p q h, tt)
 says silent p q h = (silent_stays p q h, tt)
 
@@ -201,7 +191,7 @@ wrote_adds e p answered q w = record {
   later = w.later;
   seen = w.seen;
   mine = w.mine;
-  own = w.own;
+  own = λ _. w.own;
   answer = w.answer;
 }
 
@@ -214,28 +204,33 @@ after_adds e p answered q t = let w = t.wrote in record {
   later = w.later;
   seen = w.seen;
   mine = w.mine;
-  own = w.own;
+  own = λ _. w.own;
   answer = w.answer;
 }
 
-under_way_adds : (e : Event) (p : Known) (answered : Reply) (q : Known)
-    → IsUnderWay e p answered q → Adds e answered p q
-under_way_adds e p answered q u = subst (λ (z : Known). Adds e answered p z) (sym u.now) record {
-  log = u.log;
-  store = refl;
-  number = refl;
-  later = u.later;
-  seen = refl;
-  mine = refl;
-  own = u.own;
-  answer = u.answer;
-}
+published_adds : (change : Change) (p : Known) (answered : Reply) (q : Known)
+    → IsPublished change p answered q → Adds (made_by p change) answered p q
+published_adds (Put k v) p answered q h = absurd h
+published_adds (Remove k) p answered q h = absurd h
+published_adds (Migrate to) p answered q h = absurd h
+published_adds (Batch es) p answered q h = let e : Event = made_by p (Batch es) in
+    subst (λ (z : Known). Adds e answered p z) (sym h.0) record {
+      log = p.seen;
+      store = refl;
+      number = refl;
+      later = IsPrefix-itself p.seen;
+      seen = refl;
+      mine = refl;
+      own =
+          λ o. events_own p.number p.seen e refl ∙ ap (λ (l : History). l ++ e ∷ []) o;
+      answer = h.1;
+    }
 
--- so each call goes as its contract says
-pub goes : (o : Operation) (p q : Known) → IsHonest o p q → Goes o p q
-goes (wrote change answered) p q h = let e : Event = made_by p change in ⊎_elim
+-- so each call is as its contract says
+pub by_contract : (o : Operation) (p q : Known) → ByContract o p q → IsHonest o p q
+by_contract (wrote change answered) p q h = let e : Event = made_by p change in ⊎_elim
     (λ (w : Wrote e p answered q). wrote_adds e p answered q w)
-    (λ (y : WroteAfter e p answered q ⊎ IsUnderWay e p answered q). ⊎_elim
+    (λ (y : WroteAfter e p answered q ⊎ IsPublished change p answered q). ⊎_elim
     (λ (w : WroteAfter e p answered q). after_adds e p answered q w)
-    (λ (w : IsUnderWay e p answered q). under_way_adds e p answered q w) y) h
-goes (read reading) p q h = says reading p q h
+    (λ (w : IsPublished change p answered q). published_adds change p answered q w) y) h
+by_contract (read reading) p q h = says reading p q h

@@ -10,10 +10,9 @@ use Rattle.mst_key.specs.History.{History, Reply, events_of, IsPrefix}
 use Rattle.mst_key.proofs.HistoryLaws.{IsPrefix-itself, IsPrefix-chain, events_of-append}
 use Rattle.mst_words.proofs.Histories.{events_own}
 use Rattle.mst_store.specs.Passes.{StoreId, Known, made_by, new_pass}
-use Rattle.mst_theorem.specs.Headline.{Operation, wrote, read, Call, Leads, rank, reach, NeverFalls}
+use Rattle.mst_theorem.specs.Headline.{Operation, wrote, read, Call, Stays, Adds, IsHonest, Leads, rank, reach, NeverFalls}
 use Rattle.mst_theorem.proofs.Filters.{weaker, take_in, leave_out}
 use Rattle.mst_theorem.proofs.Spread.{of_rank, none_of_rank}
-use Rattle.mst_theorem.proofs.Calls.{Stays, Adds, Goes, goes}
 
 -- the pass n of the store, whose events in what it has seen are its own
 pub record IsOwn (store : StoreId) (n : ℕ) (p : Known) : Type 0 where
@@ -38,10 +37,11 @@ own_adds : (store : StoreId) (n : ℕ) (e : Event) (answered : Reply) (p q : Kno
 own_adds store n e answered p q a w = record {
   store_is = a.store ∙ w.store_is;
   number_is = a.number ∙ w.number_is;
-  own = subst (λ (k : ℕ). events_of k q.seen ≡ q.mine) (a.number ∙ w.number_is) a.own;
+  own = subst (λ (k : ℕ). events_of k q.seen ≡ q.mine) (a.number ∙ w.number_is)
+      (a.own (subst (λ (k : ℕ). events_of k p.seen ≡ p.mine) (sym w.number_is) w.own));
 }
 
-pub own_goes : (store : StoreId) (n : ℕ) (o : Operation) (p q : Known) → Goes o p q
+pub own_goes : (store : StoreId) (n : ℕ) (o : Operation) (p q : Known) → IsHonest o p q
     → IsOwn store n p → IsOwn store n q
 own_goes store n (wrote change answered) p q g w =
     own_adds store n (made_by p change) answered p q g w
@@ -53,13 +53,13 @@ pub shorter : (g h : History) → IsPrefix g h → length g ≤ length h
 shorter g h b = let long : length h ≡ length g + length b.0 = ap length b.1 ∙ length-append g b.0 in
     omega (arith, long)
 
-pub goes_later : (o : Operation) (p q : Known) → Goes o p q → IsPrefix p.seen q.seen
+pub goes_later : (o : Operation) (p q : Known) → IsHonest o p q → IsPrefix p.seen q.seen
 goes_later (wrote change answered) p q g =
     IsPrefix-chain p.seen g.log q.seen g.later (made_by p change ∷ [], g.seen)
 goes_later (read reading) p q g = g.0.later
 
 -- a write has seen one event more, and any other call at least as much
-goes_further : (o : Operation) (p q : Known) → Goes o p q
+goes_further : (o : Operation) (p q : Known) → IsHonest o p q
     → length p.seen + length p.seen < reach o (length q.seen)
 goes_further (wrote change answered) p q g = let before = shorter p.seen g.log g.later in
     let long : length q.seen ≡ length g.log + 1 =
@@ -74,9 +74,9 @@ reach_top (read reading) n = omega arith
 
 -- the first call of a chain goes from where the chain begins
 first_goes : (p : Known) (c : Call) (cs : List Call) (q : Known) → Leads p (c ∷ cs) q
-    → Goes c.operation p c.new
-first_goes p c cs q h = subst (λ (z : Known). Goes c.operation z c.new) h.0
-    (goes c.operation c.old c.new h.1)
+    → IsHonest c.operation p c.new
+first_goes p c cs q h = subst (λ (z : Known). IsHonest c.operation z c.new) h.0
+    h.1
 
 pub leads_later : (p : Known) (cs : List Call) (q : Known) → Leads p cs q
     → IsPrefix p.seen q.seen
@@ -113,7 +113,7 @@ leads_rises p (c ∷ cs) q h = let top = reach_top c.operation (length c.new.see
 
 -- a call that began when its pass had seen as many events as another's pass when that one ended has
 -- seen as far as that one
-pub heard_after : (o : Operation) (p q : Known) → Goes o p q → (a : Call)
+pub heard_after : (o : Operation) (p q : Known) → IsHonest o p q → (a : Call)
     → length a.new.seen ≤ length p.seen → rank a ≤ reach o (length q.seen)
 heard_after o p q g a heard = let far = goes_further o p q g in
     let top = reach_top a.operation (length a.new.seen) in omega (arith, heard, far, top)
@@ -183,7 +183,7 @@ none_between n g m mine high low = append_cancel_left (events_of n g) (events_of
 
 -- one call, before others
 step : (store : StoreId) (n : ℕ) (o : Operation) (c : Call) (cs : List Call) (g h : History)
-    → c.operation ≡ o → Goes o c.old c.new → IsOwn store n c.old → c.old.seen ≡ g
+    → c.operation ≡ o → IsHonest o c.old c.new → IsOwn store n c.old → c.old.seen ≡ g
     → AllByRecursion (λ d. length c.new.seen + length c.new.seen < rank d) cs
     → (more : IsPrefix c.new.seen (g ++ h)) → EachOwn n c.new.seen more.0 cs
     → EachOwn n g h (c ∷ cs)
@@ -252,7 +252,7 @@ each_own store n [] g h p q leads own seen begins all =
     (ap (events_of n) (sym seen) ∙ own.own))
 each_own store n (c ∷ cs) g h p q leads own seen begins all =
     let old : IsOwn store n c.old = subst (λ (z : Known). IsOwn store n z) (sym leads.0) own in
-    let went : Goes c.operation c.old c.new = goes c.operation c.old c.new leads.1 in
+    let went : IsHonest c.operation c.old c.new = leads.1 in
     let new : IsOwn store n c.new = own_goes store n c.operation c.old c.new went old in
     let more : IsPrefix c.new.seen (g ++ h) =
     IsPrefix-chain c.new.seen q.seen (g ++ h) (leads_later c.new cs q leads.2) begins in

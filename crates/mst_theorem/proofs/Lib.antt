@@ -9,4 +9,5 @@ mod Times
 mod Notes
 mod TwoCalls
 mod Points
+mod Within
 mod TwoOrders

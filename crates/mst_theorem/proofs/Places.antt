@@ -8,10 +8,9 @@ use Rattle.mst_key.specs.declared.history.Event.{Event}
 use Rattle.mst_key.specs.History.{History, Reply, reply, IsPrefix}
 use Rattle.mst_key.proofs.HistoryLaws.{IsPrefix-chain}
 use Rattle.mst_store.specs.Passes.{StoreId, Known, made_by}
-use Rattle.mst_theorem.specs.Headline.{Reading, Operation, wrote, read, IsTold, left_by, Call, Leads, calls_of, reach, rank}
+use Rattle.mst_theorem.specs.Headline.{Reading, Operation, wrote, read, IsTold, left_by, Call, IsHonest, Leads, calls_of, reach, rank}
 use Rattle.mst_theorem.proofs.Filters.{weaker, take_in, leave_out, filter_swap, passes, all_pass}
 use Rattle.mst_theorem.proofs.Spread.{of_rank}
-use Rattle.mst_theorem.proofs.Calls.{Goes, goes}
 use Rattle.mst_theorem.proofs.Chains.{IsOwn, own_goes, leads_later, EachOwn}
 
 -- the call of the pass n, which had then seen this, was answered as the history there says
@@ -25,7 +24,7 @@ pub record Placed (first : Format) (log : History) (c : Call) : Type 0 where
   pub begins : IsPrefix c.new.seen log
   pub stands : StandsBy first c.operation c.old.number c.new.seen
 
-goes_stands : (first : Format) (o : Operation) (p q : Known) → Goes o p q
+goes_stands : (first : Format) (o : Operation) (p q : Known) → IsHonest o p q
     → p.store.format ≡ first → StandsBy first o p.number q.seen
 goes_stands first (wrote change answered) p q g is = (
   g.log,
@@ -42,7 +41,7 @@ pub leads_placed : (store : StoreId) (n : ℕ) (log : History) (p : Known) (cs :
 leads_placed store n log p [] q leads own begins = tt
 leads_placed store n log p (c ∷ cs) q leads own begins =
     let old : IsOwn store n c.old = subst (λ (z : Known). IsOwn store n z) (sym leads.0) own in
-    let went : Goes c.operation c.old c.new = goes c.operation c.old c.new leads.1 in
+    let went : IsHonest c.operation c.old c.new = leads.1 in
     let new : IsOwn store n c.new = own_goes store n c.operation c.old c.new went old in (
       record {
         begins =

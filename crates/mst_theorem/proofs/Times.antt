@@ -1,5 +1,5 @@
 -- The history only grows from step to step, and a pin and a write find the whole of it.
-use Rattle.std.proofs.Common.{◌≡◌, ◌⊎◌, ℕ, ◌+◌, ◌*◌, List, [], ◌∷◌, length, get_or, inl, inr, refl, sym, ap, ◌∙◌, subst, ⊎_elim, arith, Option, Some}
+use Rattle.std.proofs.Common.{◌≡◌, ◌⊎◌, ℕ, ◌+◌, ◌*◌, true, List, [], ◌∷◌, length, get_or, inl, inr, refl, sym, ap, ◌∙◌, subst, ⊎_elim, arith, Option, Some}
 use Rattle.std.proofs.lemmas.List.{get_or-set_other}
 use Rattle.atomic_table.specs.Table.{Me}
 use Rattle.atomic_table.proofs.Lists.{set_here}
@@ -15,7 +15,7 @@ use Rattle.mst_words.specs.declared.view.Shape.{Shape}
 use Rattle.mst_words.specs.Layout.{record_word}
 use Rattle.mst_words.specs.Records.{field}
 use Rattle.mst_words.specs.World.{SeatAt}
-use Rattle.mst_words.specs.Deeds.{Deed, pinning}
+use Rattle.mst_words.specs.Deeds.{Deed, pinning, trying}
 use Rattle.mst_words.specs.Laws.{Table, IsRuled, HaveSeen, IsPublication}
 use Rattle.mst_words.specs.Moves.{moves_of, Does, MakesCurrent, ChangesSeats, GoesBy}
 use Rattle.mst_words.proofs.Ruling.{one_history}
@@ -24,11 +24,11 @@ use Rattle.mst_words.proofs.Deeds.{publication_grows, other_keeps}
 use Rattle.mst_words.proofs.Moves.{current_by}
 use Rattle.mst_theorem.specs.Time.{GoesOn}
 
-abbrev Mine : Type 0
+abbrev pub Mine : Type 0
 Mine = Me (Option lives.State) View
 
 -- the history of a table is one, whichever proof that it is ruled names it
-same_log : (z : Shape) (s t : Table) (a : IsRuled z s) (b : IsRuled z t) → t ≡ s
+pub same_log : (z : Shape) (s t : Table) (a : IsRuled z s) (b : IsRuled z t) → t ≡ s
     → b.parts.log ≡ a.parts.log
 same_log z s t a b is = one_history z.rows z.passes z.format a.parts.next b.parts.next a.parts.log
     b.parts.log s.views t.views a.parts.world b.parts.world a.seen.whole b.seen.whole forth back
@@ -120,6 +120,19 @@ pin_whole z s t a b d = sym (IsPrefix-length v.pinned_history a.parts.log begins
 pub write_whole : (z : Shape) (s t : Table) (a : IsRuled z s) (b : IsRuled z t) (e : Event)
     (p : IsPublication e s t) → p.made.before.0.seen ≡ a.parts.log
 write_whole z s t a b e p = (a.parts.turn.holder p.made.id p.made.before.0 p.made.at p.on).2
+
+-- and so has who takes it
+pub turn_whole : (z : Shape) (s t : Table) (a : IsRuled z s) (b : IsRuled z t) (d : Does trying s t)
+    → d.makes.after.0.turn ≡ true → d.makes.after.0.seen ≡ a.parts.log
+turn_whole z s t a b d on = (b.parts.turn.holder d.makes.id v at on).2
+    ∙ other_keeps z s t a b (inl (trying, d.makes))
+  where
+    v : View
+    v = d.makes.after.0
+
+    at : SeatAt t.views d.makes.id v
+    at = subst (λ (l : List View). SeatAt l d.makes.id v) (sym d.makes.views)
+        (set_here s.views d.makes.id v (within s.views d.makes.id d.makes.before.0 d.makes.at))
 
 pub pin_seen : (z : Shape) (s t u : Table) (a : IsRuled z s) (b : IsRuled z t) (c : IsRuled z u)
     (i : ℕ) (v : View) (steps : List Table) (d : Does pinning t u) → SeatAt s.views i v

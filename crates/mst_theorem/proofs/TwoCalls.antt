@@ -10,9 +10,9 @@ use Rattle.mst_words.specs.Notes.{IsOfPasses}
 use Rattle.mst_versions.specs.declared.faults.WriteFault.{WriteFault}
 use Rattle.mst_store.specs.Passes.{StoreId, Known, Answers, Wrote, Refuses, made_by, new_pass}
 use Rattle.mst_store.specs.Settling.{Met}
-use Rattle.mst_theorem.specs.Headline.{Call, IsHonest, Leads, calls_of, IsRun, IsHistoryOf, IsOneOrder, IsServed, left_by, read, got}
+use Rattle.mst_theorem.specs.Headline.{Call, IsHonest, Leads, calls_of, IsRun, IsHistoryOf, IsOneOrder, IsServed, left_by, wrote, read, got, refused}
 use Rattle.mst_theorem.specs.Shown.{HaveOneOrder, put_was}
-use Rattle.mst_theorem.proofs.Calls.{goes}
+use Rattle.mst_theorem.proofs.Calls.{by_contract}
 use Rattle.mst_theorem.proofs.Chains.{IsOwn, own_new, own_goes}
 use Rattle.mst_theorem.proofs.TwoOrders.{two_orders, finds_put, finds_none}
 use Rattle.mst_theorem.proofs.Whole.{one_order}
@@ -20,8 +20,9 @@ use Rattle.mst_theorem.proofs.Whole.{one_order}
 put_honest : (p q : Known) (k v : List ℕ) (r : Result (Option (List ℕ)) WriteFault)
     → IfOk r (λ old. Wrote (made_by p (Put k v)) p (had old) q)
     → IfErr r (λ fault. Refuses fault (Put k v) p q) → IsHonest (put_was k v r) p q
-put_honest p q k v (Ok old) ok err = inl ok
-put_honest p q k v (Err fault) ok err = inl (fault, err)
+put_honest p q k v (Ok old) ok err = by_contract (wrote (Put k v) (had old)) p q (inl ok)
+put_honest p q k v (Err fault) ok err = by_contract (read (refused (Put k v))) p q
+    (inl (fault, err))
 
 pub two_calls : (store : StoreId) (p q p' q' : Known) (k v : List ℕ)
     (r : Result (Option (List ℕ)) WriteFault) (found : Option (List ℕ)) → store.passes ≡ 2
@@ -57,15 +58,15 @@ two_calls store p q p' q' k v r found two ok err answers met = (
     put = put_honest (new_pass store 1) p k v r ok err
 
     get : IsHonest (read (got k found)) (new_pass store 2) q
-    get = inl answers
+    get = by_contract (read (got k found)) (new_pass store 2) q (inl answers)
 
     one : IsOwn store 1 p
     one = own_goes store 1 (put_was k v r) (new_pass store 1) p
-        (goes (put_was k v r) (new_pass store 1) p put) (own_new store 1)
+        put (own_new store 1)
 
     other : IsOwn store 2 q
     other = own_goes store 2 (read (got k found)) (new_pass store 2) q
-        (goes (read (got k found)) (new_pass store 2) q get) (own_new store 2)
+        get (own_new store 2)
 
     -- each pass is the first or the second
     each : (P : ℕ → Type 0) → P 1 → P 2 → (n : ℕ) → 0 < n → n ≤ store.passes → P n

@@ -131,17 +131,29 @@ settled_order run now free held free' held' w t r are = one_order w.store run no
 
 -- ---- any moment
 
+-- what a pass at the table has seen begins the history, in which its events are its own
+pub sits_begins : (z : Shape) (s : Table) (a : IsRuled z s) (p : Known) → Sits s p
+    → IsPrefix p.seen a.parts.log
+sits_begins z s a p t = let f = a.parts.world.fits t.id t.view t.at in ⊎_elim
+    (λ (x : IsPrefix p.seen t.view.seen). IsPrefix-chain p.seen t.view.seen a.parts.log x f.seen)
+    (λ (x : (r : ℕ) × (t.view.pin ≡ Some r) × IsPrefix p.seen t.view.pinned_history).
+    IsPrefix-chain p.seen t.view.pinned_history a.parts.log x.2 (f.pinned x.0 x.1).0) t.seen
+
+pub sits_own : (z : Shape) (s : Table) (a : IsRuled z s) (p : Known) → Sits s p
+    → events_of p.number a.parts.log ≡ p.mine
+sits_own z s a p t = ap (λ (k : ℕ). events_of k a.parts.log) (sym t.number)
+    ∙ (a.parts.world.fits t.id t.view t.at).own ∙ t.mine
+
 pub moment_order : (z : Shape) (s : Table) (a : IsRuled z s) (store : StoreId) (run : List Call)
     (now : ℕ → Known) → HasShape z store → IsRun store run now
     → ((n : ℕ) → 0 < n → n ≤ store.passes → Sits s (now n))
     → (order : List Call) × IsOneOrder store run a.parts.log order
 moment_order z s a store run now shape r sits = one_order store run now log r record {
-  later = λ n low high. begins (sits n low high);
-  own = λ n low high. let t = sits n low high in
+  later = λ n low high. sits_begins z s a (now n) (sits n low high);
+  own = λ n low high.
       let is : (now n).number ≡ n = (leads_own store n (new_pass store n) (calls_of n run) (now n)
       (r.leads n low high) (own_new store n)).number_is in
-      ap (λ (k : ℕ). events_of k log) (sym (t.number ∙ is))
-      ∙ (a.parts.world.fits t.id t.view t.at).own ∙ t.mine;
+      ap (λ (k : ℕ). events_of k log) (sym is) ∙ sits_own z s a (now n) (sits n low high);
   alone = All-weaker (λ (e : Event). (0 < e.pass) × (e.pass < a.parts.next))
       (λ (e : Event). (0 < e.pass) × (e.pass ≤ store.passes))
       (λ e x. let few = a.parts.world.few in let same = shape.1 in let low = x.0 in
@@ -150,12 +162,6 @@ moment_order z s a store run now shape r sits = one_order store run now log r re
   where
     log : History
     log = a.parts.log
-
-    begins : {p : Known} → Sits s p → IsPrefix p.seen log
-    begins {p} t = let f = a.parts.world.fits t.id t.view t.at in ⊎_elim
-        (λ (x : IsPrefix p.seen t.view.seen). IsPrefix-chain p.seen t.view.seen log x f.seen)
-        (λ (x : (r : ℕ) × (t.view.pin ≡ Some r) × IsPrefix p.seen t.view.pinned_history).
-        IsPrefix-chain p.seen t.view.pinned_history log x.2 (f.pinned x.0 x.1).0) t.seen
 
 pub moment_holds : (z : Shape) (s : Table) (a : IsRuled z s) (store : StoreId) (run : List Call)
     (now : ℕ → Known) → HasShape z store → IsRun store run now

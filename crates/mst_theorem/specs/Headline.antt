@@ -1,11 +1,12 @@
 -- The theorem of a store as one statement: its calls have one order in which the one-thread map
 -- gives the answers that they got (sequential consistency: Lamport 1979). Where a pass had seen,
 -- when its call began, what another call had seen, the order has the other call first.
-use Rattle.std.specs.Prelude.{◌≡◌, ◌⊎◌, ℕ, ◌+◌, ◌<◌, ◌≤◌, ◌==◌, Bool, List, [], ◌∷◌, ◌++◌, length, map, filter, All, Option, Some}
+-- `specs/Contracts.antt` says which operation each call of a pass is, and which answers the map
+-- does not judge.
+use Rattle.std.specs.Prelude.{◌≡◌, ◌⊎◌, ◌↔◌, ℕ, ◌+◌, ◌<◌, ◌≤◌, ◌==◌, Bool, true, List, [], ◌∷◌, ◌++◌, length, map, filter, All, Option, Some}
 use Rattle.std.specs.List.{AllByRecursion}
 use Rattle.mst_key.specs.declared.format.Format.{Format}
 use Rattle.mst_key.specs.declared.history.Change.{Change}
-use Rattle.mst_key.specs.declared.history.Change.TheVariants.{Put, Remove, Migrate, Batch}
 use Rattle.mst_key.specs.declared.history.Event.{Event}
 use Rattle.mst_key.specs.Map.{Pair, map_get, map_next, map_range}
 use Rattle.mst_key.specs.History.{History, Reply, after, format_after, changed, changed_format, reply, reply_of, events_of, IsPrefix}
@@ -19,17 +20,8 @@ use Rattle.mst_words.specs.Steps.{IsWritable}
 use Rattle.mst_words.specs.Stored.{stored}
 use Rattle.mst_words.specs.Notes.{IsOfPasses}
 use Rattle.mst_words.specs.World.{SeatAt}
-use Rattle.mst_versions.specs.declared.faults.WriteFault.{WriteFault}
-use Rattle.mst_versions.specs.declared.faults.ApplyFault.{ApplyFault}
-use Rattle.mst_versions.specs.declared.faults.MigrateFault.{MigrateFault}
-use Rattle.mst_versions.specs.Migrating.{RefusesMigration}
-use Rattle.mst_versions.specs.Applying.{RefusesBatch}
 use Rattle.mst_versions.specs.Writes.{rows_of}
-use Rattle.mst_store.specs.declared.faults.ChangeFault.{ChangeFault}
-use Rattle.mst_store.specs.declared.faults.BatchFault.{BatchFault}
-use Rattle.mst_store.specs.Passes.{StoreId, Known, format_seen, having_asked, made_by, new_pass, Looks, FindsBusy, Answers, Wrote, Refuses}
-use Rattle.mst_store.specs.Waiting.{WroteAfter, RefusesAfter, RefusesBatchAfter}
-use Rattle.mst_store.specs.Settling.{having_seen}
+use Rattle.mst_store.specs.Passes.{StoreId, Known, made_by, new_pass}
 
 -- ---- the one-thread map
 
@@ -53,6 +45,7 @@ pub data Reading : Type 0 where
   told_root : (digest : List ℕ) → Reading
   proved : (key proof : List ℕ) → Reading
   told_version : (number : ℕ) → Reading
+  has_seen : (number : ℕ) (answer : Bool) → Reading
   counted : (rows : ℕ) → Reading
   refused : (change : Change) → Reading
   silent : Reading
@@ -71,6 +64,7 @@ IsTold s (told_format found) = found ≡ s.format
 IsTold s (told_root digest) = digest ≡ text.root s.format s.pairs
 IsTold s (proved k proof) = proof ≡ proof_text s.format s.pairs k
 IsTold s (told_version number) = number ≡ s.changes
+IsTold s (has_seen number answer) = (answer ≡ true) ↔ (number ≤ s.changes)
 IsTold s (counted rows) = rows ≡ rows_of s.format s.pairs
 IsTold s (refused change) = Unit {0}
 IsTold s silent = Unit {0}
@@ -95,68 +89,39 @@ IsServed s (o ∷ os) t = IsAnswered s o × IsServed (then_is o s) os t
 
 -- ---- the calls of passes
 
--- a completed call of a pass, and what was known of the pass before and after it
+-- A call of a pass with its answer, and what was known of the pass before and after it. A write
+-- that is published and has not returned yet is one too
 pub record Call : Type 0 where
   pub operation : Operation
   pub old : Known
   pub new : Known
 
--- a read of a pass, or of a pinned one, which sees nothing new
-abbrev pub Reads : {R : Type 0} → (Format → List Pair → R) → Known → R → Known → Type 0
-Reads question p found q = Answers question p found q
-    ⊎ ((q ≡ p) × (found ≡ question (format_seen p) (after p.seen)))
+-- Nothing was added to the history, of which the pass may have seen more. Its events in what it has
+-- seen are its own, if they were
+pub record Stays (p q : Known) : Type 0 where
+  pub store : q.store ≡ p.store
+  pub number : q.number ≡ p.number
+  pub later : IsPrefix p.seen q.seen
+  pub mine : q.mine ≡ p.mine
+  pub own : events_of p.number p.seen ≡ p.mine → events_of q.number q.seen ≡ q.mine
 
--- why a migration or a batch was refused
-abbrev pub IsRefusedMore : Change → Known → Known → Type 0
-IsRefusedMore (Put k v) p q = ⊥
-IsRefusedMore (Remove k) p q = ⊥
-IsRefusedMore (Migrate to) p q = (fault : MigrateFault) × RefusesMigration fault to p q
-IsRefusedMore (Batch es) p q = ((fault : ApplyFault) × RefusesBatch fault es p q)
-    ⊎ ((fault : BatchFault) × RefusesBatchAfter fault es p q)
-
--- a change was refused, by a call that tries once or by one that waits
-abbrev pub IsRefused : Change → Known → Known → Type 0
-IsRefused change p q = ((fault : WriteFault) × Refuses fault change p q)
-    ⊎ (((fault : ChangeFault) × RefusesAfter fault change p q)
-    ⊎ IsRefusedMore change p q)
-
--- the pass has met others, or heard a note
-pub record Hears (p q : Known) : Type 0 where
+-- The pass added the event right after a history that begins with all that it had seen, and was
+-- answered as that history replies
+pub record Adds (e : Event) (answered : Reply) (p q : Known) : Type 0 where
   pub log : History
-  pub now : q ≡ having_seen log p
+  pub store : q.store ≡ p.store
+  pub number : q.number ≡ p.number
   pub later : IsPrefix p.seen log
-  pub own : events_of p.number log ≡ p.mine
-
--- the pass looked or was refused, pinned or unpinned, met others, or was only asked
-abbrev pub IsSilent : Known → Known → Type 0
-IsSilent p q = Looks p q ⊎ (FindsBusy p q ⊎ (Hears p q
-    ⊎ (((n : ℕ) × (q ≡ having_asked n p)) ⊎ (q ≡ p))))
-
-abbrev pub Says : Reading → Known → Known → Type 0
-Says (got k found) p q = Reads (λ _ m. map_get m k) p found q
-Says (came_next bound found) p q = Reads (λ _ m. map_next m bound) p found q
-Says (ranged from to limit found) p q = Reads (λ _ m. map_range m from to limit) p found q
-Says (told_format found) p q = Reads (λ f _. f) p found q
-Says (told_root digest) p q = Reads text.root p digest q
-Says (proved k proof) p q = Reads (λ f m. proof_text f m k) p proof q
-Says (told_version number) p q = (Looks p q ⊎ (q ≡ p)) × (number ≡ length q.seen)
-Says (counted rows) p q = Looks p q × (rows ≡ rows_of (format_seen q) (after q.seen))
-Says (refused change) p q = IsRefused change p q
-Says silent p q = IsSilent p q
-
--- the write is published, and has not returned yet
-pub record IsUnderWay (e : Event) (p : Known) (answered : Reply) (q : Known) : Type 0 where
-  pub log : History
-  pub later : IsPrefix p.seen log
-  pub now : q ≡ record p { seen = log ++ e ∷ []; mine = p.mine ++ e ∷ [] }
-  pub own : events_of p.number (log ++ e ∷ []) ≡ p.mine ++ e ∷ []
+  pub seen : q.seen ≡ log ++ e ∷ []
+  pub mine : q.mine ≡ p.mine ++ e ∷ []
+  pub own : events_of p.number p.seen ≡ p.mine → events_of q.number q.seen ≡ q.mine
   pub answer : answered ≡ reply p.store.format log e
 
--- what the contract of the call says
+-- What the contract of the call says of its pass (`call_laws`): a write was answered as what it
+-- follows on replies, and any other call as what its pass has then seen leaves
 abbrev pub IsHonest : Operation → Known → Known → Type 0
-IsHonest (wrote change answered) p q = Wrote (made_by p change) p answered q
-    ⊎ (WroteAfter (made_by p change) p answered q ⊎ IsUnderWay (made_by p change) p answered q)
-IsHonest (read reading) p q = Says reading p q
+IsHonest (wrote change answered) p q = Adds (made_by p change) answered p q
+IsHonest (read reading) p q = Stays p q × IsTold (left_by q.store.format q.seen) reading
 
 -- from p a pass comes to q by these calls, each as its contract says
 abbrev pub Leads : Known → List Call → Known → Type 0

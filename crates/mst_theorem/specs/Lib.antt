@@ -1,3 +1,4 @@
 pub mod Headline
+pub mod Contracts
 pub mod Time
 pub mod Shown

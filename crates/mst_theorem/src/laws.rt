@@ -1,6 +1,7 @@
-//! The theorem of a store in one statement.
+//! The theorem of a store in one statement, and what it is in real time.
 ghost use Rattle.std.specs.Prelude.{◌≡◌, ◌<◌, ◌≤◌, ◌+◌, ◌++◌, ℕ, Bool, List, [], ◌∷◌, All, filter, length, Some};
-ghost use Rattle.mst_key.specs.History.{History, Reply, IsPrefix};
+ghost use Rattle.mst_key.specs.declared.history.Change.{Change};
+ghost use Rattle.mst_key.specs.History.{History, Reply, events_of, IsPrefix};
 ghost use Rattle.mst_words.specs.declared.view.Shape.{Shape};
 ghost use Rattle.mst_words.specs.declared.view.View.{View};
 ghost use Rattle.mst_words.specs.Deeds.{pinning};
@@ -10,8 +11,15 @@ ghost use Rattle.mst_words.specs.World.{SeatAt};
 ghost use Rattle.mst_key.specs.declared.history.Event.{Event};
 ghost use Rattle.mst_store.specs.Passes.{StoreId, Known, HasShape, Wrote};
 ghost use Rattle.mst_store.specs.Settling.{AreAllPasses, Settled};
-ghost use Rattle.mst_theorem.specs.Headline.{Call, IsHonest, Holds, IsHistoryOf, IsNow, IsOneOrder, IsRun, NeverFalls, Sits, rank};
-ghost use Rattle.mst_theorem.specs.Time.{ByPoints, GoesOn};
+ghost use Rattle.mst_theorem.specs.Headline.{Operation, Call, wrote, IsHonest, Holds, IsHistoryOf, IsNow, IsOneOrder, IsRun, NeverFalls, Sits, rank};
+ghost use Rattle.mst_theorem.specs.Contracts.{ByContract};
+ghost use Rattle.mst_theorem.specs.Time.{ByPoints, GoesOn, HasPoint};
+
+/// Each call of a pass, of a pinned one or of a prepared batch is an operation of the one order:
+/// what its contract says is all that the order asks of it.
+pub fn call_laws()
+    ensures honest { (o : Operation) (p q : Known) → ByContract o p q → IsHonest o p q }
+{}
 
 /// Whatever the passes of one store do, their calls have one order in which the one-thread ordered
 /// map, asked by one thread, gives the answers that they got. It keeps the order of each pass's
@@ -64,8 +72,14 @@ pub fn note_laws()
         → (n : ℕ) → q.made ≡ Some n → n ≤ length r.seen → IsPrefix q.seen r.seen }
 {}
 
-/// Real time, of steps: the history only grows from step to step, and each step that a call takes
-/// its place from finds the whole of it. So it has all that any pass had seen or written before.
+/// Real time, of steps: the history only grows from step to step, and each step at which a call
+/// takes effect finds the whole of it. So it has all that any pass had seen or written before.
+///
+/// By `points` a store is linearizable in runs of atomic steps, pin and publication being the
+/// linearization points. That stands on one premise: the point of a call lies within the call, of a
+/// read of a pinned pass within its pin. Of writes it is proved (`within`). Of reads no contract
+/// says it, but only that they make one step whose answer depends on others (the clauses `once`);
+/// that this step is the pin is the code's, and PROTOCOL says what shows it.
 pub fn time_laws()
     ensures later { (z : Shape) (s t : Table) (a : IsRuled z s) (b : IsRuled z t)
         (steps : List Table) → GoesOn z s steps t → IsPrefix a.parts.log b.parts.log }
@@ -84,10 +98,17 @@ pub fn time_laws()
         (c : IsRuled z u) (i : ℕ) (v : View) (steps : List Table) (e : Event)
         (p : IsPublication e t u) → SeatAt s.views i v → GoesOn z s steps t
         → IsPrefix v.seen p.made.before.0.seen }
-    // So calls that are listed in the order of the steps at which they take effect stand in the one
-    // order as they are listed. Each such step is one of its call: the store is linearizable
+    // so calls that are listed in the order of their points, each a step of its own pass, stand in
+    // the one order as they are listed
     ensures points { (z : Shape) (s : Table) (a : IsRuled z s) (store : StoreId)
         (run order : List Call) (log : History) (chosen : Call → Bool)
-        → IsOneOrder store run log order → ByPoints z s (filter chosen run)
+        → IsOneOrder store run log order → ByPoints z s s (filter chosen run)
         → filter chosen order ≡ filter chosen run }
+    // the point of a write is one of the steps between the table at which its pass begins the call
+    // and the one at which it ends
+    ensures within { (z : Shape) (s t : Table) (a : IsRuled z s) (b : IsRuled z t)
+        (steps : List Table) (c : Call) → IsHonest c.operation c.old c.new
+        → events_of c.old.number c.old.seen ≡ c.old.mine → Sits s c.old → Sits t c.new
+        → GoesOn z s steps t → (change : Change) (answered : Reply)
+        → c.operation ≡ wrote change answered → HasPoint z c s steps t }
 {}

@@ -1,6 +1,9 @@
 //! The theorem at work: what a function ensures of the calls that it makes.
-ghost use Rattle.std.specs.Prelude.{◌≡◌, ◌⊎◌, [], ◌∷◌, Some, None};
-ghost use Rattle.mst_store.specs.Passes.{new_pass};
+ghost use Rattle.std.specs.Prelude.{◌≡◌, ◌⊎◌, [], ◌∷◌, Some, None, IfOk, IfErr};
+ghost use Rattle.mst_key.specs.declared.history.Change.TheVariants.{Put};
+ghost use Rattle.mst_key.specs.History.{had};
+ghost use Rattle.mst_key.specs.Map.{map_get};
+ghost use Rattle.mst_store.specs.Passes.{Answers, Refuses, Wrote, made_by, new_pass};
 ghost use Rattle.mst_theorem.specs.Headline.{got, read};
 ghost use Rattle.mst_theorem.specs.Shown.{HaveOneOrder, put_was};
 
@@ -31,7 +34,24 @@ pub fn put_and_get<'a, A: Allocator + Copy>(
     (put, found)
 }
 
-/// The same at once, in two threads.
+/// The put and the get at once, in two threads.
+fn at_once<'a, R: Threads>(
+    rt: &R,
+    one: &mut Pass<'a, Global>,
+    other: &mut Pass<'a, Global>,
+    key: &Key,
+    value: &Value,
+) -> (Result<Option<Value>, WriteFault>, Option<Value>)
+    ensures ok { IfOk result.0 (λ old. Wrote (made_by one.old (Put key.now value.now)) one.old
+        (had old) one.new) }
+    ensures err { IfErr result.0
+        (λ fault. Refuses fault (Put key.now value.now) one.old one.new) }
+    ensures answers { Answers (λ _ m. map_get m key.now) other.old result.1 other.new }
+{
+    join_mut(rt, &mut || one.try_put(key, value), &mut || other.get(key))
+}
+
+/// The same as [`put_and_get`] at once, in two threads.
 pub fn put_beside_get<'a, R: Threads>(
     rt: &R,
     one: &mut Pass<'a, Global>,
@@ -47,7 +67,7 @@ pub fn put_beside_get<'a, R: Threads>(
     // so the get finds nothing, or what was put
     ensures found { (result.1 ≡ None) ⊎ (result.1 ≡ Some value.now) }
 {
-    let (put, found) = join_mut(rt, &mut || one.try_put(key, value), &mut || other.get(key));
+    let (put, found) = at_once(rt, one, other, key, value);
     meet(one, other);
     (put, found)
 }

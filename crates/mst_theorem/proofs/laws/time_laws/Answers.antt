@@ -1,5 +1,6 @@
 use Rattle.mst_theorem.proofs.Points.{points_kept}
 use Rattle.mst_theorem.proofs.Times.{log_later, pin_whole, write_whole, pin_seen, write_seen}
+use Rattle.mst_theorem.proofs.Within.{write_point}
 use Rattle.mst_theorem.proofs.laws.time_laws.Goals as goal
 
 pub returns-clause-later : goal.returns-clause-later
@@ -19,3 +20,6 @@ returns-clause-followed c = write_seen
 
 pub returns-clause-points : goal.returns-clause-points
 returns-clause-points c = points_kept
+
+pub returns-clause-within : goal.returns-clause-within
+returns-clause-within c = write_point

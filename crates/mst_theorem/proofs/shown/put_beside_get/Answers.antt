@@ -1,4 +1,4 @@
-use Rattle.std.proofs.Common.{IfOk, IfErr, subst, rules}
+use Rattle.std.proofs.Common.{IfOk, IfErr, subst}
 use Rattle.mst_key.specs.declared.history.Change.TheVariants.{Put}
 use Rattle.mst_key.specs.Map.{map_get}
 use Rattle.mst_key.specs.History.{had}
@@ -7,18 +7,15 @@ use Rattle.mst_theorem.proofs.TwoCalls.{two_calls}
 use Rattle.mst_theorem.proofs.shown.put_beside_get.Goals as goal
 
 pub returns : goal.returns
-returns g c = let put = c.join_mut-put.result.0 in let found = c.join_mut-put.result.1 in
-    let p : Known = c.one-1.given.0 in let q : Known = c.other-1.given.0 in
-    let k = c.args.key.now in let v = c.args.value.now in
-    let ok : IfOk put (λ old. Wrote (made_by c.args.one.now (Put k v)) c.args.one.now (had old) p) =
-    search rules in
-    let err : IfErr put (λ fault. Refuses fault (Put k v) c.args.one.now p) = search rules in
-    let answers : Answers (λ _ m. map_get m k) c.args.other.now found q = search rules in let both =
+returns g c = let did = c.at_once.ensures in let put = c.at_once.result.0 in
+    let found = c.at_once.result.1 in let p : Known = c.at_once.new.one in
+    let q : Known = c.at_once.new.other in let k = c.args.key.now in
+    let v = c.args.value.now in let both =
     two_calls c.args.one.now.store p q c.meet.new.one c.meet.new.other k v put found
     c.requires.two
     (subst (λ (z : Known). IfOk put (λ old. Wrote (made_by z (Put k v)) z (had old) p))
-    c.requires.one ok)
+    c.requires.one did.ok)
     (subst (λ (z : Known). IfErr put (λ fault. Refuses fault (Put k v) z p)) c.requires.one
-    err)
-    (subst (λ (z : Known). Answers (λ _ m. map_get m k) z found q) c.requires.other answers)
+    did.err)
+    (subst (λ (z : Known). Answers (λ _ m. map_get m k) z found q) c.requires.other did.answers)
     c.meet.ensures.met in record { order = both.0; found = both.1 }
