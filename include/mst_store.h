@@ -280,6 +280,10 @@ int32_t mst_prove(mst_pass *pass, const uint8_t *key, size_t key_length,
 /*
  * Sets *version to the number of the version, which is the number of writes and migrations before
  * it; a batch is one write. Returns MST_OK or MST_CLOSED.
+ *
+ * Sent with a message, this number, or that of mst_made, is all that read-your-writes over threads
+ * needs: a pass that is not pinned and has here at least the number that it was sent has seen, in
+ * this call and in each later one, all that the sender had written and read.
  */
 int32_t mst_version(mst_pass *pass, uint64_t *version);
 

@@ -214,6 +214,9 @@ public:
     }
 
     // Returns the number of the version: how many writes and migrations there were before it.
+    // Sent with a message, it, or that of made, is all that read-your-writes over threads needs: a
+    // pass that is not pinned, and has here at least the number that it was sent, has seen, in this
+    // call and in each later one, all that the sender had written and read.
     std::uint64_t version() {
         std::uint64_t number = 0;
         require_done(mst_version(at(), &number));

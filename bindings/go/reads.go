@@ -145,6 +145,9 @@ func (r *Reads) Prove(key []byte) (proof []byte, err error) {
 }
 
 // Version returns the number of the version: how many writes and migrations there were before it.
+// Sent with a message, it, or that of Made, is all that read-your-writes over threads needs: a pass
+// that is not pinned, and has here at least the number that it was sent, has seen, in this call and
+// in each later one, all that the sender had written and read.
 func (r *Reads) Version() (version uint64, err error) {
 	s, err := r.take()
 	if err != nil {

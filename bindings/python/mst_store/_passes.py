@@ -173,7 +173,11 @@ class Pass:
                 self._long_room = ctypes.create_string_buffer(length.value)
 
     def version(self) -> int:
-        """Returns the number of the version: the number of writes and migrations before it."""
+        """Returns the number of the version: the number of writes and migrations before it.
+
+        Sent with a message, it, or that of made, is all that read-your-writes over threads needs:
+        a pass that is not pinned, and has here at least the number that it was sent, has seen, in
+        this call and in each later one, all that the sender had written and read."""
         return self._number(_lib.mst_version, ctypes.c_uint64())
 
     def format(self) -> Format:

@@ -207,6 +207,11 @@ pub trait Reads: Held {
     }
 
     /// Returns the number of the version: the number of writes and migrations before it.
+    ///
+    /// Sent with a message, it, or that of [`Pass::made`](crate::Pass::made), is all that
+    /// read-your-writes over threads needs: a pass that is not pinned, and has here at least the
+    /// number that it was sent, has seen, in this call and in each later one, all that the sender
+    /// had written and read.
     fn version(&mut self) -> u64 {
         let mut version = 0;
         // Safety: both pointers are valid.
