@@ -24,17 +24,18 @@ GROUPS = {
     "the core of pins": ("#e3d6ee", 842, 1022, {"mst_pin": (4, 930), "mst_replay": (5, 930)}),
     "the store": ("#c8def2", 414, 826, {
         "mst_words": (6, 706), "mst_versions": (7, 640), "mst_store": (8, 640),
+        "mst_theorem": (9, 638),
     }),
-    "sharded maps": ("#bfe6e2", 366, 560, {"mst_sharded": (9, 462)}),
+    "sharded maps": ("#bfe6e2", 366, 560, {"mst_sharded": (10, 462)}),
     "the store for C": ("#f8d0d0", 20, 330, {
-        "mst_c": (9, 110), "mst_c_sharded": (10, 210), "mst_exports": (11, 210),
+        "mst_c": (10, 110), "mst_c_sharded": (11, 210), "mst_exports": (12, 210),
     }),
     "lines of text": ("#e2e2e2", 1010, 1184, {
         "mst_devices": (0, 1098), "mst_lines": (1, 1098), "mst_requests": (2, 1098),
     }),
     "the program": ("#e6d8cf", 590, 1100, {
-        "mst_load": (9, 800), "mst_script": (9, 1016), "mst_sharded_script": (10, 700),
-        "mst_command": (11, 870), "mst_program": (12, 870), "mst": (13, 870),
+        "mst_load": (10, 800), "mst_script": (10, 1016), "mst_sharded_script": (11, 700),
+        "mst_command": (12, 870), "mst_program": (13, 870), "mst": (14, 870),
     }),
 }
 FOR_C = {"mst_verifier", "mst_c", "mst_c_sharded", "mst_exports"}
@@ -45,13 +46,13 @@ BENT = {
     ("mst_sharded", "mst_sharded_proof"): (401, "mst_sharded_proof"),
 }
 BOX, HIGH, FIRST, APART = 140, 36, 44, 88
-LAYERS = 14
+LAYERS = 15
 # From a crate's box to the edge of its group: where its name stands, and elsewhere.
 NAMED, EDGE = 32, 10
-# Names stand above the crates, but where arrows pass: those that stand below them, beside the
-# highest one, and with more space.
+# Names stand above the crates, but where arrows pass: those that stand below them, and with more
+# space.
 LOW = {"maps and their trees", "the core of pins", "lines of text"}
-BESIDE, HIGHER = "the store", "sharded maps"
+HIGHER = "sharded maps"
 
 
 def width(name):
@@ -106,7 +107,7 @@ def see_that_groups_are_the_pages():
 def edges(name, boxes):
     """Where a group begins and ends from top to bottom."""
     layers = [layer for layer, _ in boxes.values()]
-    above = {BESIDE: EDGE, HIGHER: NAMED + 16}.get(name, EDGE if name in LOW else NAMED)
+    above = {HIGHER: NAMED + 16}.get(name, EDGE if name in LOW else NAMED)
     low = top_of(min(layers)) + HIGH + (NAMED if name in LOW else EDGE)
     return top_of(max(layers)) - above, low
 
@@ -116,9 +117,6 @@ def draw_groups(canvas):
         top, bottom = edges(name, boxes)
         canvas.box(left, top, right - left, bottom - top, None, colour, 10)
         x, y = left + 12, bottom - 11 if name in LOW else top + 21
-        if name == BESIDE:
-            layer, middle = max(boxes.values())
-            x, y = middle + BOX / 2 + 14, top_of(layer) + HIGH / 2 + 6
         canvas.text(x, y, name, 16, bold=True, within=right - x - 8)
 
 
