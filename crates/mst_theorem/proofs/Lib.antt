@@ -8,6 +8,7 @@ mod Whole
 mod Times
 mod Notes
 mod TwoCalls
+mod ToldCalls
 mod Points
 mod Within
 mod TwoOrders

@@ -6,4 +6,4 @@ mod laws;
 mod shown;
 
 pub use laws::{call_laws, headline, note_laws, time_laws};
-pub use shown::{put_and_get, put_beside_get};
+pub use shown::{put_and_get, put_beside_get, put_tell_get};

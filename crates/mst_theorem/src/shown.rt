@@ -1,5 +1,5 @@
 //! The theorem at work: what a function ensures of the calls that it makes.
-ghost use Rattle.std.specs.Prelude.{◌≡◌, ◌⊎◌, [], ◌∷◌, Some, None, IfOk, IfErr};
+ghost use Rattle.std.specs.Prelude.{◌≡◌, ◌⊎◌, true, [], ◌∷◌, Some, None, IfOk, IfErr, IfSome};
 ghost use Rattle.mst_key.specs.declared.history.Change.TheVariants.{Put};
 ghost use Rattle.mst_key.specs.History.{had};
 ghost use Rattle.mst_key.specs.Map.{map_get};
@@ -70,4 +70,37 @@ pub fn put_beside_get<'a, R: Threads>(
     let (put, found) = at_once(rt, one, other, key, value);
     meet(one, other);
     (put, found)
+}
+
+/// The number that goes with a message: the version that a pass made last, or 0 if it made none.
+fn number_to_tell(made: Option<u64>) -> u64
+    ensures some { IfSome made (λ version. result ≡ version) }
+{
+    match made {
+        Some(version) => version,
+        None => 0,
+    }
+}
+
+/// One new pass of a store of two puts, and tells the other the version that it made, as by a
+/// message. Returns whether the other has then seen as many events, and what it gets. If so, it
+/// reads what the first one wrote.
+pub fn put_tell_get<'a, A: Allocator + Copy>(
+    one: &mut Pass<'a, A>,
+    other: &mut Pass<'a, A>,
+    key: &Key,
+    value: &Value,
+) -> (Result<Option<Value>, WriteFault>, bool, Option<Value>)
+    requires one { one.old ≡ new_pass one.old.store 1 }
+    requires other { other.old ≡ new_pass one.old.store 2 }
+    requires two { one.old.store.passes ≡ 2 }
+    ensures read { IfOk result.0 (λ _. result.1 ≡ true → result.2 ≡ Some value.now) }
+{
+    let written = one.try_put(key, value);
+    let made = one.made();
+    let version = number_to_tell(made);
+    let seen = other.has_seen(version);
+    let found = other.get(key);
+    meet(one, other);
+    (written, seen, found)
 }
