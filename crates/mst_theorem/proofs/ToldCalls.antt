@@ -24,19 +24,19 @@ module _ (store : StoreId) (p q r p' r' : Known) (k v : List ℕ) (old : Option 
     (told : n ≡ length p.seen) (looks : Looks (new_pass store 2) q)
     (exact : (seen ≡ true) ↔ (n ≤ length q.seen)) (yes : seen ≡ true)
     (answers : Answers (λ _ m. map_get m k) q found r) (met : Met p r p' r') where
-  first : Call
+  abbrev first : Call
   first = record { operation = wrote (Put k v) (had old); old = new_pass store 1; new = p }
 
-  second : Call
+  abbrev second : Call
   second = record { operation = read (has_seen n seen); old = new_pass store 2; new = q }
 
-  third : Call
+  abbrev third : Call
   third = record { operation = read (got k found); old = q; new = r }
 
-  run : List Call
+  abbrev run : List Call
   run = first ∷ second ∷ third ∷ []
 
-  now : ℕ → Known
+  abbrev now : ℕ → Known
   now m = if m == 1 then p else r
 
   put : IsHonest (wrote (Put k v) (had old)) (new_pass store 1) p
@@ -71,7 +71,7 @@ module _ (store : StoreId) (p q r p' r' : Known) (k v : List ℕ) (old : Option 
   both = ap (λ (l : List Call). second ∷ l)
       (take_in (λ (c : Call). c.old.number == 2) third [] (eq-eqb q.number 2 other.number_is))
 
-  IsIn : Call → Type 0
+  abbrev IsIn : Call → Type 0
   IsIn c = (0 < c.old.number) × (c.old.number ≤ store.passes)
 
   runs : IsRun store run now

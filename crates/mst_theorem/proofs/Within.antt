@@ -71,7 +71,7 @@ publisher z s t a b e p = dite (ℕ_discrete e.pass m.0.number) (λ is. sym is)
 module _ (z : Shape) (n : ℕ) (change : Change) (mine front seen : History)
     (ends : seen ≡ front ++ record { pass = n; change = change } ∷ [])
     (own : events_of n seen ≡ mine ++ record { pass = n; change = change } ∷ []) where
-  e : Event
+  abbrev e : Event
   e = record { pass = n; change = change }
 
   -- what has the same events of the pass, and ends with this one, is the same
