@@ -76,7 +76,7 @@ static inline int32_t told_by(const char *answer, uint8_t *value)
 
 static inline int read_vector(FILE *from, struct vector *to)
 {
-    static char line[1 << 20];
+    static char line[1 << 22]; /* of a proof of 2 MB */
     if (fgets(line, sizeof line, from) == NULL)
         return 0;
     line[strcspn(line, "\n")] = 0;

@@ -1,16 +1,20 @@
 """A put while a reader pins: the words of the table, step by step as in docs/PROTOCOL.md."""
 from .canvas import TINT, WIDTH, Canvas
 
-READER, WRITER = 3, 1  # passes
-ASKED = (1, 2, 3)  # records; the version goes into the last one that is found drained
+PASSES, READER, WRITER = 4, 3, 1
+# A store of n passes has the records 0 to n + 1. A writer asks all but the current one, and the
+# version goes into the last one that is found drained.
+LAST = PASSES + 1
 LEFT = {
-    "step": 52, "turn": 476, "slot": 548, "current": 640, "done": 800, "record": 908, "pins": 1096,
+    "pass": 44, "step": 112, "deed": 172, "turn": 524, "slot": 592, "current": 678, "done": 826,
+    "record": 926, "pins": 1098,
 }
 HEADS = {
     "turn": ("", "turn"), "slot": ("", "slot"), "current": ("", "current"),
-    "done": ("done of", "record 0"), "record": (f"record {ASKED[-1]},", "free rows"),
+    "done": ("done of", "record 0"), "record": (f"record {LAST},", "free rows"),
     "pins": ("who pins", "record 0"),
 }
+WORDS = list(HEADS)
 FIRST, APART = 96, 38
 
 
@@ -23,8 +27,9 @@ BIT = mask(READER)
 CAPTION = [
     f"From its pin to its unpin (thick line) pass {READER} reads record 0 and the rows of its"
     " version. No step changes them.",
-    "current: the current record's number, and a mask of pins: bits 1, 2, 4 for passes 1, 2, 3."
-    " Boxed: changed by the step.",
+    "current: the current record's number, and a mask of pins: bits 1, 2, 4, 8 for passes 1 to 4.",
+    f"step: its number in 'A write' (pass {WRITER}) or in 'A read' (pass {READER})."
+    " Boxed: what the step changes.",
 ]
 
 
@@ -52,7 +57,7 @@ class Table:
         self.current = (self.current[0], self.current[1] ^ mask(READER))
 
     def publish(self):
-        self.due, self.current = self.current[1], (ASKED[-1], 0)
+        self.due, self.current = self.current[1], (LAST, 0)
         self.record = "current"
 
     def transfer(self):
@@ -62,25 +67,30 @@ class Table:
         self.done ^= mask(READER)
 
 
+def stores(what):
+    """The change of a step that stores words which no other pass reads yet."""
+    return lambda it: setattr(it, "record", what)
+
+
+# Each step: its pass, its number in docs/PROTOCOL.md, what it does, and how the table changes.
 STEPS = [
-    (READER, f"pins: xor of {BIT} into current", Table.pin),
-    (WRITER, "takes the turn: compare-exchange", lambda it: setattr(it, "turn", WRITER)),
-    (WRITER, "takes the desk: exchange", lambda it: setattr(it, "slot", "empty")),
-    (WRITER, "asks records 1, 2 and 3; sweeps", None),
-    (WRITER, "copies the path into free rows", lambda it: setattr(it, "record", "rows stored")),
-    (WRITER, "stores the record's seven words", lambda it: setattr(it, "record", "record stored")),
-    (WRITER, f"publishes: swap, returns the mask {BIT}", Table.publish),
-    (WRITER, f"transfers: xor of {BIT} into done", Table.transfer),
-    (WRITER, "returns the desk: exchange", lambda it: setattr(it, "slot", "desk")),
-    (WRITER, "gives the turn: store of 0", lambda it: setattr(it, "turn", 0)),
-    (READER, f"unpins: xor of {BIT} into done", Table.unpin),
+    (READER, "1", f"pins: xor of {BIT} into current", Table.pin),
+    (WRITER, "1", "takes the turn: compare-exchange", lambda it: setattr(it, "turn", WRITER)),
+    (WRITER, "2", "takes the desk: exchange", lambda it: setattr(it, "slot", "empty")),
+    (WRITER, "3, 4", f"asks records 1 to {LAST}; sweeps", None),
+    (WRITER, "5", "copies the path into free rows", stores("rows stored")),
+    (WRITER, "6", "stores the record's seven words", stores("record stored")),
+    (WRITER, "7", f"publishes: swap, returns mask {BIT}", Table.publish),
+    (WRITER, "8", f"transfers: xor of {BIT} into done", Table.transfer),
+    (WRITER, "9", "returns the desk: exchange", lambda it: setattr(it, "slot", "desk")),
+    (WRITER, "9", "gives the turn: store of 0", lambda it: setattr(it, "turn", 0)),
+    (READER, "3", f"unpins: xor of {BIT} into done", Table.unpin),
 ]
 
 
 def draw_row(canvas, y, cells, before):
     """Draws the words after a step. Those that the step changed stand in a box."""
-    names = [*LEFT, None]
-    for name, after in zip(names[1:], names[2:]):
+    for name, after in zip(WORDS, [*WORDS[1:], None]):
         changed = before is not None and cells[name] != before[name]
         width = (LEFT[after] if after else WIDTH - 12) - LEFT[name] - 12
         if changed:
@@ -89,7 +99,9 @@ def draw_row(canvas, y, cells, before):
 
 
 def draw_heads(canvas):
-    canvas.text(LEFT["step"], 52, "the pass and its step", 17, bold=True)
+    for name in ("pass", "step"):
+        canvas.text(LEFT[name], 52, name, 17, bold=True)
+    canvas.text(LEFT["deed"], 52, "what the step does", 17, bold=True)
     for name, (upper, lower) in HEADS.items():
         if upper:
             canvas.text(LEFT[name], 32, upper, 17, bold=True)
@@ -99,23 +111,24 @@ def draw_heads(canvas):
 
 def picture():
     title = "A put while a reader pins: the words of the table after each step"
-    canvas = Canvas("put", title, 624)
+    canvas = Canvas("put", title, 652)
     table = Table()
     draw_heads(canvas)
     before, y = table.cells(), FIRST
-    canvas.text(LEFT["step"], y, "at the beginning")
+    canvas.text(LEFT["deed"], y, "at the beginning")
     draw_row(canvas, y, before, None)
-    for who, text, step in STEPS:
+    for who, number, text, step in STEPS:
         y += APART
         if step:
             step(table)
-        canvas.text(LEFT["step"], y, f"{who}", 17, bold=True)
-        canvas.text(LEFT["step"] + 22, y, text, 17, within=396)
+        canvas.text(LEFT["pass"], y, f"{who}", 17, bold=True)
+        canvas.text(LEFT["step"], y, number)
+        canvas.text(LEFT["deed"], y, text, 17, within=LEFT["turn"] - LEFT["deed"] - 12)
         draw_row(canvas, y, table.cells(), before)
         before = table.cells()
     first, last = FIRST + APART - 6, FIRST + len(STEPS) * APART - 6
-    canvas.line([(42, first), (26, first), (26, last), (42, last)], "thick")
+    canvas.line([(36, first), (22, first), (22, last), (36, last)], "thick")
     canvas.line([(12, y + 22), (WIDTH - 12, y + 22)])
     for number, line in enumerate(CAPTION):
-        canvas.text(26, y + 52 + 28 * number, line)
+        canvas.text(22, y + 52 + 28 * number, line)
     return canvas
