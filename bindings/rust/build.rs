@@ -48,7 +48,7 @@ fn main() {
     }
     let path = folder.join("libmst_store.a").display().to_string();
     panic!(
-        "{path} is not there: run `make -C bindings`, install libmst-dev, or name the folder \
-            of the archive in MST_STORE_DIR"
+        "{path} is not there: install libmst-dev of a release, run `make -C bindings`, which needs \
+            the kit, or name the folder of the archive in MST_STORE_DIR"
     );
 }

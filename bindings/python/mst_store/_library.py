@@ -111,8 +111,9 @@ def _load() -> ctypes.CDLL:
     try:
         found = ctypes.CDLL(_path())
     except OSError as error:
-        raise ImportError(f"{error}: install {SONAME}, run `make -C bindings`, or set "
-                          "MST_STORE_DIR to the folder of libmst_store.so") from error
+        raise ImportError(f"{error}: install {SONAME} of a release, run `make -C bindings`, which "
+                          "needs the kit, or set MST_STORE_DIR to the folder of libmst_store.so"
+                          ) from error
     for name, types in {**_signatures(), **_sharded_signatures()}.items():
         call = getattr(found, name)
         call.argtypes, call.restype = types, ctypes.c_int32
