@@ -4,19 +4,31 @@
 #include <string.h>
 
 #define TEXT(text) (const uint8_t *)(text), sizeof(text) - 1
+#define PAGE 256
 
-/* Prints the keys of one replica that have another value in the other, or none. */
+/* Prints the key of a pair if it has another value in the other replica, or none. */
+static void tell_key(const char *name, const mst_pair *pair, mst_pass *other) {
+    uint8_t value[MST_VALUE_LONGEST];
+
+    int32_t told = mst_get(other, pair->key, pair->key_length, value, sizeof value);
+    if (told != (int32_t)pair->value_length || memcmp(value, pair->value, pair->value_length))
+        printf("differs in %s: %.*s\n", name, (int)pair->key_length, (const char *)pair->key);
+}
+
+/* Asks the other replica for all pairs of one, page by page. */
 static void tell_differing(const char *name, mst_pass *one, mst_pass *other) {
-    uint8_t room[100 * MST_PAIR_LONGEST], value[MST_VALUE_LONGEST];
-    size_t count = 0, length = 0;
-    mst_pair pair;
+    uint8_t room[PAGE * MST_PAIR_LONGEST], last[MST_KEY_LONGEST];
+    size_t last_length = 0, count = 0, length = 0;
+    mst_pair pair = {NULL, NULL, 0, 0};
 
-    mst_range(one, NULL, 0, NULL, 0, 100, room, sizeof room, &count, &length);
-    for (size_t at = 0; at < length;) {
-        at = mst_pair_at(room, at, &pair);
-        int32_t told = mst_get(other, pair.key, pair.key_length, value, sizeof value);
-        if (told != (int32_t)pair.value_length || memcmp(value, pair.value, pair.value_length))
-            printf("differs in %s: %.*s\n", name, (int)pair.key_length, (const char *)pair.key);
+    while (mst_page_after(one, last, last_length, NULL, 0, PAGE, room, sizeof room,
+                          &count, &length) == MST_OK && count > 0) {
+        for (size_t at = 0; at < length;) {
+            at = mst_pair_at(room, at, &pair);
+            tell_key(name, &pair, other);
+        }
+        last_length = pair.key_length;
+        memcpy(last, pair.key, last_length);
     }
 }
 
