@@ -28,6 +28,7 @@ pub mod NodeItems
 pub mod NodePlans
 pub mod Builds
 pub mod Marks
+pub mod OneMark
 pub mod LastLinks
 pub mod Finding
 pub mod Loads

@@ -1,7 +1,7 @@
 -- A node that stands, compared with one to be made: entry by entry, and as a whole.
 use Rattle.std.proofs.Common.{◌≡◌, ℕ, ◌+◌, ◌<◌, Bool, true, false, List, [], ◌∷◌, length, map, drop, get_or, Option, Some, refl, sym, ◌∙◌, ap, arith, true≢false}
 use Rattle.std.specs.Prelude.{◌↔◌}
-use Rattle.std.proofs.lemmas.List.{at_drop_more, length-map}
+use Rattle.std.proofs.lemmas.List.{at_drop_more, at_drop_all, length-map}
 use Rattle.mst_key.specs.declared.format.Format.{Format}
 use Rattle.mst_arena.specs.Content.{Content, part_at}
 use Rattle.mst_arena.specs.Row.{entry_value}
@@ -10,7 +10,7 @@ use Rattle.mst_arena.specs.declared.row.Row.{Row}
 use Rattle.mst_arena.specs.declared.row.KeyedLinks.{KeyedLinks}
 use Rattle.mst_arena.specs.declared.row.HeadLinks.{HeadLinks}
 use Rattle.mst_read.specs.Search.{LiesBehind}
-use Rattle.mst_read.proofs.Walk.{Onward, AtCell, further}
+use Rattle.mst_read.proofs.Walk.{Onward, AtCell, AtEnd, further}
 use Rattle.mst_batch.specs.Beside.{kept_entry, kept_entries, kept_node}
 use Rattle.mst_batch.specs.Plans.{PlanTree, PlanEntries, PlannedEntry, with_planned, kept, made, last, entry, plan_of_node, planned_entry}
 use Rattle.mst_batch.specs.declared.plan.PlanEntry.{PlanEntry}
@@ -114,6 +114,22 @@ module _ {A : Type 0} (xs : List (PlanEntry A)) (t : PlanTree) where
         λ no. absurd (true≢false (sym no)),
         λ whole. absurd (true≢false (sym (tells.1 (same_entry whole)) ∙ other)),
       )
+
+  -- after all entries the last gap decides
+  module _ {format : Format} {content : Content} {far i : ℕ} (c : Chain)
+      (a : AtEnd format content far (IsSameFrom c i)) (done : length xs ≡ i) where
+    none_left : planned (drop i xs) ≡ last t
+    none_left = at_drop_all planned xs i (omega arith)
+
+    pub tail_decides : {b : Bool} → (b ≡ true) ↔ (t ≡ kept far)
+        → (b ≡ true) ↔ (planned xs ≡ kept_entries c)
+    tail_decides tells = (
+      λ yes. a.holds.1
+          (none_left ∙ ap last (tells.0 yes) ∙ ap (λ (n : ℕ). last (kept n)) (sym a.child_is)),
+      λ whole.
+          let both : last t ≡ last (kept (link_of a.child)) = sym none_left ∙ a.holds.0 whole in
+          let same : t ≡ kept (link_of a.child) = cc in tells.1 (same ∙ ap kept a.child_is),
+    )
 
 -- ---- the whole node
 

@@ -1,12 +1,13 @@
-use Rattle.std.proofs.Common.{◌-◌, length, ◌∙◌, ap}
+use Rattle.std.proofs.Common.{◌≡◌, ◌-◌, length, Option, IsSome, refl, sym, ◌∙◌, ap, subst, arith, rules}
 use Rattle.mst_key.specs.declared.format.Format.{Format}
-use Rattle.mst_arena.specs.Row.{entry_value}
+use Rattle.mst_arena.specs.Row.{keyed_links, entry_value}
+use Rattle.mst_arena.specs.declared.row.KeyedLinks.{KeyedLinks}
 use Rattle.mst_arena.specs.Standing.{Chain}
 use Rattle.mst_read.specs.Search.{LiesBehind}
-use Rattle.mst_read.proofs.Still.{read_still}
-use Rattle.mst_read.proofs.Walk.{AtCell, at_cell}
+use Rattle.mst_read.proofs.Still.{read_still, there_still}
+use Rattle.mst_read.proofs.Walk.{AtCell, at_cell, at_end, entry_left}
 use Rattle.mst_batch.specs.Plans.{plan_of}
-use Rattle.mst_batch.proofs.SameNodes.{IsSameFrom, other_count, value_at, one_more, not_all}
+use Rattle.mst_batch.proofs.SameNodes.{IsSameFrom, other_count, value_at, one_more, not_all, tail_decides}
 use Rattle.mst_batch.proofs.sharing.has_entries.Given.{Over}
 use Rattle.mst_batch.proofs.sharing.has_entries.Goals.{After-entry-links}
 use Rattle.mst_batch.proofs.sharing.has_entries.Goals as goal
@@ -16,6 +17,16 @@ returns-then-entries-head-clause-entries g c f w lies =
     other_count c.args.entries.now (plan_of c.args.tail.now) w lies c.if-entries-head.true
 
 -- ---- the next entry
+
+pub entry-links-requires : goal.entry-links-requires
+entry-links-requires g c =
+    let z = c.requires.lies in
+    let left = entry_left (c.loop-entry.invariant.onward z.0 z.1 z.2) c.loop-entry-test.true in
+    record {
+      there = there_still (ap g.R.Rows.content c.loop-entry.invariant.same) keyed_links
+          (c.loop-entry.next - 1)
+          (subst (λ (e : Option KeyedLinks). IsSome e) (sym left.1) refl);
+    }
 
 module _ (g : Over) (c : goal.After-entry-links g) (f : Format) (w : Chain)
     (lies : LiesBehind f (g.R.Rows.content c.args.rows.now) c.args.head.now w) where
@@ -51,3 +62,11 @@ loop-entry-preserved g c = record {
       entry_value (c.loop-entry.next - 1)
       (value_at c.args.entries.now (plan_of c.args.tail.now) w a))).0 c.if-not-is_entry.false);
 }
+
+-- ---- all entries are as they are to be
+
+pub returns-clause-entries : goal.returns-clause-entries
+returns-clause-entries g c f w lies =
+    let all : length c.args.entries.now ≡ c.loop-entry.entry-index = omega arith in
+    let a = at_end (c.loop-entry.invariant.onward f w lies) all in
+    search (rules, tail_decides c.args.entries.now (plan_of c.args.tail.now) w a all)
