@@ -6,7 +6,7 @@ use Rattle.mst_key.specs.declared.history.Change.TheVariants.{Put, Remove, Migra
 use Rattle.mst_key.specs.declared.history.Edit.{Edit}
 use Rattle.mst_key.specs.declared.history.Event.{Event}
 use Rattle.mst_key.specs.Map.{Pair, map_get, map_next, map_range}
-use Rattle.mst_key.specs.History.{History, Reply, after, format_after, reply, events_of, IsPrefix}
+use Rattle.mst_key.specs.History.{History, Reply, after, format_after}
 use Rattle.mst_key.proofs.HistoryLaws.{IsPrefix-itself}
 use Rattle.mst_words.proofs.Histories.{events_own}
 use Rattle.mst_node.specs.Text as text
@@ -25,7 +25,7 @@ use Rattle.mst_store.specs.declared.faults.BatchFault.{BatchFault}
 use Rattle.mst_store.specs.Passes.{Known, having_asked, having_missed, made_by, format_seen, Looks, FindsBusy, Answers, Wrote, Refuses}
 use Rattle.mst_store.specs.Waiting.{WroteAfter, RefusesAfter, RefusesBatchAfter, as_tried, as_tried_batch}
 use Rattle.mst_theorem.specs.Headline.{Reading, Operation, got, came_next, ranged, told_format, told_root, proved, told_version, has_seen, counted, refused, silent, wrote, read, left_by, IsTold, Stays, Adds, IsHonest}
-use Rattle.mst_theorem.specs.Contracts.{Reads, IsRefused, IsRefusedMore, Hears, IsSilent, Says, IsPublished, ByContract}
+use Rattle.mst_theorem.specs.ByContract.{Reads, IsRefused, IsRefusedMore, Hears, IsSilent, Says, IsPublished, ByContract}
 
 looks_stays : (p q : Known) → Looks p q → Stays p q
 looks_stays p q l = record {

@@ -1,11 +1,11 @@
 -- A put, whose version is told to another pass, which looks and gets: it reads what was put.
-use Rattle.std.proofs.Common.{◌≡◌, ◌↔◌, ◌≢◌, ℕ, ◌+◌, ◌<◌, ◌≤◌, ◌==◌, if◌then◌else◌, Bool, true, List, [], ◌∷◌, length, map, inl, refl, sym, ap, ◌∙◌, subst, arith, eq-eqb, ne_eqb, Option, Some, Result, Ok, Err, IfOk, IfSome}
+use Rattle.std.proofs.Common.{◌≡◌, ◌↔◌, ℕ, ◌<◌, ◌≤◌, ◌==◌, if◌then◌else◌, Bool, true, List, [], ◌∷◌, length, map, inl, refl, sym, ap, ◌∙◌, subst, arith, eq-eqb, ne_eqb, Option, Some, Result, Ok, Err, IfOk, IfSome}
 use Rattle.std.proofs.lemmas.List.Elements.{All-cons, All-nil}
 use mathlib.Core.Logic.{dite}
 use native.Mathlib.Decide.{ℕ_discrete}
 use Rattle.mst_key.specs.declared.history.Change.TheVariants.{Put}
 use Rattle.mst_key.specs.Map.{map_get}
-use Rattle.mst_key.specs.History.{History, events_of, IsPrefix, had}
+use Rattle.mst_key.specs.History.{events_of, IsPrefix, had}
 use Rattle.mst_key.proofs.MapLaws.{map_get-put_same}
 use Rattle.mst_words.specs.Notes.{IsOfPasses}
 use Rattle.mst_versions.specs.declared.faults.WriteFault.{WriteFault}

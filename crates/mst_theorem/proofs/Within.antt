@@ -1,5 +1,5 @@
 -- The point of a write lies within its call: it is the one publication of its event.
-use Rattle.std.proofs.Common.{◌≡◌, ◌≢◌, ◌⊎◌, ℕ, ◌+◌, List, [], ◌∷◌, ◌++◌, length, inl, inr, refl, sym, ap, ◌∙◌, subst, ⊎_elim, arith, Option, length-append}
+use Rattle.std.proofs.Common.{◌≡◌, ◌⊎◌, ℕ, ◌+◌, List, [], ◌∷◌, ◌++◌, length, inl, inr, refl, sym, ap, ◌∙◌, subst, ⊎_elim, arith, Option, length-append}
 use Rattle.std.proofs.lemmas.List.{append_cancel_left}
 use mathlib.Core.Logic.{dite}
 use native.Mathlib.Decide.{ℕ_discrete}
@@ -21,7 +21,7 @@ use Rattle.mst_words.specs.Moves.{moves_of, Does, MakesCurrent, ChangesSeats, Go
 use Rattle.mst_words.proofs.Worlds.{within}
 use Rattle.mst_words.proofs.Histories.{events_own, events_other, all_seen}
 use Rattle.mst_words.proofs.Deeds.{publication_grows, other_keeps}
-use Rattle.mst_store.specs.Passes.{Known, made_by}
+use Rattle.mst_store.specs.Passes.{made_by}
 use Rattle.mst_theorem.specs.Headline.{Operation, Call, wrote, Adds, IsHonest, Sits}
 use Rattle.mst_theorem.specs.Time.{GoesOn, Publishes, IsPointOf, HasPoint}
 use Rattle.mst_theorem.proofs.Times.{Mine, same_log, log_later, write_whole}
@@ -68,8 +68,8 @@ publisher z s t a b e p = dite (ℕ_discrete e.pass m.0.number) (λ is. sym is)
         ∙ ap (λ (x : Mine). x.0.mine) p.made.tells.1.is
 
 -- the pass n had made its own events, and then has made one more, with which its history ends
-module _ (z : Shape) (n : ℕ) (change : Change) (mine front seen : History)
-    (ends : seen ≡ front ++ record { pass = n; change = change } ∷ [])
+module _ (z : Shape) (n : ℕ) (change : Change) (mine earlier seen : History)
+    (ends : seen ≡ earlier ++ record { pass = n; change = change } ∷ [])
     (own : events_of n seen ≡ mine ++ record { pass = n; change = change } ∷ []) where
   abbrev e : Event
   e = record { pass = n; change = change }
@@ -80,7 +80,7 @@ module _ (z : Shape) (n : ℕ) (change : Change) (mine front seen : History)
   one_end log g a b is = ⊎_elim
       (λ (x : IsPrefix seen (g ++ e ∷ [])). all_seen n (mine ++ e ∷ []) seen g e refl x own is)
       (λ (x : IsPrefix (g ++ e ∷ []) seen). ends ∙ sym
-      (all_seen n (mine ++ e ∷ []) (g ++ e ∷ []) front e refl
+      (all_seen n (mine ++ e ∷ []) (g ++ e ∷ []) earlier e refl
       (subst (λ (l : History). IsPrefix (g ++ e ∷ []) l) ends x) is
       (ap (events_of n) (sym ends) ∙ own)))
       (IsPrefix-compare seen (g ++ e ∷ []) log a b)

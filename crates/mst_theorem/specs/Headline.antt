@@ -1,7 +1,7 @@
 -- The theorem of a store as one statement: its calls have one order in which the one-thread map
 -- gives the answers that they got (sequential consistency: Lamport 1979). Where a pass had seen,
 -- when its call began, what another call had seen, the order has the other call first.
--- `specs/Contracts.antt` says which operation each call of a pass is, and which answers the map
+-- `specs/ByContract.antt` says which operation each call of a pass is, and which answers the map
 -- does not judge.
 use Rattle.std.specs.Prelude.{◌≡◌, ◌⊎◌, ◌↔◌, ℕ, ◌+◌, ◌<◌, ◌≤◌, ◌==◌, Bool, true, List, [], ◌∷◌, ◌++◌, length, map, filter, All, Option, Some}
 use Rattle.std.specs.List.{AllByRecursion}

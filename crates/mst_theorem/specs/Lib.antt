@@ -1,4 +1,4 @@
 pub mod Headline
-pub mod Contracts
+pub mod ByContract
 pub mod Time
 pub mod Shown

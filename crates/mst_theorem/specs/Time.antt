@@ -1,7 +1,6 @@
 -- Steps of a table, one after another, and those at which calls take effect.
 use Rattle.std.specs.Prelude.{◌≡◌, ◌⊎◌, ℕ, true, List, [], ◌∷◌, ◌++◌}
 use Rattle.mst_key.specs.declared.history.Change.{Change}
-use Rattle.mst_key.specs.declared.history.Event.{Event}
 use Rattle.mst_key.specs.History.{History}
 use Rattle.mst_pin.specs.declared.event.Event as core
 use Rattle.mst_words.specs.declared.view.Shape.{Shape}

@@ -12,7 +12,7 @@ ghost use Rattle.mst_key.specs.declared.history.Event.{Event};
 ghost use Rattle.mst_store.specs.Passes.{StoreId, Known, HasShape, Wrote};
 ghost use Rattle.mst_store.specs.Settling.{AreAllPasses, Settled};
 ghost use Rattle.mst_theorem.specs.Headline.{Operation, Call, wrote, IsHonest, Holds, IsHistoryOf, IsNow, IsOneOrder, IsRun, NeverFalls, Sits, rank};
-ghost use Rattle.mst_theorem.specs.Contracts.{ByContract};
+ghost use Rattle.mst_theorem.specs.ByContract.{ByContract};
 ghost use Rattle.mst_theorem.specs.Time.{ByPoints, GoesOn, HasPoint};
 
 /// Each call of a pass, of a pinned one or of a prepared batch is an operation of the one order:

@@ -7,9 +7,9 @@ use Rattle.mst_theorem.proofs.TwoCalls.{two_calls}
 use Rattle.mst_theorem.proofs.shown.put_beside_get.Goals as goal
 
 pub returns : goal.returns
-returns g c = let did = c.at_once.ensures in let put = c.at_once.result.0 in
-    let found = c.at_once.result.1 in let p : Known = c.at_once.new.one in
-    let q : Known = c.at_once.new.other in let k = c.args.key.now in
+returns g c = let did = c.at_once-put.ensures in let put = c.at_once-put.result.0 in
+    let found = c.at_once-put.result.1 in let p : Known = c.at_once-put.new.one in
+    let q : Known = c.at_once-put.new.other in let k = c.args.key.now in
     let v = c.args.value.now in let both =
     two_calls c.args.one.now.store p q c.meet.new.one c.meet.new.other k v put found
     c.requires.two
