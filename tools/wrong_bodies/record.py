@@ -4,7 +4,8 @@ tests/wrong_bodies.tsv has a line for each: its crate, its name, with which kit 
 a hash of what its verdict depends on. That is its own text; the functions whose goals judge it,
 with their answers; of its crate and of each crate below what others can cite: code without the
 bodies of functions, definitions, and what lemmas state. If it changes a definition or a clause, or
-nothing says what judges it, it is the whole text of its crate. Comments count for nothing."""
+nothing says what judges it, it is the whole text of its crate. Comments, and how lines are broken,
+count for nothing."""
 import contextlib
 import fcntl
 import functools
@@ -27,9 +28,9 @@ def files(folder, part, ending):
 
 
 def bare(text, mark):
-    """A text without the lines that are comments, and without empty ones."""
-    lines = (it.rstrip() for it in text.split("\n"))
-    return "\n".join(it for it in lines if it and not it.lstrip().startswith(mark))
+    """The words of a text without the lines that are comments, however its lines are broken."""
+    lines = (it for it in text.split("\n") if not it.lstrip().startswith(mark))
+    return " ".join(" ".join(lines).split())
 
 
 def without_bodies(text):
