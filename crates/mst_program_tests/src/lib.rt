@@ -6,7 +6,11 @@
 #![tactic(auto)]
 
 #[cfg(test)]
+mod confirming;
+#[cfg(test)]
 mod failing;
+#[cfg(test)]
+mod heaps;
 #[cfg(test)]
 mod pins;
 #[cfg(test)]

@@ -1,11 +1,11 @@
 //! A sink over memory that is full. Other devices that fail, `tests/devices` shows.
 use super::run_over;
+use crate::confirming::confirm_at;
 use mst_devices::{BytesSink, BytesSource, Device};
 use mst_script::RunFault;
 use mst_store::{Format, Memory, Shape};
 use std::alloc::{AllocError, Global};
 use std::process::Abort;
-use std::test::Fail;
 
 /// Five lines, of which one is a fault and one takes memory, and their answers.
 const FIVE_LINES: &[u8] = b"1 put 61 31\n2 put 616263 78\n3 range - - 10\n1 frob\n4 get 61";
@@ -19,27 +19,35 @@ const SHAPE: Shape = Shape {
 };
 
 /// Whether the sink of a run over the script is full after these bytes.
-fn is_full_behind(rt: &impl Abort, alloc: Global, written: &[u8]) -> Result<bool, AllocError> {
+fn is_full_behind(rt: &impl Abort, alloc: Global, written: &[u8]) -> bool {
     let mut source = BytesSource::new(FIVE_LINES);
-    let mut sink = BytesSink::new(alloc, written.len())?;
+    let mut sink = BytesSink::new(alloc, written.len()).expect(rt, "memory");
     let ran = run_over(rt, alloc, alloc, SHAPE, &mut source, &mut sink);
-    Ok(ran == Err(RunFault::Device) && sink.bytes() == written)
+    ran == Err(RunFault::Device) && sink.bytes() == written
 }
 
-// A sink that is full at its first byte, and one that is full at the end.
-#[test]
-fn sinks_are_full(rt: HostRuntime) -> Result<(), Fail> {
-    for room in [0, 1, 5, 60] {
-        let full = is_full_behind(&rt, rt.alloc(), &FIVE_ANSWERS[..room])?;
-        assert!(rt; full, "with room for {room}");
+/// Whether it is if it has room for so many.
+fn is_full_in(rt: &impl Abort, alloc: Global, room: usize) -> bool {
+    match FIVE_ANSWERS.get(..room) {
+        Some(written) => is_full_behind(rt, alloc, written),
+        None => false,
     }
-    Ok(())
+}
+
+/// The room of a sink that is full at its first byte, and so on to one that is full at the end.
+const ROOMS: &[usize] = &[0, 1, 5, 60];
+
+#[test]
+fn sinks_are_full(rt: HostRuntime) {
+    for room in ROOMS {
+        confirm_at(&rt, is_full_in(&rt, rt.alloc(), *room), *room);
+    }
 }
 
 #[test]
-fn a_run_that_ended_early_says_why(rt: HostRuntime) -> Result<(), Fail> {
+fn a_run_that_ended_early_says_why(rt: HostRuntime) {
     let refused = RunFault::Memory(Memory::from(AllocError));
-    let told = format!(in rt.alloc(); "{Device}, {}, {refused}", RunFault::Device)?;
+    let told = format!(in rt.alloc(); "{Device}, {}, {refused}", RunFault::Device);
+    let told = told.expect(&rt, "memory");
     assert!(rt; told.as_str() == "a device failed, a device failed, no memory");
-    Ok(())
 }

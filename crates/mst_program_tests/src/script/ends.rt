@@ -3,11 +3,12 @@ ghost use Rattle.std.specs.Prelude.{◌<◌, ◌-◌, ◌^◌};
 ghost use Rattle.mst_script.specs.Serving.{AreAllOf};
 
 use super::{dealt, opened};
+use crate::confirming::confirm_at;
 use crate::failing::{Reader, Writer};
 use mst_devices::{BytesSink, BytesSource, Sink, Source, StdSink, StdSource};
 use mst_script::{RunFault, run};
 use mst_store::{Format, Pass, Shape, Store};
-use std::alloc::{AllocError, Global};
+use std::alloc::Global;
 use std::process::Abort;
 
 // Three versions are pinned, and no pin is ended.
@@ -88,16 +89,16 @@ fn ending_of<S: Source, W: Sink>(
 }
 
 // Whether the run writes what the script is answered, and all passes serve again after it.
-fn ends_with_the_script(rt: &impl Abort, alloc: Global) -> Result<bool, AllocError> {
+fn ends_with_the_script(rt: &impl Abort, alloc: Global) -> bool {
     let mut source = BytesSource::new(PINS);
-    let mut sink = BytesSink::new(alloc, 128)?;
+    let mut sink = BytesSink::new(alloc, 128).expect(rt, "memory");
     let ending = ending_of(rt, alloc, &mut source, &mut sink);
-    Ok(sink.bytes() == PINNED && ending.ended.is_ok() && ending.all_serve)
+    sink.bytes() == PINNED && ending.ended.is_ok() && ending.all_serve
 }
 
 #[test]
 fn pins_end_with_the_script(rt: HostRuntime) {
-    assert!(rt; matches!(ends_with_the_script(&rt, rt.alloc()), Ok(true)));
+    assert!(rt; ends_with_the_script(&rt, rt.alloc()));
 }
 
 // Whether the run between such devices ends by their fault, and all passes serve again after it.
@@ -108,30 +109,38 @@ fn ends_by_fault(rt: &impl Abort, alloc: Global, reader: Reader<'_>, mut out: Wr
     ending.all_serve && ending.ended == Err(RunFault::Device)
 }
 
+// Whether that is so where a read of one byte fails after this many.
+fn ends_by_a_read(rt: &impl Abort, alloc: Global, reads: u64) -> bool {
+    let reader = Reader {
+        rest: PINS,
+        most: 1,
+        reads,
+    };
+    ends_by_fault(rt, alloc, reader, Writer::new(alloc, 64, u64::MAX, false))
+}
+
 #[test]
 fn pins_end_where_a_read_fails(rt: HostRuntime) {
-    for reads in 0..=PINS.len() as u64 {
-        let reader = Reader {
-            rest: PINS,
-            most: 1,
-            reads,
-        };
-        let out = Writer::new(rt.alloc(), 64, u64::MAX, false);
-        let ended = ends_by_fault(&rt, rt.alloc(), reader, out);
-        assert!(rt; ended, "after {reads} reads");
+    for reads in 0..=PINS.len() {
+        let ended = ends_by_a_read(&rt, rt.alloc(), reads as u64);
+        confirm_at(&rt, ended, reads);
     }
+}
+
+// Whether that is so where a write of one byte fails after this many.
+fn ends_by_a_write(rt: &impl Abort, alloc: Global, writes: u64) -> bool {
+    let reader = Reader {
+        rest: PINS,
+        most: 7,
+        reads: u64::MAX,
+    };
+    ends_by_fault(rt, alloc, reader, Writer::new(alloc, 1, writes, false))
 }
 
 #[test]
 fn pins_end_where_a_write_fails(rt: HostRuntime) {
-    for writes in 0..PINNED.len() as u64 {
-        let reader = Reader {
-            rest: PINS,
-            most: 7,
-            reads: u64::MAX,
-        };
-        let out = Writer::new(rt.alloc(), 1, writes, false);
-        let ended = ends_by_fault(&rt, rt.alloc(), reader, out);
-        assert!(rt; ended, "after {writes} writes");
+    for writes in 0..PINNED.len() {
+        let ended = ends_by_a_write(&rt, rt.alloc(), writes as u64);
+        confirm_at(&rt, ended, writes);
     }
 }

@@ -1,15 +1,17 @@
 //! Scripts over maps of one shard and of two: whole, and between devices that fail.
-ghost use Rattle.std.specs.Prelude.{◌≡◌, ◌<◌, ◌-◌, ◌^◌};
+ghost use Rattle.std.specs.Prelude.{◌≡◌, ◌<◌, ◌≤◌, ◌-◌, ◌^◌, length};
 ghost use Rattle.mst_sharded.specs.Opening.{seats_of};
 
+use crate::confirming::confirm;
 use crate::failing::{Reader, Writer};
 use mst_devices::{BytesSink, BytesSource, Sink, Source, StdSink, StdSource};
-use mst_key::{Key, Memory};
+use mst_key::Key;
 use mst_script::RunFault;
-use mst_sharded::{AllSeats, Sharded, ShardsFault};
+use mst_sharded::{AllSeats, Sharded};
 use mst_sharded_script::{HandleState, run as run_sharded, states_of};
 use mst_store::{Format, Shape};
-use std::alloc::{AllocError, Allocator, Global};
+use std::alloc::Global;
+use std::process::Abort;
 
 /// A shard with three passes.
 const SHAPE: Shape = Shape {
@@ -19,58 +21,56 @@ const SHAPE: Shape = Shape {
 };
 
 /// Splits into this many shards, each at a key of one byte.
-fn splits_of<A: Allocator>(alloc: A, shards: u8) -> Result<Vec<Key, A>, Memory> {
+fn splits_of(rt: &impl Abort, alloc: Global, shards: u8) -> Vec<Key> {
     let mut splits = Vec::new(alloc);
     for shard in 1..shards {
-        if let Ok(split) = Key::new(&[shard.wrapping_mul(24) / shards.max(1) + 16]) {
-            splits.push(split)?;
-        }
+        let byte = shard.wrapping_mul(24) / shards.max(1) + 16;
+        let split = Key::new(&[byte]).expect(rt, "1 to 32 bytes");
+        splits.push(split).expect(rt, "memory");
     }
-    Ok(splits)
+    splits
+}
+
+/// A new map of this many shards.
+fn opened(rt: &impl Abort, alloc: Global, shards: u8) -> (Sharded<Global>, AllSeats<Global>)
+    ensures own { result.1 ≡ seats_of result.0 }
+{
+    let Ok(opened) = Sharded::open(alloc, splits_of(rt, alloc, shards), SHAPE) else {
+        panic!(rt; "not opened")
+    };
+    opened
 }
 
 /// The handles of a new map.
-fn states_over<'a, A: Allocator + Copy>(
-    alloc: A,
-    sharded: &'a Sharded<A>,
-    seats: AllSeats<A>,
-) -> Result<Vec<HandleState<'a, A>, A>, Memory>
+fn states_over<'a>(
+    rt: &impl Abort,
+    alloc: Global,
+    sharded: &'a Sharded<Global>,
+    seats: AllSeats<Global>,
+) -> Vec<HandleState<'a, Global>>
     requires own { seats ≡ seats_of sharded.now }
+    ensures few { length result.items ≤ 32 }
 {
-    let handles = sharded.deal(alloc, seats)?;
-    states_of(alloc, handles)
+    let handles = sharded.deal(alloc, seats).expect(rt, "memory");
+    let states = states_of(alloc, handles).expect(rt, "memory");
+    assert!(rt; states.len() <= 32);
+    states
 }
 
-/// Runs a script over a new map of this many shards, with the memory of another allocator for lines
-/// and answers.
-fn run_shards<S: Source, W: Sink, A: Allocator + Copy>(
-    alloc: A,
-    lines: A,
+/// Runs a script over a new map of this many shards.
+fn run_shards<S: Source, W: Sink>(
+    rt: &impl Abort,
+    alloc: Global,
     shards: u8,
-    shape: Shape,
     source: &mut S,
     sink: &mut W,
 ) -> Result<(), RunFault>
     requires source { S.failures source.old < 2 ^ 64 - 1 }
     requires sink { W.failures sink.old < 2 ^ 64 - 1 }
 {
-    let splits = match splits_of(alloc, shards) {
-        Ok(splits) => splits,
-        Err(refused) => return Err(RunFault::Memory(refused)),
-    };
-    let (sharded, seats) = match Sharded::open(alloc, splits, shape) {
-        Ok(opened) => opened,
-        Err(ShardsFault::Memory(refused)) => return Err(RunFault::Memory(refused)),
-        Err(_) => return Err(RunFault::Device),
-    };
-    let mut states = match states_over(alloc, &sharded, seats) {
-        Ok(states) => states,
-        Err(refused) => return Err(RunFault::Memory(refused)),
-    };
-    if states.len() > 32 {
-        return Err(RunFault::Device);
-    }
-    run_sharded(lines, source, sink, &mut states)
+    let (sharded, seats) = opened(rt, alloc, shards);
+    let mut states = states_over(rt, alloc, &sharded, seats);
+    run_sharded(alloc, source, sink, &mut states)
 }
 
 /// Lines of all kinds, and their answers.
@@ -123,20 +123,18 @@ fault L7
 ";
 
 /// Whether a map of this many shards answers them so.
-fn is_answered(alloc: Global, shards: u8) -> Result<bool, AllocError> {
+fn is_answered(rt: &impl Abort, alloc: Global, shards: u8) -> bool {
     let mut source = BytesSource::new(SCRIPT.as_bytes());
-    let mut sink = BytesSink::new(alloc, 1_024)?;
-    let ran = run_shards(alloc, alloc, shards, SHAPE, &mut source, &mut sink);
-    Ok(ran == Ok(()) && sink.bytes() == SCRIPT_ANSWERS.as_bytes())
+    let mut sink = BytesSink::new(alloc, 1_024).expect(rt, "memory");
+    let ran = run_shards(rt, alloc, shards, &mut source, &mut sink);
+    ran == Ok(()) && sink.bytes() == SCRIPT_ANSWERS.as_bytes()
 }
 
 // No words of the program name one shard.
 #[test]
 fn one_shard_answers_as_two(rt: HostRuntime) {
-    for shards in [1, 2] {
-        let answered = is_answered(rt.alloc(), shards);
-        assert!(rt; matches!(answered, Ok(true)), "{shards} shards");
-    }
+    confirm(&rt, is_answered(&rt, rt.alloc(), 1), "one shard");
+    confirm(&rt, is_answered(&rt, rt.alloc(), 2), "two shards");
 }
 
 // ---- devices that fail
@@ -147,44 +145,55 @@ const LINES: &[u8] = b"1 put 11 31\n2 put 1f 32\n1 pin\n2 del 11\n1 range - - 9\
 const ANSWERS: &[u8] =
     b"none\nnone\npinned\nsome 31\npairs 2\npair 11 31\npair 1f 32\nunpinned\nsome 32\n";
 
-/// How such a run ends, and what it has written, between devices of seven bytes at a time that fail
-/// after this many reads and this many writes.
-fn written(alloc: Global, shards: u8, reads: u64, writes: u64) -> (Result<(), RunFault>, Vec<u8>) {
+/// How such a run ends that writes into these bytes, seven at a time, and reads so too, where the
+/// reads fail after this many.
+fn ran_into(
+    rt: &impl Abort,
+    alloc: Global,
+    shards: u8,
+    reads: u64,
+    out: &mut Writer,
+) -> Result<(), RunFault> {
     let reader = Reader {
         rest: LINES,
         most: 7,
         reads,
     };
-    let mut out = Writer::new(alloc, 7, writes, false);
-    let ran = {
-        let mut source = StdSource::new(reader);
-        let mut sink = StdSink::new(&mut out);
-        run_shards(alloc, alloc, shards, SHAPE, &mut source, &mut sink)
-    };
-    (ran, out.bytes)
+    let mut source = StdSource::new(reader);
+    let mut sink = StdSink::new(out);
+    run_shards(rt, alloc, shards, &mut source, &mut sink)
 }
 
-/// Whether a run that a device ends has written a first part of the answers, and another all.
-fn ends_so(alloc: Global, shards: u8, reads: u64, writes: u64) -> bool {
-    let (ran, out) = written(alloc, shards, reads, writes);
-    let is_ended = ran == Err(RunFault::Device) || ran == Ok(()) && out.len() == ANSWERS.len();
-    is_ended && ANSWERS.starts_with(out.as_slice())
+/// Whether a run between devices that fail after this many reads and this many writes, and so is
+/// ended, has written a first part of the answers, and another all.
+fn ends_so(rt: &impl Abort, alloc: Global, shards: u8, reads: u64, writes: u64) -> bool {
+    let mut out = Writer::new(alloc, 7, writes, false);
+    let ran = ran_into(rt, alloc, shards, reads, &mut out);
+    let written = out.bytes.as_slice();
+    let is_whole = ran == Ok(()) && written.len() == ANSWERS.len();
+    (ran == Err(RunFault::Device) || is_whole) && ANSWERS.starts_with(written)
+}
+
+/// Whether a run ends so that no device ends.
+fn is_whole(rt: &impl Abort, alloc: Global, shards: u8) -> bool {
+    let mut out = Writer::new(alloc, 7, u64::MAX, false);
+    let ran = ran_into(rt, alloc, shards, u64::MAX, &mut out);
+    ran == Ok(()) && out.bytes.as_slice() == ANSWERS
+}
+
+/// Whether all runs over this many shards end so.
+fn all_end(rt: &impl Abort, alloc: Global, shards: u8) -> bool {
+    for count in 0..24u64 {
+        let by_reads = ends_so(rt, alloc, shards, count, u64::MAX);
+        if !by_reads || !ends_so(rt, alloc, shards, u64::MAX, count) {
+            return false;
+        }
+    }
+    is_whole(rt, alloc, shards)
 }
 
 #[test]
 fn devices_fail_over_shards(rt: HostRuntime) {
-    for shards in [1, 2] {
-        for count in 0..24u64 {
-            assert!(rt;
-                ends_so(rt.alloc(), shards, count, u64::MAX),
-                "{count} reads"
-            );
-            assert!(rt;
-                ends_so(rt.alloc(), shards, u64::MAX, count),
-                "{count} writes"
-            );
-        }
-        let (ran, out) = written(rt.alloc(), shards, u64::MAX, u64::MAX);
-        assert!(rt; ran == Ok(()) && out.as_slice() == ANSWERS);
-    }
+    confirm(&rt, all_end(&rt, rt.alloc(), 1), "one shard");
+    confirm(&rt, all_end(&rt, rt.alloc(), 2), "two shards");
 }
