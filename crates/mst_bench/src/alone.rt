@@ -1,7 +1,7 @@
 //! Calls of the one pass of a store.
 ghost use Rattle.std.specs.Prelude.{◌<◌, length};
 
-use crate::stores::{all_well, one_pass, opened, tell};
+use crate::stores::{one_pass, opened, tell};
 use crate::words::Calls;
 use crate::{calls, kinds};
 use mst_key::{Format, Key};
@@ -19,17 +19,16 @@ pub fn shape(format: Format) -> Shape {
 }
 
 // Puts all keys, and makes calls of one kind.
-fn make(rt: &HostRuntime, pass: Pass<'_, Global>, keys: &[Key], of: Calls) -> io::Result<()>
+fn make(rt: &HostRuntime, mut pass: Pass<'_, Global>, keys: &[Key], of: &Calls) -> io::Result<()>
     requires some { 0 < length keys.now }
 {
-    let mut pass = pass;
-    all_well(calls::fill(&mut pass, keys))?;
-    let (_pass, done) = kinds::make(rt.alloc(), pass, keys, of.calls, of.kind);
+    let done = calls::fill(&mut pass, keys)
+        && kinds::make(rt.alloc(), pass, keys, of.calls, of.kind);
     tell(rt, of.name, keys.len(), of.calls, done)
 }
 
 /// Puts all keys into a store that has no pair yet, and makes calls of one kind.
-pub fn run(rt: &HostRuntime, keys: &[Key], of: Calls) -> io::Result<()>
+pub fn run(rt: &HostRuntime, keys: &[Key], of: &Calls) -> io::Result<()>
     requires some { 0 < length keys.now }
 {
     let (store, seats) = opened(rt.alloc(), shape(of.format))?;

@@ -1,12 +1,13 @@
 //! The kinds of calls.
 ghost use Rattle.std.specs.Prelude.{◌<◌, length};
 
+use crate::shards::{Each, OfShards, STILL};
 use crate::{batches, calls, reads};
 use mst_key::Key;
 use mst_store::Pass;
 use std::alloc::Global;
 
-/// A kind of call of a pass.
+/// A kind of call: of a pass, where nothing else is said.
 #[derive(Clone, Copy)]
 pub enum Kind {
     Put,
@@ -21,6 +22,10 @@ pub enum Kind {
     Prove,
     Verify,
     Migrate,
+    /// Puts of all keys by one batch, each into an empty store of its own.
+    Load,
+    /// Calls of a map of shards, or of stores that have its keys.
+    OfShards(OfShards),
 }
 
 /// The kinds, with what the command line calls them.
@@ -40,6 +45,35 @@ const KINDS: &[(Kind, &str)] = &[
     (Kind::Prove, "prove"),
     (Kind::Verify, "verify"),
     (Kind::Migrate, "migrate"),
+    (Kind::Load, "load"),
+    (
+        Kind::OfShards(OfShards::GetOfPasses),
+        "get in stores of one shard",
+    ),
+    (Kind::OfShards(OfShards::Get), "get of a handle"),
+    (Kind::OfShards(OfShards::PutOfListing), "put of a listing"),
+    (Kind::OfShards(OfShards::Snapshots(STILL)), "snapshot"),
+    (
+        Kind::OfShards(OfShards::Snapshots(Each {
+            roots: true,
+            ..STILL
+        })),
+        "snapshot with its root",
+    ),
+    (
+        Kind::OfShards(OfShards::Snapshots(Each {
+            puts: true,
+            ..STILL
+        })),
+        "put and snapshot",
+    ),
+    (
+        Kind::OfShards(OfShards::Snapshots(Each {
+            puts: true,
+            roots: true,
+        })),
+        "put and snapshot with its root",
+    ),
 ];
 
 /// The kind with this name, and what lines call it.
@@ -52,13 +86,11 @@ pub fn named(name: &str) -> Option<(Kind, &'static str)> {
     None
 }
 
-// Makes gets of the version that the pass pins now, and ends the pin.
-fn get_pinned<'a>(pass: Pass<'a, Global>, keys: &[Key], calls: u32) -> (Pass<'a, Global>, bool)
+// Makes gets of the version that the pass pins now.
+fn get_pinned(pass: Pass<'_, Global>, keys: &[Key], calls: u32) -> bool
     requires some { 0 < length keys.now }
 {
-    let mut pinned = pass.pin();
-    let done = reads::get_pinned(&mut pinned, keys, calls);
-    (pinned.unpin(), done)
+    reads::get_pinned(&mut pass.pin(), keys, calls)
 }
 
 // Makes this many calls of a kind that leaves the pass where it is. Returns true if each went
@@ -77,30 +109,22 @@ fn make_in_place(
         Kind::PutInBatches(size) => batches::put(alloc, pass, keys, calls, size),
         Kind::RemoveAndPutBack => calls::remove_and_put_back(pass, keys, calls),
         Kind::Version => reads::version(pass, calls),
-        Kind::Get | Kind::GetPinned => reads::get(pass, keys, calls),
         Kind::Next => reads::next(pass, keys, calls),
         Kind::Range => reads::range(alloc, pass, keys, calls),
         Kind::Prove => reads::prove(alloc, pass, keys, calls),
         Kind::Verify => reads::verify(alloc, pass, keys, calls),
         Kind::Migrate => calls::migrate(alloc, pass, calls),
+        _ => reads::get(pass, keys, calls),
     }
 }
 
-/// Makes this many calls of a kind. Returns the pass, and whether each call went through.
-pub fn make<'a>(
-    alloc: Global,
-    mut pass: Pass<'a, Global>,
-    keys: &[Key],
-    calls: u32,
-    kind: Kind,
-) -> (Pass<'a, Global>, bool)
+/// Makes this many calls of a kind of a pass, gets if it is of something else. Returns true if each
+/// went through.
+pub fn make(alloc: Global, mut pass: Pass<'_, Global>, keys: &[Key], calls: u32, kind: Kind) -> bool
     requires some { 0 < length keys.now }
 {
     match kind {
         Kind::GetPinned => get_pinned(pass, keys, calls),
-        _ => {
-            let done = make_in_place(alloc, &mut pass, keys, calls, kind);
-            (pass, done)
-        }
+        _ => make_in_place(alloc, &mut pass, keys, calls, kind),
     }
 }

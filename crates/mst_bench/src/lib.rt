@@ -23,11 +23,12 @@ mod shards;
 mod stores;
 mod words;
 
+use kinds::Kind;
 use mst_key::Key;
 use mst_store::MOST_ROWS;
-use std::alloc::Global;
+use shards::OfShards;
 use std::io;
-use words::{Calls, HELP, Loads, ShardedCalls, Task};
+use words::{Calls, HELP};
 
 // The keys, of which there are at least one, and at most as many as a store has rows.
 fn some(keys: Vec<Key>) -> io::Result<Vec<Key>>
@@ -40,30 +41,19 @@ fn some(keys: Vec<Key>) -> io::Result<Vec<Key>>
     Ok(keys)
 }
 
-// The keys of the numbers below `count`.
-fn some_keys(alloc: Global, count: u32) -> io::Result<Vec<Key>>
-    ensures some { IfOk result (λ keys. 0 < length keys.items) }
-    ensures few { IfOk result (λ keys. length keys.items ≤ most_rows) }
-{
-    some(keys::keys(alloc, count)?)
-}
-
-// Makes calls of one kind.
-fn make(rt: &HostRuntime, of: Calls) -> io::Result<()> {
-    let keys = some_keys(rt.alloc(), of.keys)?;
-    alone::run(rt, &keys, of)
-}
-
-// Makes loads.
-fn load(rt: &HostRuntime, of: Loads) -> io::Result<()> {
-    let keys = some_keys(rt.alloc(), of.keys)?;
-    batches::load(rt, &keys, of.calls, of.format)
-}
-
-// Makes calls of one kind at a sharded map.
-fn make_sharded(rt: &HostRuntime, of: ShardedCalls) -> io::Result<()> {
+// Makes calls of a map of shards.
+fn make_sharded(rt: &HostRuntime, of: &Calls, kind: OfShards) -> io::Result<()> {
     let keys = some(keys::rising(rt.alloc(), of.keys)?)?;
-    shards::run(rt, &keys, of)
+    shards::run(rt, &keys, of, kind)
+}
+
+// Makes calls of passes.
+fn make_alone(rt: &HostRuntime, of: &Calls) -> io::Result<()> {
+    let keys = some(keys::keys(rt.alloc(), of.keys)?)?;
+    match of.kind {
+        Kind::Load => batches::load(rt, &keys, of.calls, of.format),
+        _ => alone::run(rt, &keys, of),
+    }
 }
 
 /// Makes the calls that the words of the command line ask for, of which the first is the program's
@@ -74,10 +64,11 @@ fn make_sharded(rt: &HostRuntime, of: ShardedCalls) -> io::Result<()> {
 /// `InvalidInput` for more keys than a store has rows, `OutOfMemory` if there is no memory, another
 /// kind if a call was refused or a line could not be printed.
 pub fn run(rt: &HostRuntime, words: &[String]) -> io::Result<()> {
-    match words::asked(words) {
-        Task::Make(of) => make(rt, of),
-        Task::Load(of) => load(rt, of),
-        Task::MakeSharded(of) => make_sharded(rt, of),
-        Task::Help => println!(rt; "{HELP}"),
+    let Some(of) = words::asked(words) else {
+        return println!(rt; "{HELP}");
+    };
+    match of.kind {
+        Kind::OfShards(kind) => make_sharded(rt, &of, kind),
+        _ => make_alone(rt, &of),
     }
 }

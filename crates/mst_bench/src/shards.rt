@@ -7,8 +7,8 @@ ghost use Rattle.mst_store.specs.Passes.{most_rows};
 use crate::calls::{FIRST_NEW_VALUE, picked};
 use crate::keys::{listing, value};
 use crate::stores::tell;
-use crate::words::{Calls, ShardedCalls};
-use crate::{alone, kinds, stores};
+use crate::words::Calls;
+use crate::{alone, stores};
 use mst_key::{Format, Key};
 use mst_sharded::{AllSeats, Handle, Sharded, ShardsFault};
 use mst_store::{Pass, Shape};
@@ -25,7 +25,7 @@ const SPARE_ROWS: u32 = 512;
 
 /// A kind of call.
 #[derive(Clone, Copy)]
-pub enum Kind {
+pub enum OfShards {
     /// Gets of passes, one after the other, each of a store that has the keys of one shard.
     GetOfPasses,
     Get,
@@ -39,55 +39,16 @@ pub enum Kind {
 #[derive(Clone, Copy)]
 pub struct Each {
     /// Whether a value is put before it.
-    puts: bool,
+    pub puts: bool,
     /// Whether it is asked for its root digest.
-    roots: bool,
+    pub roots: bool,
 }
 
-/// The kinds, with what the command line calls them.
-const KINDS: &[(Kind, &str)] = &[
-    (Kind::GetOfPasses, "get in stores of one shard"),
-    (Kind::Get, "get of a handle"),
-    (Kind::PutOfListing, "put of a listing"),
-    (
-        Kind::Snapshots(Each {
-            puts: false,
-            roots: false,
-        }),
-        "snapshot",
-    ),
-    (
-        Kind::Snapshots(Each {
-            puts: false,
-            roots: true,
-        }),
-        "snapshot with its root",
-    ),
-    (
-        Kind::Snapshots(Each {
-            puts: true,
-            roots: false,
-        }),
-        "put and snapshot",
-    ),
-    (
-        Kind::Snapshots(Each {
-            puts: true,
-            roots: true,
-        }),
-        "put and snapshot with its root",
-    ),
-];
-
-/// The kind with this name, and what lines call it.
-pub fn named(name: &str) -> Option<(Kind, &'static str)> {
-    for (kind, its_name) in KINDS {
-        if *its_name == name {
-            return Some((*kind, *its_name));
-        }
-    }
-    None
-}
+/// No put, and no root digest.
+pub const STILL: Each = Each {
+    puts: false,
+    roots: false,
+};
 
 // The first key of each shard but the first, where all have equally many of the keys, which rise.
 fn splits(alloc: Global, keys: &[Key]) -> Result<Vec<Key>, AllocError> {
@@ -213,62 +174,46 @@ fn snapshots(
     all_done
 }
 
-// Makes this many calls of a kind. Returns true if each went through.
+// Puts all keys, and takes snapshots or makes gets. Returns true if each call went through.
 fn make(
     alloc: Global,
     mut handle: Handle<'_, Global, Global>,
     keys: &[Key],
-    of: ShardedCalls,
+    calls: u32,
+    kind: OfShards,
 ) -> bool
     requires some { 0 < length keys.now }
 {
-    match of.kind {
-        Kind::GetOfPasses | Kind::PutOfListing => true,
-        Kind::Get => get(&mut handle, keys, of.calls),
-        Kind::Snapshots(each) => snapshots(alloc, handle, keys, of.calls, each),
-    }
-}
-
-// Puts all keys, and makes calls of one kind.
-fn make_filled(
-    rt: &HostRuntime,
-    mut handle: Handle<'_, Global, Global>,
-    keys: &[Key],
-    of: ShardedCalls,
-) -> io::Result<()>
-    requires some { 0 < length keys.now }
-{
-    let done = fill(&mut handle, keys) && make(rt.alloc(), handle, keys, of);
-    tell(rt, of.name, of.keys as usize, of.calls, done)
+    let filled = fill(&mut handle, keys);
+    filled
+        && match kind {
+            OfShards::Snapshots(each) => snapshots(alloc, handle, keys, calls, each),
+            _ => get(&mut handle, keys, calls),
+        }
 }
 
 // Makes calls of one kind of a sharded map.
-fn run_handle(rt: &HostRuntime, keys: &[Key], of: ShardedCalls) -> io::Result<()>
+fn run_handle(rt: &HostRuntime, keys: &[Key], of: &Calls, kind: OfShards) -> io::Result<()>
     requires some { 0 < length keys.now }
     requires few { length keys.now ≤ most_rows }
 {
     let (sharded, seats) = opened(rt.alloc(), keys, of.format)?;
     let handle = one_handle(rt.alloc(), &sharded, seats)?;
-    make_filled(rt, handle, keys, of)
+    let done = make(rt.alloc(), handle, keys, of.calls, kind);
+    tell(rt, of.name, keys.len(), of.calls, done)
 }
 
 // Makes gets in a store that has the keys of this shard.
-fn run_pass(rt: &HostRuntime, keys: &[Key], of: ShardedCalls) -> io::Result<()> {
+fn run_pass(rt: &HostRuntime, keys: &[Key], of: &Calls) -> io::Result<()> {
     if keys.is_empty() {
         return Err(io::ErrorKind::InvalidInput.into());
     }
-    let gets = Calls {
-        kind: kinds::Kind::Get,
-        name: of.name,
-        keys: of.keys,
-        calls: of.calls / SHARDS as u32,
-        format: of.format,
-    };
-    alone::run(rt, keys, gets)
+    let calls = of.calls / SHARDS as u32;
+    alone::run(rt, keys, &Calls { calls, ..*of })
 }
 
 // Makes gets in stores of their own, one after the other, each of which has the keys of a shard.
-fn run_passes(rt: &HostRuntime, keys: &[Key], of: ShardedCalls) -> io::Result<()> {
+fn run_passes(rt: &HostRuntime, keys: &[Key], of: &Calls) -> io::Result<()> {
     let part = keys.len() / SHARDS;
     for shard in 0..SHARDS {
         let Some(its_keys) = keys.get(part * shard..part * (shard + 1)) else {
@@ -314,42 +259,30 @@ fn put_listings(pass: &mut Pass<'_, Global>, bounds: &[Key], calls: u32) -> bool
     true
 }
 
-// Makes puts of listings, of which there is one at each bound.
-fn make_listings(
-    rt: &HostRuntime,
-    pass: &mut Pass<'_, Global>,
-    bounds: &[Key],
-    of: ShardedCalls,
-) -> io::Result<()>
-    requires some { 0 < length bounds.now }
-{
-    let done = fill_listings(pass, bounds) && put_listings(pass, bounds, of.calls);
-    tell(rt, of.name, of.keys as usize, of.calls, done)
-}
-
-// Makes them in a store of its own.
-fn run_store(rt: &HostRuntime, bounds: &[Key], of: ShardedCalls) -> io::Result<()>
+// Makes puts of listings, of which there is one at each bound, in a store of its own.
+fn run_store(rt: &HostRuntime, bounds: &[Key], of: &Calls) -> io::Result<()>
     requires some { 0 < length bounds.now }
 {
     let (store, seats) = stores::opened(rt.alloc(), alone::shape(of.format))?;
     let mut pass = stores::one_pass(rt.alloc(), &store, seats)?;
-    make_listings(rt, &mut pass, bounds, of)
+    let done = fill_listings(&mut pass, bounds) && put_listings(&mut pass, bounds, of.calls);
+    tell(rt, of.name, of.keys as usize, of.calls, done)
 }
 
 // Makes puts into a store that has what the directory has.
-fn run_listings(rt: &HostRuntime, keys: &[Key], of: ShardedCalls) -> io::Result<()> {
+fn run_listings(rt: &HostRuntime, keys: &[Key], of: &Calls) -> io::Result<()> {
     let bounds = bounds(rt.alloc(), keys)?;
     run_store(rt, bounds.as_slice(), of)
 }
 
-/// Puts all keys, which rise, and makes calls of one kind.
-pub fn run(rt: &HostRuntime, keys: &[Key], of: ShardedCalls) -> io::Result<()>
+/// Makes calls of one kind, where the map has these keys, which rise.
+pub fn run(rt: &HostRuntime, keys: &[Key], of: &Calls, kind: OfShards) -> io::Result<()>
     requires some { 0 < length keys.now }
     requires few { length keys.now ≤ most_rows }
 {
-    match of.kind {
-        Kind::GetOfPasses => run_passes(rt, keys, of),
-        Kind::PutOfListing => run_listings(rt, keys, of),
-        _ => run_handle(rt, keys, of),
+    match kind {
+        OfShards::GetOfPasses => run_passes(rt, keys, of),
+        OfShards::PutOfListing => run_listings(rt, keys, of),
+        _ => run_handle(rt, keys, of, kind),
     }
 }

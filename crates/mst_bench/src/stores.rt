@@ -30,17 +30,11 @@ pub fn one_pass<'a>(
     }
 }
 
-/// An error if not each call went through.
-pub fn all_well(done: bool) -> io::Result<()> {
+/// Prints the line of calls; an error if one of them was refused.
+pub fn tell(rt: &HostRuntime, call: &str, keys: usize, calls: u32, done: bool) -> io::Result<()> {
     if done {
-        Ok(())
+        println!(rt; "{call}: {keys} keys, {calls} calls")
     } else {
         Err(io::ErrorKind::Other.into())
     }
-}
-
-/// Prints the line of calls; an error if one of them was refused.
-pub fn tell(rt: &HostRuntime, call: &str, keys: usize, calls: u32, done: bool) -> io::Result<()> {
-    all_well(done)?;
-    println!(rt; "{call}: {keys} keys, {calls} calls")
 }

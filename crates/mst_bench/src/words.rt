@@ -1,22 +1,8 @@
 //! The words of the command line.
 use crate::kinds::{self, Kind};
-use crate::shards;
 use mst_key::Format;
 
-/// What the words ask for.
-#[derive(Clone, Copy)]
-pub enum Task {
-    /// Makes calls of one kind.
-    Make(Calls),
-    /// Loads empty stores.
-    Load(Loads),
-    /// Makes calls of one kind at a sharded map.
-    MakeSharded(ShardedCalls),
-    /// Says how it is called.
-    Help,
-}
-
-/// Calls of one kind at a map of this many keys, in a store of a format.
+/// Calls of one kind at a map of this many keys, in a format.
 #[derive(Clone, Copy)]
 pub struct Calls {
     pub kind: Kind,
@@ -25,27 +11,6 @@ pub struct Calls {
     pub calls: u32,
     pub format: Format,
 }
-
-/// Loads of this many keys, each into a store of its own of a format.
-#[derive(Clone, Copy)]
-pub struct Loads {
-    pub keys: u32,
-    pub calls: u32,
-    pub format: Format,
-}
-
-/// Calls of one kind at a sharded map of this many keys, whose shards are of a format.
-#[derive(Clone, Copy)]
-pub struct ShardedCalls {
-    pub kind: shards::Kind,
-    pub name: &'static str,
-    pub keys: u32,
-    pub calls: u32,
-    pub format: Format,
-}
-
-/// What the command line calls loads.
-const LOAD: &str = "load";
 
 /// How the program is called.
 pub const HELP: &str = "\
@@ -77,37 +42,21 @@ fn format(word: Option<&str>) -> Option<Format> {
     }
 }
 
-// Loads, or calls of the kind, that the words name.
-fn calls_of(kind: &str, keys: &str, calls: &str, last: Option<&str>) -> Option<Task> {
+// The calls that these words name.
+fn calls_of(kind: &str, keys: &str, calls: &str, last: Option<&str>) -> Option<Calls> {
     let (keys, calls, format) = (number(keys)?, number(calls)?, format(last)?);
-    if kind == LOAD {
-        return Some(Task::Load(Loads {
-            keys,
-            calls,
-            format,
-        }));
-    }
-    if let Some((kind, name)) = shards::named(kind) {
-        return Some(Task::MakeSharded(ShardedCalls {
-            kind,
-            name,
-            keys,
-            calls,
-            format,
-        }));
-    }
     let (kind, name) = kinds::named(kind)?;
-    Some(Task::Make(Calls {
+    Some(Calls {
         kind,
         name,
         keys,
         calls,
         format,
-    }))
+    })
 }
 
-// What the words after the program's name ask for.
-fn task_of(words: &[String]) -> Option<Task> {
+/// The calls that the words of the command line ask for, of which the first is the program's name.
+pub fn asked(words: &[String]) -> Option<Calls> {
     match words {
         [_, kind, keys, calls] => calls_of(kind.as_str(), keys.as_str(), calls.as_str(), None),
         [_, kind, keys, calls, last] => calls_of(
@@ -118,9 +67,4 @@ fn task_of(words: &[String]) -> Option<Task> {
         ),
         _ => None,
     }
-}
-
-/// What the words of the command line ask for; help if they ask for nothing.
-pub fn asked(words: &[String]) -> Task {
-    task_of(words).unwrap_or(Task::Help)
 }
