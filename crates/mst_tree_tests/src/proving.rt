@@ -62,18 +62,18 @@ impl PlantedMap {
         format: Format,
         tree: Option<&Node<A>>,
         size: u32,
-    ) -> PlantedMap
+    ) -> Result<PlantedMap, Memory>
         requires tree { (m : List Pair) × IsMap m
             × IsTreeOf format (tree_at format (option_copied tree)) m }
         requires some { 0 < size }
         requires few { size ≤ 65535 }
     {
-        let mut desk = Desk::new(alloc, size, 2, 0).expect(rt, "memory");
-        let mut rows = PlainRows::new(alloc, size).expect(rt, "memory");
+        let mut desk = Desk::new(alloc, size, 2, 0)?;
+        let mut rows = PlainRows::new(alloc, size)?;
         let Ok(root) = plant(&mut rows, &mut desk, tree, format) else {
             panic!(rt; "no room")
         };
-        PlantedMap { rows, root, format }
+        Ok(PlantedMap { rows, root, format })
     }
 
     /// The proof for a key.
@@ -94,8 +94,8 @@ fn proof_for(
     few(rt, pairs);
     let tree = build_in(alloc, format, pairs).expect(rt, "memory");
     let size = if pairs.len() < 4_000 { 8_000 } else { 65_535 };
-    let mut planted = PlantedMap::of(rt, alloc, format, tree.as_deref(), size);
-    let proof = planted.prove(alloc, &key_of(rt, key));
+    let planted = PlantedMap::of(rt, alloc, format, tree.as_deref(), size);
+    let proof = planted.expect(rt, "memory").prove(alloc, &key_of(rt, key));
     proof.expect(rt, "memory")
 }
 

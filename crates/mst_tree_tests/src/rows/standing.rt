@@ -43,18 +43,18 @@ impl StandingMap {
         alloc: Global,
         tree: Option<&Node<A>>,
         size: u32,
-    ) -> StandingMap
+    ) -> Result<StandingMap, Memory>
         requires tree { (m : List Pair) × IsMap m
             × IsTreeOf One (tree_at One (option_copied tree)) m }
         requires some { 0 < size }
         requires few { size ≤ 65535 }
     {
-        let mut desk = Desk::new(alloc, size, 2, 0).expect(rt, "memory");
-        let mut rows = CountedRows::new(alloc, size).expect(rt, "memory");
+        let mut desk = Desk::new(alloc, size, 2, 0)?;
+        let mut rows = CountedRows::new(alloc, size)?;
         let Ok(root) = plant(&mut rows, &mut desk, tree, Format::One) else {
             panic!(rt; "no room")
         };
-        StandingMap { rows, root }
+        Ok(StandingMap { rows, root })
     }
 
     /// The map of these pairs, planted in this many rows.
@@ -63,7 +63,7 @@ impl StandingMap {
         few(rt, pairs);
         assert!(rt; 0 < size && size <= 65_535);
         let tree = build(alloc, pairs).expect(rt, "memory");
-        StandingMap::planted(rt, alloc, tree.as_deref(), size)
+        StandingMap::planted(rt, alloc, tree.as_deref(), size).expect(rt, "memory")
     }
 
     /// What was read of the rows since the counts began.
