@@ -12,6 +12,7 @@ import functools
 import glob
 import hashlib
 import os
+import re
 import subprocess
 
 from kit import ROOT
@@ -28,9 +29,9 @@ def files(folder, part, ending):
 
 
 def bare(text, mark):
-    """The words of a text without the lines that are comments, however its lines are broken."""
+    """The words and signs of a text without the lines that are comments, however it is laid out."""
     lines = (it for it in text.split("\n") if not it.lstrip().startswith(mark))
-    return " ".join(" ".join(lines).split())
+    return " ".join(re.findall(r"\w+|[^\w\s]", "\n".join(lines)))
 
 
 def without_bodies(text):
