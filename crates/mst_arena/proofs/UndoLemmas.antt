@@ -21,7 +21,7 @@ born_twice n b false e = refl
 
 dead_twice : (n b d : ℕ) (t : Bool) → nat_lt d n ≡ t → undone_life n
     (cond t (Dead b d) (cond (nat_lt b n) (Born b) Free)) ≡ cond t (Dead b d)
-        (cond (nat_lt b n) (Born b) Free)
+    (cond (nat_lt b n) (Born b) Free)
 dead_twice n b d true e = ap (λ (t : Bool). cond t (Dead b d) (cond (nat_lt b n) (Born b) Free)) e
 dead_twice n b d false e = born_twice n b (nat_lt b n) refl
 
