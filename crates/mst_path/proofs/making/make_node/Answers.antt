@@ -1,4 +1,6 @@
 use Rattle.std.proofs.Common.{◌≡◌, ◌∷◌, [], length, refl, ◌∙◌, arith}
+use Rattle.std.proofs.lemmas.List.Sums.{count_by-le-length}
+use Rattle.mst_arena.specs.Lives.{is_free}
 use Rattle.mst_path.specs.Takes.{IsWritable}
 use Rattle.mst_path.specs.Writing.{ahead}
 use Rattle.mst_path.specs.Copying.{Copied}
@@ -114,3 +116,21 @@ returns-clause-made g c = λ p.
     (one_ahead g at.After-begin-writer)
     (ahead_min c.move_run.new.writer.next c.move_run.new.writer.left
     c.move_run.ensures.writer.reserved)
+
+pub overflow_add-count : goal.overflow_add-count
+overflow_add-count g c =
+    omega (
+      arith,
+      c.requires.room,
+      c.requires.ready.few,
+      count_by-le-length is_free c.args.desk.now.lives,
+    )
+
+pub begin-writer-requires-clause-few : goal.begin-writer-requires-clause-few
+begin-writer-requires-clause-few g c =
+    omega (
+      arith,
+      c.requires.room,
+      c.requires.ready.few,
+      count_by-le-length is_free c.args.desk.now.lives,
+    )

@@ -1,5 +1,6 @@
 use Rattle.std.proofs.Common.{◌≡◌, ◌<◌, ◌≤◌, ◌+◌, ℕ, Bool, Some, ◌∷◌, [], ◌++◌, length, IfSome, IsTrue, refl, sym, ◌∙◌, subst, arith}
-use Rattle.mst_arena.specs.Lives.{free_count}
+use Rattle.std.proofs.lemmas.List.Sums.{count_by-le-length}
+use Rattle.mst_arena.specs.Lives.{is_free, free_count}
 use Rattle.mst_arena.specs.Lists.{times}
 use Rattle.mst_arena.specs.Standing.{Placed, used}
 use Rattle.mst_path.specs.Takes.{IsWritable}
@@ -233,3 +234,30 @@ returns-clause-made g c = λ p q root stands apart.
     (one_ahead g at.After-begin-writer)
     (next_ahead g at.After-move_run)
     (ahead_min c.entry.new.self.next c.entry.new.self.left c.entry.ensures.writer.reserved)
+
+pub overflow_add-count : goal.overflow_add-count
+overflow_add-count g c =
+    omega (
+      arith,
+      c.requires.room,
+      c.requires.ready.few,
+      count_by-le-length is_free c.args.desk.now.lives,
+    )
+
+pub overflow_add-count-2 : goal.overflow_add-count-2
+overflow_add-count-2 g c =
+    omega (
+      arith,
+      c.requires.room,
+      c.requires.ready.few,
+      count_by-le-length is_free c.args.desk.now.lives,
+    )
+
+pub begin-writer-requires-clause-few : goal.begin-writer-requires-clause-few
+begin-writer-requires-clause-few g c =
+    omega (
+      arith,
+      c.requires.room,
+      c.requires.ready.few,
+      count_by-le-length is_free c.args.desk.now.lives,
+    )
