@@ -14,5 +14,5 @@ returns g c =
           (omega (arith, old.ok.0))
           (λ k lt within. c.in_ok-resize.ensures.by_index.0 k false lt (omega (arith, old.ok.0)))
           (λ k past lt. c.in_ok-resize.ensures.by_index.1 k false (search rules)
-              (omega (arith, old.ok.0)) lt));
+          (omega (arith, old.ok.0)) lt));
     }

@@ -122,8 +122,11 @@ bounds-pairs-i g t c = search rules
 
 pub bounds-layers-i : goal.bounds-layers-i
 bounds-layers-i g t c =
-    omega (arith, layers-length (layer_in c.args.format) c.args.pairs.now c.args.layers.now
-        c.requires.layers)
+    omega (
+      arith,
+      layers-length (layer_in c.args.format) c.args.pairs.now c.args.layers.now
+          c.requires.layers,
+    )
 
 pub offset_bounds-pairs-start : goal.offset_bounds-pairs-start
 offset_bounds-pairs-start g t c = search rules
@@ -145,8 +148,11 @@ slice_bounds-subtree-start-then-layers-i g t c = search rules
 
 pub slice_bounds-subtree-end-then-layers-i : goal.slice_bounds-subtree-end-then-layers-i
 slice_bounds-subtree-end-then-layers-i g t c =
-    omega (arith, layers-length (layer_in c.args.format) c.args.pairs.now c.args.layers.now
-        c.requires.layers)
+    omega (
+      arith,
+      layers-length (layer_in c.args.format) c.args.pairs.now c.args.layers.now
+          c.requires.layers,
+    )
 
 pub returns-in_err-child : goal.returns-in_err-child
 returns-in_err-child g t c = search rules
@@ -171,13 +177,19 @@ slice_bounds-subtree-end-2 g t c = search rules
 
 pub slice_bounds-subtree-count-3 : goal.slice_bounds-subtree-count-3
 slice_bounds-subtree-count-3 g t c =
-    omega (arith, layers-length (layer_in c.args.format) c.args.pairs.now c.args.layers.now
-        c.requires.layers)
+    omega (
+      arith,
+      layers-length (layer_in c.args.format) c.args.pairs.now c.args.layers.now
+          c.requires.layers,
+    )
 
 pub slice_bounds-subtree-start-3 : goal.slice_bounds-subtree-start-3
 slice_bounds-subtree-start-3 g t c =
-    omega (arith, layers-length (layer_in c.args.format) c.args.pairs.now c.args.layers.now
-        c.requires.layers)
+    omega (
+      arith,
+      layers-length (layer_in c.args.format) c.args.pairs.now c.args.layers.now
+          c.requires.layers,
+    )
 
 pub slice_bounds-subtree-end-3 : goal.slice_bounds-subtree-end-3
 slice_bounds-subtree-end-3 g t c = search rules
