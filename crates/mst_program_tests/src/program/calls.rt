@@ -22,8 +22,8 @@ impl Gate for Counter {
     fn answered(&self, _worker: u32, _call: u32) {}
 }
 
-/// The status of the program by the words of a line, and how many calls of a load it made; `None` if
-/// memory is refused.
+/// The status of the program by the words of a line, and how many calls of a load it made, or
+/// `None` if memory is refused.
 fn status_and_calls<R: Threads + Wait + AllocGlobal + Sync>(
     rt: &R,
     line: &str,
