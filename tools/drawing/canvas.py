@@ -1,21 +1,40 @@
-"""A canvas of 1,200 pixels that gives an SVG picture, and refuses a text that is cut or crowded."""
+"""A canvas of 1,200 pixels that gives an SVG picture with its title above it, and refuses a text that
+is cut or crowded."""
 from html import escape
 
 WIDTH = 1200
-SMALLEST = 15  # pixels: a little over 11 points at the full width
+SMALLEST = 16  # pixels: 11 where a page shows the picture 838 pixels wide
+HEAD = 48  # the height of what stands above a picture: its title
 PROSE = "Verdana, 'DejaVu Sans', sans-serif"
 CODE = "'DejaVu Sans Mono', Menlo, Consolas, monospace"
 LINES = {
     "thin": 'stroke-width="1.5"',
+    "bold": 'stroke-width="4"',
     "thick": 'stroke-width="4"',
+    "broken": 'stroke-width="3" stroke-dasharray="8 5"',
+    "warm": 'stroke-width="4"',
     "dashed": 'stroke-width="1.5" stroke-dasharray="7 5"',
     "dotted": 'stroke-width="2.5" stroke-dasharray="2 6" stroke-linecap="round"',
     "faint": 'stroke-width="1" stroke-opacity="0.35"',
 }
-# The second colour: thick lines have it, and what they enclose a tint of it. In grey the lines are
+# Blue is what a picture is about: its legend says what that is. Thick and broken lines are blue, and
+# what they enclose has a tint of it. The warm colour is for what goes wrong. In grey the lines are
 # dark and the tint is light, so both are still told from black and white.
-INK, TINT = "#0b4f8a", "#c8def2"
-INKS = {"thick": INK}
+INK, TINT, WARM, GLOW = "#0b4f8a", "#c8def2", "#a63a00", "#fbdcc8"
+INKS = {"thick": INK, "broken": INK, "warm": WARM}
+HEADS = {"black": "head", INK: "blue-head", WARM: "warm-head"}
+TINTS = {INK: TINT, WARM: GLOW}
+# The greys of columns that are of another kind than the blue ones.
+DARK_GREY, LIGHT_GREY = "#595959", "#dcdcdc"
+# What stands for each colour where the reader's screen is dark.
+AT_NIGHT = {
+    "white": "#0d1117", "black": "#e6edf3", INK: "#79c0ff", TINT: "#17395c", WARM: "#ffa657",
+    GLOW: "#5c2d0f", DARK_GREY: "#b8b8b8", LIGHT_GREY: "#4a4a4a",
+    # The grounds of groups of crates.
+    "#fff2cc": "#453a12", "#d5ecc2": "#28421c", "#ffdfc6": "#523218", "#e3d6ee": "#3b2b4d",
+    "#d3e4f5": "#1b3850", "#bfe6e2": "#14433e", "#f8d0d0": "#532828", "#e2e2e2": "#3a3a3a",
+    "#e6d8cf": "#46372c",
+}
 # How wide the letters of the widest likely font are, in parts of the size.
 NARROW = {**dict.fromkeys("ijl|'", 0.32), **dict.fromkeys("ft,.:;()[]! Ir", 0.43)}
 WIDE = {**dict.fromkeys("mwMW%@", 0.99), **dict.fromkeys("ABCDEFGHJKLNOPQRSTUVXYZ×=+→", 0.82)}
@@ -34,23 +53,36 @@ def width_of(text, size, code=False, bold=False):
     return parts * size * (1.12 if bold else 1)
 
 
+def in_lines(text, size, within):
+    """A text in lines of at most so many pixels."""
+    lines = [""]
+    for word in text.split():
+        longer = f"{lines[-1]} {word}".strip()
+        if width_of(longer, size) <= within:
+            lines[-1] = longer
+        else:
+            lines.append(word)
+    return lines
+
+
 class Canvas:
     """A picture that grows by shapes and texts. `text` is where all texts go through."""
 
     def __init__(self, name, title, height):
         self.name, self.title, self.height = name, title, height
         self.shapes, self.texts = [], []
+        if width_of(title, 19, bold=True) > WIDTH - 24:
+            raise ValueError(f"{name}: the title '{title}' is too long")
 
     def line(self, points, style="thin", arrow=False):
         path = "M" + " L".join(f"{number(x)} {number(y)}" for x, y in points)
-        name = "thick-head" if style in INKS else "head"
-        head = f' marker-end="url(#{name})"' if arrow else ""
         ink = INKS.get(style, "black")
+        head = f' marker-end="url(#{HEADS[ink]})"' if arrow else ""
         self.shapes.append(f'<path d="{path}" fill="none" stroke="{ink}" {LINES[style]}{head}/>')
 
     def box(self, x, y, width, height, style="thin", fill=None, round=0):
-        """A box, if nothing else is said white, or with a thick edge in the tint."""
-        fill = fill or (TINT if style in INKS else "white")
+        """A box, if nothing else is said white, or with a coloured edge in its tint."""
+        fill = fill or TINTS.get(INKS.get(style), "white")
         place = f'x="{number(x)}" y="{number(y)}" width="{number(width)}" height="{number(height)}"'
         ink = INKS.get(style, "black")
         edge = f'stroke="{ink}" {LINES[style]}' if style else 'stroke="none"'
@@ -99,9 +131,36 @@ class Canvas:
             if left < high and low < left + width and y - size < bottom and top < y:
                 raise ValueError(f"{place} runs into '{other}'")
 
+    def legend(self, x, y, looks, size=17, space=36):
+        """A box of each style with what it means, one below the other. Returns the next height."""
+        for style, text in looks:
+            self.box(x, y - 19, 52, 26, style)
+            self.text(x + 68, y, text, size)
+            y += space
+        return y
+
+    def lines(self, x, y, texts, size=17, space=26):
+        """Texts one below the other, the first with its base line at y, each in as many lines as it
+        takes."""
+        for text in texts:
+            for line in in_lines(text, size, WIDTH - 20 - x):
+                self.text(x, y, line, size)
+                y += space
+
+    def night(self):
+        """The rules by which the picture's colours turn where the screen is dark."""
+        rules = "".join(
+            f'[fill="{day}"]{{fill:{it}}}[stroke="{day}"]{{stroke:{it}}}'
+            for day, it in AT_NIGHT.items()
+        )
+        letters = f"text{{fill:{AT_NIGHT['black']}}}"
+        return f"<style>@media (prefers-color-scheme: dark){{{letters}{rules}}}</style>"
+
     def svg(self):
         """The picture as the text of an SVG file."""
-        head = f'<svg xmlns="http://www.w3.org/2000/svg" viewBox="0 0 {WIDTH} {self.height}"'
+        place = f"0 {-HEAD} {WIDTH} {self.height + HEAD}"
+        head = f'<svg xmlns="http://www.w3.org/2000/svg" viewBox="{place}"'
+        name = f'x="20" y="{34 - HEAD}" font-size="19" font-weight="bold"'
         size = 'viewBox="0 0 10 8" refX="9" refY="4" markerWidth="13" markerHeight="11"'
         turned = 'markerUnits="userSpaceOnUse" orient="auto"'
         return "\n".join([
@@ -110,9 +169,11 @@ class Canvas:
             *(
                 f'<defs><marker id="{name}" {size} {turned}>'
                 f'<path d="M0 0 L10 4 L0 8 z" fill="{ink}"/></marker></defs>'
-                for name, ink in (("head", "black"), ("thick-head", INK))
+                for ink, name in HEADS.items()
             ),
-            f'<rect width="{WIDTH}" height="{self.height}" fill="white"/>',
+            self.night(),
+            f'<rect y="{-HEAD}" width="{WIDTH}" height="{self.height + HEAD}" fill="white"/>',
+            f"<text {name}>{escape(self.title)}</text>",
             *self.shapes,
             *(shape for _, _, shape in self.texts),
             "</svg>\n",

@@ -10,7 +10,7 @@ from .maps import TOP
 # Each group of the table: its colour, where it begins and ends from left to right, and each crate
 # with its layer, from 0 at the bottom, and the middle of its box.
 GROUPS = {
-    "maps and their trees": ("#fff2cc", 440, 770, {
+    "maps and their trees": ("#fff2cc", 300, 770, {
         "mst_key": (0, 600), "mst_node": (1, 600), "mst_prefix": (2, 560),
     }),
     "verifiers": ("#d5ecc2", 20, 388, {
@@ -21,10 +21,10 @@ GROUPS = {
         "mst_arena": (3, 540), "mst_change": (3, 740), "mst_path": (4, 706), "mst_read": (4, 500),
         "mst_batch": (5, 555),
     }),
-    "the core of pins": ("#e3d6ee", 842, 1022, {"mst_pin": (4, 930), "mst_replay": (5, 930)}),
-    "the store": ("#c8def2", 414, 826, {
-        "mst_words": (6, 706), "mst_versions": (7, 640), "mst_store": (8, 640),
-        "mst_theorem": (9, 638),
+    "the core of pins": ("#e3d6ee", 842, 1110, {"mst_pin": (4, 1020), "mst_replay": (5, 1020)}),
+    "the store": ("#d3e4f5", 414, 826, {
+        "mst_words": (6, 706), "mst_versions": (7, 670), "mst_store": (8, 670),
+        "mst_theorem": (9, 500),
     }),
     "sharded maps": ("#bfe6e2", 366, 560, {"mst_sharded": (10, 462)}),
     "the store for C": ("#f8d0d0", 20, 330, {
@@ -34,30 +34,39 @@ GROUPS = {
         "mst_devices": (0, 1098), "mst_lines": (1, 1098), "mst_requests": (2, 1098),
     }),
     "the program": ("#e6d8cf", 590, 1100, {
-        "mst_load": (10, 800), "mst_script": (10, 1016), "mst_sharded_script": (11, 700),
+        "mst_load": (10, 790), "mst_script": (10, 980), "mst_sharded_script": (11, 700),
         "mst_command": (12, 870), "mst_program": (13, 870), "mst": (14, 870),
     }),
 }
-FOR_C = {"mst_verifier", "mst_c", "mst_c_sharded", "mst_exports"}
+FOR_C = {"mst_verifier", "mst_exports"}
 # Arrows that go round other crates: the corner between their two straight parts, as the places from
 # left to right and the crate at whose height it is.
 BENT = {
     ("mst_command", "mst_report"): (347, "mst_command"),
     ("mst_sharded", "mst_sharded_proof"): (401, "mst_sharded_proof"),
+    ("mst_sharded", "mst_store"): (646, "mst_sharded"),
+    ("mst_theorem", "mst_store"): (616, "mst_theorem"),
+    ("mst_c", "mst_store"): (110, "mst_store"),
+    ("mst_proof", "mst_node"): (210, "mst_node"),
+    ("mst_command", "mst_replay"): (1074, "mst_command"),
+    ("mst_script", "mst_requests"): (1150, "mst_script"),
 }
 BOX, HIGH, FIRST, APART = 140, 36, 44, 88
 LAYERS = 15
+NOTES = [
+    "A colour is a group. An arrow leads to what a crate stands on; it is left out where others lead"
+    " the same way. No arrow leads from the verifiers to the store.",
+    "Not drawn: crates of tests, mst_bench and mst_cookbook, which stand at the top.",
+]
 # From a crate's box to the edge of its group: where its name stands, and elsewhere.
 NAMED, EDGE = 32, 10
-# Names stand above the crates, but where arrows pass: those that stand below them, and with more
-# space.
-LOW = {"maps and their trees", "the core of pins", "lines of text"}
+# Names stand at the left above the crates, one of them higher, since arrows pass below it.
 HIGHER = "sharded maps"
 
 
 def width(name):
     """How wide a crate's box is: wider for a long name."""
-    return max(BOX, len(name) * 9.2 + 10)
+    return max(BOX, len(name) * 9.8 + 12)
 
 
 def stands_on():
@@ -107,17 +116,15 @@ def see_that_groups_are_the_pages():
 def edges(name, boxes):
     """Where a group begins and ends from top to bottom."""
     layers = [layer for layer, _ in boxes.values()]
-    above = {HIGHER: NAMED + 16}.get(name, EDGE if name in LOW else NAMED)
-    low = top_of(min(layers)) + HIGH + (NAMED if name in LOW else EDGE)
-    return top_of(max(layers)) - above, low
+    above = NAMED + 16 * (name == HIGHER)
+    return top_of(max(layers)) - above, top_of(min(layers)) + HIGH + EDGE
 
 
 def draw_groups(canvas):
     for name, (colour, left, right, boxes) in GROUPS.items():
         top, bottom = edges(name, boxes)
         canvas.box(left, top, right - left, bottom - top, None, colour, 10)
-        x, y = left + 12, bottom - 11 if name in LOW else top + 21
-        canvas.text(x, y, name, 16, bold=True, within=right - x - 8)
+        canvas.text(left + 12, top + 21, name, 16, bold=True, within=right - left - 20)
 
 
 def draw_bent(canvas, name, below, where):
@@ -126,9 +133,11 @@ def draw_bent(canvas, name, below, where):
     corner, at = BENT[name, below]
     across = where[at][1] + HIGH / 2
     if at == name:
-        points = [(x - width(name) / 2, across), (corner, across), (corner, to_y)]
+        side = width(name) / 2 if corner > x else -width(name) / 2
+        points = [(x + side, across), (corner, across), (corner, to_y)]
     else:
-        points = [(corner, y + HIGH), (corner, across), (to_x + width(below) / 2, across)]
+        side = width(below) / 2 if corner > to_x else -width(below) / 2
+        points = [(corner, y + HIGH), (corner, across), (to_x + side, across)]
     canvas.line(points, arrow=True)
 
 
@@ -142,27 +151,24 @@ def draw_arrows(canvas, crates, where):
         if (name, below) in BENT:
             draw_bent(canvas, name, below, where)
         else:
-            aside = max(-50, min(50, (to_x - x) / 6))
+            layers = round((to_y - y) / APART)
+            aside = max(-50, min(50, (to_x - x) / (2 + 3 * layers)))
             canvas.line([(x + aside, y + HIGH), (to_x - aside, to_y)], arrow=True)
 
 
 def picture():
     see_that_groups_are_the_pages()
     where = places()
-    low = top_of(0) + HIGH + 68
-    canvas = Canvas("crates", "The crates in groups, with arrows to what each stands on", low + 74)
+    low = top_of(0) + HIGH + 58
+    canvas = Canvas("crates", "The crates in groups, with arrows to what each stands on", low + 108)
     draw_groups(canvas)
     draw_arrows(canvas, stands_on(), where)
     for name, (x, y) in where.items():
-        size = 17 if len(name) < 13 else 15
+        size = 17 if len(name) < 13 else 16
         style = "thick" if name in FOR_C else "thin"
         canvas.box(x - width(name) / 2, y, width(name), HIGH, style, "white")
         canvas.text(x, y + 24, name, size, "middle", code=True, within=width(name) - 6)
-    for number, line in enumerate((
-        "A colour is a group. An arrow leads to what a crate stands on; it is left out where others"
-        " lead the same way.",
-        "Thick: the libraries for C. No arrow leads from the verifiers to the store.",
-        "Not drawn: crates of tests, mst_bench and mst_cookbook, which stand at the top.",
-    )):
-        canvas.text(20, low + 28 * number, line, 16)
+    says = "the two crates of which the libraries for C are made, each with all that it stands on"
+    canvas.legend(20, low, [("thick", says)])
+    canvas.lines(20, low + 38, NOTES)
     return canvas

@@ -1,13 +1,13 @@
 """A put while a reader pins: the words of the table, step by step as in docs/PROTOCOL.md."""
-from .canvas import TINT, WIDTH, Canvas
+from .canvas import WIDTH, Canvas
 
 PASSES, READER, WRITER = 4, 3, 1
 # A store of n passes has the records 0 to n + 1. A writer asks all but the current one, and the
 # version goes into the last one that is found drained.
 LAST = PASSES + 1
 LEFT = {
-    "pass": 44, "step": 112, "deed": 172, "turn": 524, "slot": 592, "current": 678, "done": 826,
-    "record": 926, "pins": 1098,
+    "pass": 44, "step": 106, "deed": 206, "turn": 542, "slot": 604, "current": 688, "done": 834,
+    "record": 930, "pins": 1100,
 }
 HEADS = {
     "turn": ("", "turn"), "slot": ("", "slot"), "current": ("", "current"),
@@ -24,12 +24,15 @@ def mask(number):
 
 
 BIT = mask(READER)
+LOOKS = [("thick", "what the step changes")]
 CAPTION = [
-    f"From its pin to its unpin (thick line) pass {READER} reads record 0 and the rows of its"
-    " version. No step changes them.",
+    f"From its pin to its unpin (thick line at the left) pass {READER} reads record 0 and the rows of"
+    " its version. No step changes them.",
+    "step: its number in the list 'A read' or 'A write' on this page.",
     "current: the current record's number, and a mask of pins: bits 1, 2, 4, 8 for passes 1 to 4.",
-    f"step: its number in 'A write' (pass {WRITER}) or in 'A read' (pass {READER})."
-    " Boxed: what the step changes.",
+    f"record {LAST}: a store of {PASSES} passes has the records 0 to {LAST}. The write finds that no"
+    f" pass pins 1 to {LAST}, and uses the last one for the new version. Record 0, which the reader"
+    " pins, keeps the old version.",
 ]
 
 
@@ -88,13 +91,18 @@ STEPS = [
 ]
 
 
+def step_name(who, number):
+    """A step's number after the list of docs/PROTOCOL.md that has it."""
+    return f"{'read' if who == READER else 'write'} {number}"
+
+
 def draw_row(canvas, y, cells, before):
     """Draws the words after a step. Those that the step changed stand in a box."""
     for name, after in zip(WORDS, [*WORDS[1:], None]):
         changed = before is not None and cells[name] != before[name]
         width = (LEFT[after] if after else WIDTH - 12) - LEFT[name] - 12
         if changed:
-            canvas.box(LEFT[name] - 7, y - 22, width + 8, 31, fill=TINT)
+            canvas.box(LEFT[name] - 7, y - 22, width + 8, 31, "thick")
         canvas.text(LEFT[name], y, cells[name], 17, bold=changed, within=width + 4)
 
 
@@ -111,7 +119,7 @@ def draw_heads(canvas):
 
 def picture():
     title = "A put while a reader pins: the words of the table after each step"
-    canvas = Canvas("put", title, 652)
+    canvas = Canvas("put", title, 724)
     table = Table()
     draw_heads(canvas)
     before, y = table.cells(), FIRST
@@ -122,13 +130,13 @@ def picture():
         if step:
             step(table)
         canvas.text(LEFT["pass"], y, f"{who}", 17, bold=True)
-        canvas.text(LEFT["step"], y, number)
+        canvas.text(LEFT["step"], y, step_name(who, number), 17, within=LEFT["deed"] - LEFT["step"] - 8)
         canvas.text(LEFT["deed"], y, text, 17, within=LEFT["turn"] - LEFT["deed"] - 12)
         draw_row(canvas, y, table.cells(), before)
         before = table.cells()
     first, last = FIRST + APART - 6, FIRST + len(STEPS) * APART - 6
-    canvas.line([(36, first), (22, first), (22, last), (36, last)], "thick")
+    canvas.line([(36, first), (22, first), (22, last), (36, last)], "bold")
     canvas.line([(12, y + 22), (WIDTH - 12, y + 22)])
-    for number, line in enumerate(CAPTION):
-        canvas.text(22, y + 52 + 28 * number, line)
+    canvas.legend(22, y + 58, LOOKS)
+    canvas.lines(22, y + 98, CAPTION)
     return canvas

@@ -9,11 +9,14 @@ from sharding import split  # found since maps has put its folder on the path
 
 ASKED = b"lima"
 EDGE, GAP, HIGH = 24, 24, 60
-DIRECTORY, KEYS, PROOF = 76, 258, 424
+DIRECTORY, KEYS, PROOF, LEGEND = 82, 290, 470, 610
 CAPTION = [
-    "A shard has the keys from its lower bound on, and below its upper bound, the next split.",
-    "The proof's first part shows what the directory lists for the bound, the second what",
-    "that shard has of the key. The verifier tests that the key lies within the bounds.",
+    "A shard has the keys from its lower bound on, and below its upper bound, which is the next"
+    " shard's lower one.",
+    "The proof's first part shows what the directory lists for the bound, its second part what that"
+    " shard has of the key. The verifier tests too that the key lies within the bounds.",
+    "Digests, bounds and the first four fields are hexadecimal; in brackets stands a bound as text. Of"
+    " a digest only the beginning is shown.",
 ]
 
 
@@ -29,6 +32,11 @@ def name(key):
     return key.decode() if key.isalpha() else "0x" + key.hex()
 
 
+def bound(key):
+    """A bound in hexadecimal digits, with its text if it is letters."""
+    return f"{key.hex()} ({key.decode()})" if key.isalpha() else key.hex()
+
+
 def short(digest):
     return digest.hex()[:8] + ".."
 
@@ -41,25 +49,33 @@ def columns(count):
 
 def draw_directory(canvas, it, where):
     root = f"root digest {short(it.root)}"
-    canvas.text(WIDTH / 2, DIRECTORY - 16, root, 17, "middle", code=True, bold=True)
-    canvas.text(EDGE, DIRECTORY - 16, "the directory, a map", 17, bold=True)
+    canvas.text(WIDTH / 2, 26, root, 17, "middle", code=True, bold=True)
+    canvas.line([(WIDTH / 2, 36), (WIDTH / 2, DIRECTORY - 14)], "thick", arrow=True)
+    canvas.text(EDGE, DIRECTORY - 22, "the directory, a map with a key for each shard", 17, bold=True)
+    right = where[-1][0] + where[-1][1]
+    canvas.box(EDGE - 10, DIRECTORY - 12, right - EDGE + 20, HIGH + 64, "faint", round=6)
     for shard, (left, width) in zip(it.shards, where):
         style = "thick" if shard.has(ASKED) else "thin"
-        canvas.box(left, DIRECTORY, width, HIGH + 14, style)
-        canvas.text(left + 12, DIRECTORY + 30, f"key {name(shard.low)}", 17, bold=True)
-        high = name(shard.high) if shard.high else "no upper bound"
-        text = f"value {short(shard.map.root)} {high}"
-        canvas.text(left + 12, DIRECTORY + 58, text, 15, code=True, within=width - 20)
+        canvas.box(left, DIRECTORY, width, HIGH + 40, style)
+        high = f"upper bound {bound(shard.high)}" if shard.high else "no upper bound"
+        texts = f"value: root digest {short(shard.map.root)},", f"       {high}"
+        canvas.text(left + 12, DIRECTORY + 28, f"key: lower bound {bound(shard.low)}", 16, code=True,
+                    bold=True, within=width - 20)
+        for number, text in enumerate(texts):
+            y = DIRECTORY + 56 + 26 * number
+            canvas.text(left + 12 + 16 * 0.61 * (7 * number), y, text.strip(), 16, code=True,
+                        within=width - 20)
         middle = left + width / 2
-        canvas.line([(middle, DIRECTORY + HIGH + 14), (middle, KEYS - 34)], style, arrow=True)
+        start = (middle, DIRECTORY + HIGH + 40)
+        canvas.line([start, (middle, KEYS - 34)], style, arrow=True)
 
 
 def draw_shards(canvas, it, where):
     for shard, (left, width) in zip(it.shards, where):
         style = "thick" if shard.has(ASKED) else "thin"
         middle = left + width / 2
-        label = f"shard of root {short(shard.map.root)}"
-        canvas.text(middle, KEYS - 12, label, 15, "middle", code=True, within=width)
+        label = f"shard with root digest {short(shard.map.root)}"
+        canvas.text(middle, KEYS - 12, label, 16, "middle", code=True, within=width)
         canvas.box(left, KEYS, width, HIGH + 34, style)
         keys = sorted(shard.map.pairs)
         for row in range(0, len(keys), 2):
@@ -71,37 +87,38 @@ def draw_proof(canvas, it):
     """The frame of the proof, field by field, and where each part is verified."""
     shard = it.shard_of(ASKED)
     parts = it.directory.proof(shard.low), shard.map.proof(ASKED)
+    low = shard.low
     fields = [
-        ("format", f"{it.format + 2:02x}", 110),
-        ("bound", f"{len(shard.low):02x} {shard.low.hex()}", 130),
-        ("length", f"{len(parts[0]):08x}", 150),
-        ("directory's proof", f"{len(parts[0])} bytes, for key {name(shard.low)}", 362),
-        ("shard's proof", f"{len(parts[1])} bytes, for key {name(ASKED)}", 400),
+        ("format", f"{it.format + 2:02x}", 100),
+        ("bound's length", f"{len(low):02x}", 176),
+        ("bound", bound(low), 100),
+        ("length", f"{len(parts[0]):08x}", 126),
+        ("directory's proof", f"{len(parts[0])} bytes, for key {bound(low)}", 340),
+        ("shard's proof", f"{len(parts[1])} bytes, for key {name(ASKED)}", 310),
     ]
-    canvas.text(EDGE, PROOF - 20, f"the proof for the key {name(ASKED)}", 17, bold=True)
-    left = EDGE
+    canvas.text(EDGE, PROOF - 20, f"the proof for the key {name(ASKED)}, its fields", 17, bold=True)
+    left, ends = EDGE, []
     for label, text, width in fields:
         canvas.box(left, PROOF, width, HIGH, "thick" if "proof" in label else "thin")
         canvas.text(left + width / 2, PROOF + 25, label, 16, "middle", bold=True, within=width - 8)
-        canvas.text(left + width / 2, PROOF + 48, text, 15, "middle", code=True, within=width - 8)
+        canvas.text(left + width / 2, PROOF + 48, text, 16, "middle", code=True, within=width - 8)
+        ends.append((left + width / 2, width))
         left += width
-    for (start, end), says in zip(
-        ((EDGE + 390, EDGE + 752), (EDGE + 752, WIDTH - EDGE)),
-        (f"verified for {short(it.root)}", f"verified for {short(shard.map.root)}"),
-    ):
-        middle = (start + end) / 2
-        within = end - start - 8
-        canvas.text(middle, PROOF + HIGH + 28, says, 15, "middle", code=True, within=within)
+    for (middle, width), root in zip(ends[-2:], (it.root, shard.map.root)):
+        says = f"verified for {short(root)}"
+        canvas.text(middle, PROOF + HIGH + 28, says, 16, "middle", code=True, within=width - 8)
 
 
 def picture():
     it = split(1, dict(puts()), splits())
     where = columns(len(it.shards))
-    title = f"A map of {len(dict(puts()))} keys in {len(it.shards)} shards, and a proof"
-    canvas = Canvas("sharded", title, 640)
+    count = len(dict(puts()))
+    title = f"A map of {count} keys in {len(it.shards)} shards, and a proof of it, in format 1"
+    canvas = Canvas("sharded", title, LEGEND + 166)
     draw_directory(canvas, it, where)
     draw_shards(canvas, it, where)
     draw_proof(canvas, it)
-    for number, line in enumerate(CAPTION):
-        canvas.text(EDGE, 560 + 26 * number, line)
+    says = f"what the proof for {name(ASKED)} is made from, and its two parts"
+    canvas.legend(EDGE, LEGEND, [("thick", says)])
+    canvas.lines(EDGE, LEGEND + 42, CAPTION)
     return canvas

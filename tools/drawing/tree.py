@@ -4,10 +4,14 @@ from hashlib import sha256
 from .canvas import Canvas
 from .maps import last_two
 
-CELL, HEIGHT, FIRST, APART = 134, 84, 56, 214
+CELL, HEIGHT, FIRST, APART = 162, 84, 40, 190
+# Where the nodes begin, to the right of what is said of their layers.
+NODES = 168
 CAPTION = [
-    "In an entry: the key, its value, and how the key's SHA-256 begins, which gives the layer.",
-    "Above a node: how its digest begins. The node above holds the digests of its children.",
+    "A box is an entry: its key, its value, and how the key's SHA-256 begins, which gives the layer.",
+    "Boxes that touch are one node, with entries of one layer.",
+    "Above a node stands how its digest begins: the SHA-256 of its text, which holds the digests of"
+    " the nodes below it.",
     "A child hangs at its gap: before the first entry, between two, or after the last.",
 ]
 
@@ -28,7 +32,7 @@ def middle(version, lefts, digest):
 
 def places(version):
     """The left upper corner of each node: the lowest in a row, each other above its children."""
-    lefts, at = {}, 196
+    lefts, at = {}, NODES
     order = in_order(version, version.root)
     for digest in order:
         node = version.nodes[digest]
@@ -47,10 +51,10 @@ def draw_node(canvas, node, digest, left, top, is_root):
         canvas.box(left + index * CELL, top, CELL, HEIGHT)
         canvas.text(middle, top + 25, key.decode(), 19, "middle", bold=True, within=CELL - 8)
         canvas.text(middle, top + 48, "value " + value.decode(), 16, "middle", within=CELL - 8)
-        start = sha256(key).hexdigest()[:6]
-        canvas.text(middle, top + 71, start + "..", 16, "middle", code=True, within=CELL - 8)
+        start = f"SHA-256 {sha256(key).hexdigest()[:5]}.."
+        canvas.text(middle, top + 71, start, 16, "middle", code=True, within=CELL - 4)
     middle = left + len(node.keys) * CELL / 2
-    label = ("root digest " if is_root else "") + digest.hex()[:8] + ".."
+    label = ("root digest " if is_root else "digest ") + digest.hex()[:8] + ".."
     canvas.text(middle, top - 8, label, 16, "middle", code=True, bold=is_root)
 
 
@@ -69,16 +73,15 @@ def picture():
     version, _, _ = last_two()
     where = places(version)
     highest = version.nodes[version.root].layer
-    title = f"The tree of a map of {len(version.pairs)} keys"
-    canvas = Canvas("tree", title, FIRST + highest * APART + 202)
+    title = f"The tree of a map of {len(version.pairs)} keys in format 1"
+    canvas = Canvas("tree", title, FIRST + highest * APART + 228)
     for layer in range(highest + 1):
         top = FIRST + (highest - layer) * APART
         canvas.text(24, top + 36, f"layer {layer}", 19, bold=True)
         zeros = "no digit 0" if not layer else f"{layer} digit{'s' * (layer > 1)} 0"
-        canvas.text(24, top + 60, zeros + " in front", 15, within=168)
+        canvas.lines(24, top + 60, ["SHA-256 begins", f"with {zeros}"], 16, 22)
     draw_edges(canvas, version, where)
     for digest, (left, top) in where.items():
         draw_node(canvas, version.nodes[digest], digest, left, top, digest == version.root)
-    for number, line in enumerate(CAPTION):
-        canvas.text(24, canvas.height - 72 + 26 * number, line)
+    canvas.lines(24, canvas.height - 96, CAPTION)
     return canvas

@@ -12,7 +12,7 @@ CONTRACTS, DEFINITIONS, CHECKED, PORTED, TOOLCHAIN = 70, 194, 318, 442, 566
 # Each box: its style, its place and width, its name, and what is said in it.
 BOXES = [
     ("thick", LEFT, CONTRACTS, BAND, "contracts", (
-        "what each call promises: clauses between its head and its body",
+        "what each call promises; one law says what all calls of a store do",
         "crates/*/src: ensures, requires",
     )),
     ("thick", LEFT, DEFINITIONS, BAND, "definitions", (
@@ -40,7 +40,7 @@ BOXES = [
         "crates/*/wrong-bodies",
     )),
     ("dashed", RIGHT, DEFINITIONS, COLUMN, "laws and worked cases", (
-        "say what one expects of a definition",
+        "what one expects of a definition",
         "crates/*/src/laws.rt",
     )),
     ("dashed", RIGHT, CHECKED, COLUMN, "tests", (
@@ -49,20 +49,29 @@ BOXES = [
     )),
     ("thick", RIGHT, PORTED, COLUMN, "what is not in Rattle", (
         "tested, and nothing of it is proved",
-        "bindings, verifiers",
+        "bindings, include, verifiers",
+    )),
+    ("dashed", RIGHT, TOOLCHAIN, COLUMN, "tools of the gate", (
+        "look at three things that rest on code",
+        "tools/step_calls and others",
     )),
 ]
+TITLE = "The layers of trust: what has to be read or believed, and what is checked"
 LEGEND = [
     ("thick", "read it, or take it on trust"),
-    ("thin", "the machine has checked it: nobody need read it"),
-    ("dashed", "shows that clauses say enough, or tests what they do not say"),
+    ("thin", "the machine checks it; apart from three things, nobody need read it for what callers see"),
+    ("dashed", "shows that clauses say enough, or looks at what they do not say"),
+]
+NOTES = [
+    "The three things: how often steps ask other passes, that memory is refused only where there is"
+    " none, and that the point of a read lies within its call (below, 'What rests on code').",
 ]
 
 
 def see_that_folders_exist():
     """Refuses a box that names folders of which there are none."""
     for _, _, _, _, _, (_, names) in BOXES:
-        for name in names.partition(":")[0].split(", "):
+        for name in names.partition(":")[0].partition(" and ")[0].split(", "):
             is_path = "toolchain" not in name and "folder" not in name
             if is_path and not glob.glob(os.path.join(TOP, name)):
                 sys.exit(f"tools/drawing/trust.py names {name}, and there is none")
@@ -72,18 +81,18 @@ def draw_box(canvas, style, left, top, width, name, says):
     canvas.box(left, top, width, HIGH, style, round=6)
     canvas.text(left + 16, top + 28, name, 18, bold=True, within=width - 24)
     canvas.text(left + 16, top + 52, says[0], 16, within=width - 24)
-    canvas.text(left + 16, top + 75, says[1], 15, code=True, within=width - 24)
+    canvas.text(left + 16, top + 75, says[1], 16, code=True, within=width - 24)
 
 
 def draw_arrow(canvas, x, start, end, says):
     """An arrow from one layer to the next, with what it stands for."""
     canvas.line([(x, start), (x, end)], arrow=True)
-    canvas.text(x + 12, (start + end) / 2 + 6, says, 15)
+    canvas.text(x + 12, (start + end) / 2 + 6, says, 16)
 
 
 def picture():
     see_that_folders_exist()
-    canvas = Canvas("trust", "The layers of trust", 784)
+    canvas = Canvas("trust", TITLE, 844)
     canvas.text(LEFT, 34, "what a proof rests on, from what a caller reads down", 17, bold=True)
     canvas.text(RIGHT, 34, "what else is there", 17, bold=True)
     for box in BOXES:
@@ -91,11 +100,9 @@ def picture():
     draw_arrow(canvas, 210, CONTRACTS + HIGH, DEFINITIONS, "cite")
     draw_arrow(canvas, 210, CHECKED, DEFINITIONS + HIGH, "keeps what contracts say in these words")
     draw_arrow(canvas, 590, CHECKED, DEFINITIONS + HIGH, "show that it does")
-    draw_arrow(canvas, 400, CHECKED + HIGH, PORTED, "rest on")
-    draw_arrow(canvas, 400, PORTED + HIGH, TOOLCHAIN, "are checked and built by")
+    draw_arrow(canvas, 210, CHECKED + HIGH, PORTED, "rests on")
+    draw_arrow(canvas, 590, CHECKED + HIGH, PORTED, "rest on")
+    draw_arrow(canvas, 210, PORTED + HIGH, TOOLCHAIN, "are checked and built by, as all above")
     top = TOOLCHAIN + HIGH + 42
-    for style, says in LEGEND:
-        canvas.box(LEFT, top - 19, 52, 26, style)
-        canvas.text(LEFT + 68, top, says, 16)
-        top += 36
+    canvas.lines(LEFT, canvas.legend(LEFT, top, LEGEND) + 6, NOTES)
     return canvas

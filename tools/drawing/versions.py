@@ -6,7 +6,16 @@ the head stands last."""
 from .canvas import WIDTH, Canvas
 from .maps import last_two
 
-ROW, HEIGHT, TOP, APART, EDGE, BETWEEN = 80, 40, 92, 146, 20, 310
+ROW, HEIGHT, TOP, APART, EDGE, BETWEEN = 80, 40, 80, 140, 20, 310
+
+# How far from the middle of a shared node a link of one version ends.
+ASIDE = {"dashed": -16, "thick": 16}
+NOTES = [
+    "A box is a row. A node has one for each entry (a key and its value), and one for itself, its"
+    " head.",
+    "An arrow is a link to a node: an entry's to the keys just before its own, a head's to those"
+    " after all entries.",
+]
 
 
 class Placed:
@@ -86,7 +95,9 @@ def draw_links(canvas, placed):
             if child is not None:
                 below = placed[child]
                 start = (one.gap(gap), one.top + HEIGHT)
-                canvas.line([start, (below.middle(), below.top - 3)], one.style, arrow=True)
+                aside = ASIDE.get(one.style, 0) if below.style != one.style else 0
+                end = (below.middle() + aside, below.top - 3)
+                canvas.line([start, end], one.style, arrow=True)
 
 
 def draw_legend(canvas, counts, old, top):
@@ -95,12 +106,8 @@ def draw_legend(canvas, counts, old, top):
         "thin": "rows that both versions have",
         "thick": "rows that the put wrote, which were free: one path, with the new entry",
     }
-    for style, text in says.items():
-        canvas.box(20, top - 19, 52, 26, style)
-        canvas.text(88, top, f"{counts[style]} {text}", 17)
-        top += 36
-    says = "An entry has the link of the tree before it, the head that of the tree after all entries."
-    canvas.text(20, top, says, 17)
+    top = canvas.legend(20, top, [(it, f"{counts[it]} {text}") for it, text in says.items()])
+    canvas.lines(20, top + 8, NOTES)
 
 
 def picture():
@@ -110,8 +117,8 @@ def picture():
     for one in placed.values():
         counts[one.style] += one.rows
     legend = TOP + old.nodes[old.root].layer * APART + HEIGHT + 58
-    title = f"Two versions of a map share rows: a put of {key} copied one path"
-    canvas = Canvas("versions", title, legend + 128)
+    title = f"A put of {key} copies one path of the tree; both versions share all other rows"
+    canvas = Canvas("versions", title, legend + 162)
     draw_links(canvas, placed)
     for one in placed.values():
         one.draw(canvas)
