@@ -3,29 +3,35 @@ docs/pictures/chosen.tsv, by bench/limits/run."""
 import os
 import sys
 
-from .canvas import INK, TINT, Canvas
+from .canvas import Canvas
 from .curves import Plot, apart, scale
 from .maps import TOP
 
-LEFT, ACROSS, NEXT, UPPER, LOWER = 104, 196, 372, 362, 702
+LEFT, ACROSS, NEXT, UPPER, LOWER = 104, 190, 386, 346, 706
 # What is drawn from left to right, what it is called, and by how much its figures are divided.
 PANELS = [
-    ("put", "put of a new value, microseconds", 1_000),
-    ("get", "get, microseconds", 1_000),
+    ("put", "put of a new value, µs", 1_000),
+    ("get", "get, µs", 1_000),
     ("proof bytes", "a proof, kilobytes", 1_000),
 ]
 LOOKS = {
-    "chosen": ("thick", "square", "chosen"),
-    "tagged": ("dashed", "diamond", "with a tag"),
-    "random": ("thin", "disc", "random"),
+    "chosen": ("warm", "square", "chosen"),
+    "tagged": ("broken", "diamond", "with a tag"),
+    "random": ("thick", "disc", "random"),
 }
 LAYERS = 3
-CELL, HIGH, TREE = 20, 26, 84
+CELL, HIGH, TREE = 20, 26, 58
+LEGEND = [
+    ("thick", "random keys"),
+    ("broken", "chosen keys with a tag at the end, made by a secret: they are random again"),
+    ("warm", "keys that an attacker chose, all of layer 0"),
+]
 CAPTION = [
-    "Such keys are easy to find: of four random keys three have a SHA-256 that begins with no digit"
-    " 0 in either format.",
-    "A tag at the end of each key, made by a secret, makes them random again; so does a hash by a"
-    " secret, in place of the key.",
+    "All scales are of powers of ten, and the upward ones alike. µs: microseconds; kilobytes: of 1,000"
+    " bytes.",
+    "Such keys are easy to find: 15 of 16 random keys have layer 0 in format 1, 3 of 4 in format 2"
+    " (these in both).",
+    "A hash by a secret, in place of the key, helps as a tag does.",
 ]
 
 
@@ -57,7 +63,7 @@ def see_that_the_page_tells_them(found):
                          "docs/pictures/chosen.tsv")
 
 
-def draw_node(canvas, middle, top, entries, style="thin"):
+def draw_node(canvas, middle, top, entries, style):
     """A node: a cell for each entry."""
     for place in range(entries):
         canvas.box(middle + (place - entries / 2) * CELL, top, CELL, HIGH, style)
@@ -67,43 +73,43 @@ def draw_random_tree(canvas, left, right):
     """A tree of three layers."""
     middle, apart_by = (left + right) / 2, (right - left) / 3
     tops = [TREE + 60 * layer for layer in range(LAYERS)]
-    draw_node(canvas, middle, tops[0], 2)
+    draw_node(canvas, middle, tops[0], 2, "thick")
     lower = [middle + (place - 1) * apart_by for place in range(3)]
     for place, x in enumerate(lower):
         start = middle + (place - 1) * CELL
         canvas.line([(start, tops[0] + HIGH), (x, tops[1])], arrow=True)
-        draw_node(canvas, x, tops[1], 1)
+        draw_node(canvas, x, tops[1], 1, "thick")
         for side in (-1, 1):
             leaf = x + side * apart_by / 4
             canvas.line([(x + side * CELL / 2, tops[1] + HIGH), (leaf, tops[2])], arrow=True)
-            draw_node(canvas, leaf, tops[2], 3)
+            draw_node(canvas, leaf, tops[2], 3, "thick")
 
 
 def draw_trees(canvas):
-    canvas.text(24, 40, "random keys: many nodes, of some 16 entries each", 17, bold=True)
+    canvas.text(24, 34, "random keys: many short nodes", 17, bold=True)
     draw_random_tree(canvas, 24, 560)
-    canvas.text(640, 40, "chosen keys: one node has all of them", 17, bold=True)
-    draw_node(canvas, 904, TREE + 120, 26, "thick")
+    canvas.text(640, 34, "chosen keys: one node has all of them", 17, bold=True)
+    draw_node(canvas, 904, TREE + 120, 26, "warm")
+    canvas.lines(640, 66, [
+        "A put copies each entry of the nodes on its path, and hashes their texts. A proof has the whole"
+        " texts. A get passes the entries before its key, one after the other.",
+    ], 16, 24)
     for number, line in enumerate((
-        "A put copies each entry of the nodes on its path, and",
-        "hashes their texts. A proof has the whole texts. A get",
-        "passes the entries before its key, one after the other.",
+        "A path: a few short nodes. On average a node has",
+        "16 entries in format 1 and 4 in format 2; drawn are fewer.",
     )):
-        canvas.text(640, 72 + 24 * number, line, 16)
-    canvas.text(24, TREE + 186, "A path: a few short nodes.", 16)
-    canvas.text(640, TREE + 186, "A path: the whole map.", 16)
+        canvas.text(24, TREE + 178 + 24 * number, line, 16)
+    canvas.text(640, TREE + 178, "A path: one node, with the whole map.", 16)
 
 
-def draw_panel(canvas, place, title, kinds, divided):
+def draw_panel(canvas, place, title, points, high):
     """The curves of one figure, with their names where they end."""
-    points = {kind: {keys: it / divided for keys, it in kinds[kind].items()} for kind in LOOKS}
     numbers = sorted(points["random"])
-    high = scale([it for each in points.values() for it in each.values()])
     plot = Plot(canvas, place, (numbers[0], numbers[-1]), high, 20)
     plot.draw_times()
     plot.draw_keys(numbers, 1_000)
-    canvas.text(plot.left - 70, UPPER - 24, title, 17, bold=True)
-    canvas.text((plot.left + plot.right) / 2, LOWER + 60, "thousands of keys", 17, "middle")
+    canvas.text(plot.left - 80, UPPER - 24, title, 17, bold=True)
+    canvas.text((plot.left + plot.right) / 2, LOWER + 56, "thousands of keys", 16, "middle")
     ends = [plot.draw_curve(points[it].items(), LOOKS[it][:2], 6)[-1] for it in LOOKS]
     for kind, (x, y), level in zip(LOOKS, ends, apart([y for _, y in ends], 22)):
         canvas.line([(x + 12, y), (plot.right + 6, level)], "faint")
@@ -111,14 +117,22 @@ def draw_panel(canvas, place, title, kinds, divided):
         canvas.text(plot.right + 10, level + 6, name, 16, bold=kind == "chosen")
 
 
+def points_of(kinds, divided):
+    """For each kind of keys that is drawn its figures, by numbers of keys."""
+    return {kind: {keys: it / divided for keys, it in kinds[kind].items()} for kind in LOOKS}
+
+
 def picture():
     found = figures()
     see_that_the_page_tells_them(found)
-    canvas = Canvas("chosen", "Keys that an attacker chooses: one node has all of them", 844)
+    canvas = Canvas("chosen", "Keys that an attacker chooses: one node has all of them", 996)
     draw_trees(canvas)
-    for number, (call, title, divided) in enumerate(PANELS):
+    points = {call: points_of(found[call], divided) for call, _, divided in PANELS}
+    high = scale([
+        it for kinds in points.values() for each in kinds.values() for it in each.values()
+    ])
+    for number, (call, title, _) in enumerate(PANELS):
         left = LEFT + number * NEXT
-        draw_panel(canvas, (left, left + ACROSS, UPPER, LOWER), title, found[call], divided)
-    for number, line in enumerate(CAPTION):
-        canvas.text(20, 800 + 26 * number, line, 16)
+        draw_panel(canvas, (left, left + ACROSS, UPPER, LOWER), title, points[call], high)
+    canvas.lines(20, canvas.legend(20, LOWER + 108, LEGEND) + 6, CAPTION)
     return canvas

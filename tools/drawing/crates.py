@@ -166,7 +166,7 @@ def picture():
     for name, (x, y) in where.items():
         size = 17 if len(name) < 13 else 16
         style = "thick" if name in FOR_C else "thin"
-        canvas.box(x - width(name) / 2, y, width(name), HIGH, style, "white")
+        canvas.box(x - width(name) / 2, y, width(name), HIGH, style)
         canvas.text(x, y + 24, name, size, "middle", code=True, within=width(name) - 6)
     says = "the two crates of which the libraries for C are made, each with all that it stands on"
     canvas.legend(20, low, [("thick", says)])

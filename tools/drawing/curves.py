@@ -28,14 +28,13 @@ class Plot:
         low, high = (round(math.log10(it)) for it in self.times)
         return [10 ** power for power in range(low, high + 1)]
 
-    def draw_times(self, has_labels=True):
+    def draw_times(self):
         """The upward scale, with a line for each power of ten."""
         for time in self.powers():
             y = self.up(time)
             style = "thin" if time == self.times[0] else "faint"
             self.canvas.line([(self.left, y), (self.right, y)], style)
-            if has_labels:
-                self.canvas.text(self.left - 12, y + 6, f"{time:,}", 17, "end")
+            self.canvas.text(self.left - 12, y + 6, f"{time:,}", 17, "end")
         self.canvas.line([(self.left, self.upper), (self.left, self.lower)])
 
     def draw_keys(self, numbers, unit=1):

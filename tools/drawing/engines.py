@@ -1,11 +1,11 @@
-"""The time of a put, a get and a range by the number of keys, of the store and of other engines,
-from docs/pictures/engines.tsv."""
+"""The time of calls of the store and of other engines, by the number of keys, from
+docs/pictures/engines.tsv, and of puts by the size of a batch, from the tables of docs/SPEED.md."""
 from .canvas import Canvas
 from .curves import Plot, apart, scale
-from .figures import CALLS, figures, see_that_the_page_tells_them
+from .figures import batches, figures, see_that_the_page_tells_them
 
-LEFT, ACROSS, NEXT, UPPER, LOWER = 104, 250, 368, 92, 542
-PANELS = ["put", "get", "range"]
+LEFT, ACROSS, NEXT, UPPER, HIGH, BELOW = 94, 196, 394, 62, 400, 540
+READS = {"get": "get", "range": "range of 100 pairs", "prove": "prove"}
 LOOKS = {
     "store": ("thick", "square"),
     "LMDB": ("thin", "disc"),
@@ -13,38 +13,53 @@ LOOKS = {
     "std::map": ("dashed", "diamond"),
 }
 CAPTION = [
-    "Keys of 16 bytes, values of 32, from C; the least times of one run. Both scales are of powers of"
-    " ten.",
+    "ns: nanoseconds of one call, or of one put of a batch. All scales are of powers of ten; those of"
+    " time are alike.",
+    "Keys of 16 bytes, values of 32, from C; the least times of a run. Batches are of another run than"
+    " the rest.",
     "The store alone has a root digest and proofs: the hashes for these are most of its put.",
 ]
 
 
-def draw_panel(canvas, plot, title, engines):
-    """The curves of one call, with their names where they end."""
-    numbers = sorted({keys for times in engines.values() for keys in times})
-    plot.draw_times(has_labels=plot.left == LEFT)
-    plot.draw_keys(numbers, 1_000)
-    canvas.text(plot.left, UPPER - 24, title, 17, bold=True)
-    canvas.text((plot.left + plot.right) / 2, LOWER + 60, "thousands of keys", 17, "middle")
+def panels():
+    """What is drawn: for each place its title, its numbers from left to right with their unit and
+    what they count, and the times of each engine at these numbers."""
+    found = figures()
+    upper = [("put of a new value", 1_000, "thousands of keys", found["put"])]
+    for keys, engines in batches().items():
+        upper.append((f"puts in batches, {keys:,} keys", 1, "puts in a batch", engines))
+    lower = [(it, 1_000, "thousands of keys", found[call]) for call, it in READS.items()]
+    return [upper, lower]
+
+
+def draw_panel(canvas, place, times, panel):
+    """The curves of one panel, with their names where they end."""
+    title, unit, says, engines = panel
+    numbers = sorted({it for each in engines.values() for it in each})
+    plot = Plot(canvas, place, (numbers[0], numbers[-1]), times, 20)
+    plot.draw_times()
+    plot.draw_keys(numbers, unit)
+    canvas.text(plot.left - 76, plot.upper - 24, title + ", ns", 17, bold=True)
+    canvas.text((plot.left + plot.right) / 2, plot.lower + 56, says, 16, "middle")
     names = sorted(engines, key=lambda it: it == "store")  # which then lies above the others
-    ends = [plot.draw_curve(engines[it].items(), LOOKS[it], 6)[-1] for it in names]
+    ends = [plot.draw_curve(sorted(engines[it].items()), LOOKS[it], 6)[-1] for it in names]
     for engine, (x, y), high in zip(names, ends, apart([y for _, y in ends], 22)):
-        canvas.line([(x + 12, y), (plot.right + 6, high)], "faint")
-        canvas.text(plot.right + 12, high + 6, engine, 16, bold=engine == "store")
+        canvas.line([(x + 12, y), (plot.right + 4, high)], "faint")
+        canvas.text(plot.right + 8, high + 6, engine, 16, bold=engine == "store")
 
 
 def picture():
     see_that_the_page_tells_them()
-    found = {call: figures()[call] for call in PANELS}
-    points = [it for engines in found.values() for each in engines.values() for it in each.items()]
-    keys, times = [keys for keys, _ in points], scale([time for _, time in points])
-    canvas = Canvas("engines", "Nanoseconds of one call of the store and of other engines", 682)
-    canvas.text(20, 28, "nanoseconds of one call", 17, bold=True)
-    for number, call in enumerate(PANELS):
-        left = LEFT + number * NEXT
-        place = (left, left + ACROSS, UPPER, LOWER)
-        plot = Plot(canvas, place, (min(keys), max(keys)), times, 24)
-        draw_panel(canvas, plot, CALLS[call], found[call])
-    for number, line in enumerate(CAPTION):
-        canvas.text(20, 640 + 26 * number, line, 16)
+    rows = panels()
+    times = scale([
+        it for row in rows for _, _, _, engines in row for each in engines.values()
+        for it in each.values()
+    ])
+    canvas = Canvas("engines", "The time of calls of the store and of other engines", 1180)
+    for down, row in enumerate(rows):
+        upper = UPPER + down * BELOW
+        for across, panel in enumerate(row):
+            left = LEFT + across * NEXT
+            draw_panel(canvas, (left, left + ACROSS, upper, upper + HIGH), times, panel)
+    canvas.lines(20, 1104, CAPTION)
     return canvas

@@ -1,5 +1,6 @@
 """The times of docs/pictures/engines.tsv, and the table of docs/SPEED.md that tells them."""
 import os
+import re
 import sys
 
 from .maps import TOP
@@ -25,6 +26,34 @@ def figures():
     return found
 
 
+PAGE = os.path.join(TOP, "docs", "SPEED.md")
+
+
+def batches():
+    """For each number of keys for which docs/SPEED.md has a table of other calls, and for each
+    engine: the nanoseconds of a put in batches, by how many puts a batch has."""
+    found, keys, engines = {}, None, []
+    with open(PAGE, encoding="utf-8") as file:
+        for line in file:
+            first, *cells = [it.strip() for it in line.strip().strip("|").split("|")]
+            head = re.fullmatch(r"nanoseconds, ([\d,]+) keys", first)
+            size = re.fullmatch(r"put of a batch of ([\d,]+)", first)
+            if head:
+                keys, engines = whole(head[1]), cells
+            elif size and keys:
+                for engine, cell in zip(engines, cells):
+                    times = found.setdefault(keys, {}).setdefault(engine, {})
+                    times[whole(size[1])] = whole(cell)
+            elif not line.strip():
+                keys = None
+    return found
+
+
+def whole(text):
+    """A number that is written with commas."""
+    return int(text.replace(",", ""))
+
+
 def row(*cells):
     return f"| {' | '.join(cells)} |"
 
@@ -45,7 +74,7 @@ def table():
 
 def see_that_the_page_tells_them():
     """Refuses figures of which docs/SPEED.md has another table."""
-    with open(os.path.join(TOP, "docs", "SPEED.md"), encoding="utf-8") as file:
+    with open(PAGE, encoding="utf-8") as file:
         if table() + "\n" not in file.read():
             sys.exit("'Time' in docs/SPEED.md and docs/pictures/engines.tsv tell other figures: "
                      "tools/draw --table prints the table of the latter")

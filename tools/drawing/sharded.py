@@ -114,7 +114,7 @@ def picture():
     where = columns(len(it.shards))
     count = len(dict(puts()))
     title = f"A map of {count} keys in {len(it.shards)} shards, and a proof of it, in format 1"
-    canvas = Canvas("sharded", title, LEGEND + 166)
+    canvas = Canvas("sharded", title, LEGEND + 178)
     draw_directory(canvas, it, where)
     draw_shards(canvas, it, where)
     draw_proof(canvas, it)

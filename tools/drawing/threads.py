@@ -3,32 +3,31 @@ docs/pictures/threads.tsv, by bench/store/run."""
 import os
 import sys
 
-from .canvas import INK, TINT, Canvas
+from .canvas import DARK_GREY, INK, LIGHT_GREY, TINT, Canvas
 from .figures import row
 from .maps import TOP
 
-UPPER, LOWER = 96, 470
+UPPER, LOWER = 76, 450
 # For readers and writers: where their columns begin and end from left to right, what is counted,
-# in which unit, and for each way of theirs what it is called, in the table of docs/STORE_C.md too.
+# in which unit, what the second number of a column is called, and for each way of theirs what it is
+# called, in the table of docs/STORE_C.md too. Reads are blue, writes grey.
 PANELS = {
-    "readers": (92, 640, "gets a second, in millions", 1_000_000, {
+    "readers": (112, 640, "gets a second, in millions", 1_000_000, ("time of", "a get"), {
         "held": ("of a pinned version", INK),
         "newest": ("of the newest version", TINT),
         "beside": ("of the newest version, while another thread puts", "white"),
     }),
-    "writers": (744, 1184, "puts a second, in thousands", 1_000, {
-        "put": ("`mst_put`", INK),
-        "mutex": ("a mutex around `mst_try_put`", TINT),
+    "writers": (744, 1184, "puts a second, in thousands", 1_000, ("slowest", "writer"), {
+        "put": ("`mst_put`", DARK_GREY),
+        "mutex": ("a mutex around `mst_try_put`", LIGHT_GREY),
     }),
 }
 CAPTION = [
     "One store of 1,000 keys, a pass for each thread, four processors. A get of the newest version"
-    " pins and unpins it,",
-    "by two steps on words that all threads share; where a pin is kept, a get makes none. Writers take"
-    " turns, so more",
-    "of them make no more puts. Below a column: of readers the processor time of a get, as a multiple"
-    " of a lone",
-    "reader's; of writers the puts of the slowest one as a part of the fastest one's.",
+    " pins and unpins it, by two steps on words that all threads share; where a pin is kept, a get"
+    " makes none. Writers take turns, so more of them make no more puts.",
+    "time of a get: processor time, as a multiple of a lone reader's.",
+    "slowest writer: its puts, as a part of those of the fastest one.",
 ]
 
 
@@ -43,11 +42,15 @@ def figures():
     return found
 
 
-def see_that_the_page_tells_them(found):
-    """Refuses figures of which docs/STORE_C.md has other rows."""
+def told():
+    """The text of the page that has the figures as tables."""
     with open(os.path.join(TOP, "docs", "STORE_C.md"), encoding="utf-8") as file:
-        page = file.read()
-    for who, (_, _, _, _, ways) in PANELS.items():
+        return file.read()
+
+
+def see_that_the_page_tells_them(found, page):
+    """Refuses figures of which docs/STORE_C.md has other rows."""
+    for who, (*_, ways) in PANELS.items():
         for how, each in found[who].items():
             cells = [f"{calls:,} ({beside})" for calls, beside in each.values()]
             if row(ways[how][0], *cells) not in page:
@@ -76,39 +79,52 @@ def draw_columns(canvas, left, right, most, unit, ways, found):
     """For each number of threads a column for each way."""
     numbers = sorted({it for each in found.values() for it in each})
     wide = (right - left) / len(numbers)
-    column = min(60, (wide - 16) / len(found))
+    column = min(60, (wide - 12) / len(found))
     for place, number in enumerate(numbers):
         x = left + place * wide + (wide - column * len(found)) / 2
         for how, each in found.items():
             calls, beside = each[number]
             y = LOWER - (LOWER - UPPER) * calls / most
             canvas.box(x + 2, y, column - 4, LOWER - y, "thin", ways[how][1])
-            canvas.text(x + column / 2, y - 7, f"{calls / unit:.3g}", 15, "middle", halo=True)
-            canvas.text(x + column / 2, LOWER + 22, beside.replace(" %", "%"), 15, "middle")
+            canvas.text(x + column / 2, y - 7, f"{calls / unit:.3g}", 16, "middle", halo=True)
+            canvas.text(x + column / 2, LOWER + 68, beside.replace(" %", "%"), 16, "middle")
             x += column
-        canvas.text(left + (place + 0.5) * wide, LOWER + 50, f"{number}", 17, "middle", bold=True)
+        canvas.text(left + (place + 0.5) * wide, LOWER + 28, f"{number}", 17, "middle", bold=True)
 
 
 def draw_legend(canvas, left, ways, found):
     for number, how in enumerate(found):
         name, fill = ways[how]
-        y = LOWER + 92 + 28 * number
+        y = LOWER + 124 + 30 * number
         canvas.box(left, y - 15, 26, 18, "thin", fill)
         canvas.text(left + 36, y, name.replace("`", ""), 16)
 
 
+def draw_names(canvas, left, who, beside):
+    """What the numbers below the columns are, at the left of them."""
+    canvas.text(left - 8, LOWER + 28, who, 16, "end", bold=True, within=left - 10)
+    for place, line in enumerate(beside):
+        canvas.text(left - 8, LOWER + 59 + 20 * place, line, 16, "end")
+
+
+def is_earlier(page, who):
+    """Whether the page says of figures that they are of an earlier library."""
+    line = next(it for it in page.split("\n") if f"`bench/store/run {who}`" in it)
+    return "of an earlier library" in line
+
+
 def picture():
-    found = figures()
-    see_that_the_page_tells_them(found)
-    canvas = Canvas("threads", "Calls a second by the number of threads", 770)
-    for who, (left, right, title, unit, ways) in PANELS.items():
+    found, page = figures(), told()
+    see_that_the_page_tells_them(found, page)
+    canvas = Canvas("threads", "Calls a second by the number of threads", 798)
+    for who, (left, right, title, unit, beside, ways) in PANELS.items():
         each = {how: found[who][how] for how in ways if how in found[who]}
         most = end_of(max(calls for one in each.values() for calls, _ in one.values()))
-        canvas.text(left - 50, 36, title, 17, bold=True)
+        said = f"{title} (of an earlier library)" if is_earlier(page, who) else title
+        canvas.text(left - 60, 36, said, 17, bold=True)
         draw_scale(canvas, left, right, most, unit)
         draw_columns(canvas, left, right, most, unit, ways, each)
-        canvas.text(left - 8, LOWER + 50, who, 16, "end", within=left - 10)
+        draw_names(canvas, left, who, beside)
         draw_legend(canvas, left, ways, each)
-    for number, line in enumerate(CAPTION):
-        canvas.text(20, 668 + 26 * number, line, 16)
+    canvas.lines(20, 684, CAPTION)
     return canvas
