@@ -1,5 +1,5 @@
-"""A canvas of 1,200 pixels that gives an SVG picture with its title above it, and refuses a text that
-is cut or crowded."""
+"""A canvas of 1,200 pixels that gives an SVG picture with its title above it, and refuses a text
+that is cut or crowded."""
 from html import escape
 
 WIDTH = 1200
@@ -17,9 +17,9 @@ LINES = {
     "dotted": 'stroke-width="2.5" stroke-dasharray="2 6" stroke-linecap="round"',
     "faint": 'stroke-width="1" stroke-opacity="0.35"',
 }
-# Blue is what a picture is about: its legend says what that is. Thick and broken lines are blue, and
-# what they enclose has a tint of it. The warm colour is for what goes wrong. In grey the lines are
-# dark and the tint is light, so both are still told from black and white.
+# Blue is what a picture is about: its legend says what that is. Thick and broken lines are blue,
+# and what they enclose has a tint of it. The warm colour is for what goes wrong. In grey the lines
+# are dark and the tint is light, so both are still told from black and white.
 INK, TINT, WARM, GLOW = "#0b4f8a", "#c8def2", "#a63a00", "#fbdcc8"
 INKS = {"thick": INK, "broken": INK, "warm": WARM}
 HEADS = {"black": "head", INK: "blue-head", WARM: "warm-head"}

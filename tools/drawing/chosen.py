@@ -27,8 +27,8 @@ LEGEND = [
     ("warm", "keys that an attacker chose, all of layer 0"),
 ]
 CAPTION = [
-    "All scales are of powers of ten, and the upward ones alike. µs: microseconds; kilobytes: of 1,000"
-    " bytes.",
+    "All scales are of powers of ten, and the upward ones alike. µs: microseconds; kilobytes: of"
+    " 1,000 bytes.",
     "Such keys are easy to find: 15 of 16 random keys have layer 0 in format 1, 3 of 4 in format 2"
     " (these in both).",
     "A hash by a secret, in place of the key, helps as a tag does.",
@@ -91,8 +91,8 @@ def draw_trees(canvas):
     canvas.text(640, 34, "chosen keys: one node has all of them", 17, bold=True)
     draw_node(canvas, 904, TREE + 120, 26, "warm")
     canvas.lines(640, 66, [
-        "A put copies each entry of the nodes on its path, and hashes their texts. A proof has the whole"
-        " texts. A get passes the entries before its key, one after the other.",
+        "A put copies each entry of the nodes on its path, and hashes their texts. A proof has the"
+        " whole texts. A get passes the entries before its key, one after the other.",
     ], 16, 24)
     for number, line in enumerate((
         "A path: a few short nodes. On average a node has",

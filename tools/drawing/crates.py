@@ -54,8 +54,8 @@ BENT = {
 BOX, HIGH, FIRST, APART = 140, 36, 44, 88
 LAYERS = 15
 NOTES = [
-    "A colour is a group. An arrow leads to what a crate stands on; it is left out where others lead"
-    " the same way. No arrow leads from the verifiers to the store.",
+    "A colour is a group. An arrow leads to what a crate stands on; it is left out where others"
+    " lead the same way. No arrow leads from the verifiers to the store.",
     "Not drawn: crates of tests, mst_bench and mst_cookbook, which stand at the top.",
 ]
 # From a crate's box to the edge of its group: where its name stands, and elsewhere.

@@ -13,10 +13,10 @@ LOOKS = {
     "std::map": ("dashed", "diamond"),
 }
 CAPTION = [
-    "ns: nanoseconds of one call, or of one put of a batch. All scales are of powers of ten; those of"
-    " time are alike.",
-    "Keys of 16 bytes, values of 32, from C; the least times of a run. Batches are of another run than"
-    " the rest.",
+    "ns: nanoseconds of one call, or of one put of a batch. All scales are of powers of ten; those"
+    " of time are alike.",
+    "Keys of 16 bytes, values of 32, from C; the least times of a run. Batches are of another run"
+    " than the rest.",
     "The store alone has a root digest and proofs: the hashes for these are most of its put.",
 ]
 

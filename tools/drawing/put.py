@@ -26,13 +26,13 @@ def mask(number):
 BIT = mask(READER)
 LOOKS = [("thick", "what the step changes")]
 CAPTION = [
-    f"From its pin to its unpin (thick line at the left) pass {READER} reads record 0 and the rows of"
-    " its version. No step changes them.",
+    f"From its pin to its unpin (thick line at the left) pass {READER} reads record 0 and the rows"
+    " of its version. No step changes them.",
     "step: its number in the list 'A read' or 'A write' on this page.",
     "current: the current record's number, and a mask of pins: bits 1, 2, 4, 8 for passes 1 to 4.",
-    f"record {LAST}: a store of {PASSES} passes has the records 0 to {LAST}. The write finds that no"
-    f" pass pins 1 to {LAST}, and uses the last one for the new version. Record 0, which the reader"
-    " pins, keeps the old version.",
+    f"record {LAST}: a store of {PASSES} passes has the records 0 to {LAST}. The write finds that"
+    f" no pass pins 1 to {LAST}, and uses the last one for the new version. Record 0, which the"
+    " reader pins, keeps the old version.",
 ]
 
 
@@ -130,7 +130,8 @@ def picture():
         if step:
             step(table)
         canvas.text(LEFT["pass"], y, f"{who}", 17, bold=True)
-        canvas.text(LEFT["step"], y, step_name(who, number), 17, within=LEFT["deed"] - LEFT["step"] - 8)
+        within = LEFT["deed"] - LEFT["step"] - 8
+        canvas.text(LEFT["step"], y, step_name(who, number), 17, within=within)
         canvas.text(LEFT["deed"], y, text, 17, within=LEFT["turn"] - LEFT["deed"] - 12)
         draw_row(canvas, y, table.cells(), before)
         before = table.cells()

@@ -20,9 +20,9 @@ LEGEND = [
     ("dashed", "is of versions before the new one alone"),
 ]
 NOTES = [
-    "Version v reaches a row exactly when birth ≤ v < death. While the current version or a pinned one"
-    " reaches it, no word of it changes. Between a kill and the publication the current version still"
-    " reaches the dead row.",
+    "Version v reaches a row exactly when birth ≤ v < death. While the current version or a pinned"
+    " one reaches it, no word of it changes. Between a kill and the publication the current"
+    " version still reaches the dead row.",
 ]
 BOX, HIGH, FIRST, APART, TOP_EDGE = 150, 56, 105, 292, 104
 

@@ -15,8 +15,8 @@ CAPTION = [
     " shard's lower one.",
     "The proof's first part shows what the directory lists for the bound, its second part what that"
     " shard has of the key. The verifier tests too that the key lies within the bounds.",
-    "Digests, bounds and the first four fields are hexadecimal; in brackets stands a bound as text. Of"
-    " a digest only the beginning is shown.",
+    "Digests, bounds and the first four fields are hexadecimal; in brackets stands a bound as"
+    " text. Of a digest only the beginning is shown.",
 ]
 
 
@@ -51,21 +51,20 @@ def draw_directory(canvas, it, where):
     root = f"root digest {short(it.root)}"
     canvas.text(WIDTH / 2, 26, root, 17, "middle", code=True, bold=True)
     canvas.line([(WIDTH / 2, 36), (WIDTH / 2, DIRECTORY - 14)], "thick", arrow=True)
-    canvas.text(EDGE, DIRECTORY - 22, "the directory, a map with a key for each shard", 17, bold=True)
+    says = "the directory, a map with a key for each shard"
+    canvas.text(EDGE, DIRECTORY - 22, says, 17, bold=True)
     right = where[-1][0] + where[-1][1]
     canvas.box(EDGE - 10, DIRECTORY - 12, right - EDGE + 20, HIGH + 64, "faint", round=6)
     for shard, (left, width) in zip(it.shards, where):
         style = "thick" if shard.has(ASKED) else "thin"
         canvas.box(left, DIRECTORY, width, HIGH + 40, style)
         high = f"upper bound {bound(shard.high)}" if shard.high else "no upper bound"
-        texts = f"value: root digest {short(shard.map.root)},", f"       {high}"
-        canvas.text(left + 12, DIRECTORY + 28, f"key: lower bound {bound(shard.low)}", 16, code=True,
-                    bold=True, within=width - 20)
-        for number, text in enumerate(texts):
-            y = DIRECTORY + 56 + 26 * number
-            canvas.text(left + 12 + 16 * 0.61 * (7 * number), y, text.strip(), 16, code=True,
-                        within=width - 20)
-        middle = left + width / 2
+        value = f"value: root digest {short(shard.map.root)},"
+        middle, within = left + width / 2, width - 20
+        key = f"key: lower bound {bound(shard.low)}"
+        canvas.text(left + 12, DIRECTORY + 28, key, 16, code=True, bold=True, within=within)
+        canvas.text(left + 12, DIRECTORY + 56, value, 16, code=True, within=within)
+        canvas.text(left + 80, DIRECTORY + 82, high, 16, code=True, within=within - 68)
         start = (middle, DIRECTORY + HIGH + 40)
         canvas.line([start, (middle, KEYS - 34)], style, arrow=True)
 
@@ -78,9 +77,10 @@ def draw_shards(canvas, it, where):
         canvas.text(middle, KEYS - 12, label, 16, "middle", code=True, within=width)
         canvas.box(left, KEYS, width, HIGH + 34, style)
         keys = sorted(shard.map.pairs)
-        for row in range(0, len(keys), 2):
-            text = ", ".join(map(name, keys[row : row + 2]))
-            canvas.text(middle, KEYS + 30 + 14 * row, text, 17, "middle", within=width - 16)
+        rows = [", ".join(map(name, keys[it : it + 2])) for it in range(0, len(keys), 2)]
+        first = KEYS + (HIGH + 34 - 28 * len(rows)) / 2 + 20
+        for row, text in enumerate(rows):
+            canvas.text(middle, first + 28 * row, text, 17, "middle", within=width - 16)
 
 
 def draw_proof(canvas, it):

@@ -8,7 +8,8 @@ CELL, HEIGHT, FIRST, APART = 162, 84, 40, 190
 # Where the nodes begin, to the right of what is said of their layers.
 NODES = 168
 CAPTION = [
-    "A box is an entry: its key, its value, and how the key's SHA-256 begins, which gives the layer.",
+    "A box is an entry: its key, its value, and how the key's SHA-256 begins, which gives the"
+    " layer.",
     "Boxes that touch are one node, with entries of one layer.",
     "Above a node stands how its digest begins: the SHA-256 of its text, which holds the digests of"
     " the nodes below it.",

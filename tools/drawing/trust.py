@@ -59,7 +59,7 @@ BOXES = [
 TITLE = "The layers of trust: what has to be read or believed, and what is checked"
 LEGEND = [
     ("thick", "read it, or take it on trust"),
-    ("thin", "the machine checks it; apart from three things, nobody need read it for what callers see"),
+    ("thin", "the machine checks it; but for three things, nobody need read it to use the calls"),
     ("dashed", "shows that clauses say enough, or looks at what they do not say"),
 ]
 NOTES = [
