@@ -63,8 +63,8 @@ LEGEND = [
     ("dashed", "shows that clauses say enough, or looks at what they do not say"),
 ]
 NOTES = [
-    "The three things: how often steps ask other passes, that memory is refused only where there is"
-    " none, and that the point of a read lies within its call (below, 'What rests on code').",
+    "The three things: how often steps ask other passes, that Memory is returned only where memory"
+    " was refused, and that the point of a read lies within its call (below, 'What rests on code').",
 ]
 
 
