@@ -42,8 +42,9 @@ def batches():
                 keys, engines = whole(head[1]), cells
             elif size and keys:
                 for engine, cell in zip(engines, cells):
-                    times = found.setdefault(keys, {}).setdefault(engine, {})
-                    times[whole(size[1])] = whole(cell)
+                    if cell != "none":
+                        times = found.setdefault(keys, {}).setdefault(engine, {})
+                        times[whole(size[1])] = whole(cell)
             elif not line.strip():
                 keys = None
     return found

@@ -50,7 +50,7 @@ def columns(count):
 def draw_directory(canvas, it, where):
     root = f"root digest {short(it.root)}"
     canvas.text(WIDTH / 2, 26, root, 17, "middle", code=True, bold=True)
-    canvas.line([(WIDTH / 2, 36), (WIDTH / 2, DIRECTORY - 14)], "thick", arrow=True)
+    canvas.line([(WIDTH / 2, 36), (WIDTH / 2, DIRECTORY - 14)], arrow=True)
     says = "the directory, a map with a key for each shard"
     canvas.text(EDGE, DIRECTORY - 22, says, 17, bold=True)
     right = where[-1][0] + where[-1][1]

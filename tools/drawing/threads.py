@@ -109,8 +109,8 @@ def draw_names(canvas, left, who, beside):
 
 def is_earlier(page, who):
     """Whether the page says of figures that they are of an earlier library."""
-    line = next(it for it in page.split("\n") if f"`bench/store/run {who}`" in it)
-    return "of an earlier library" in line
+    lines = [it for it in page.split("\n") if f"`bench/store/run {who}`" in it]
+    return any("of an earlier library" in it for it in lines)
 
 
 def picture():
