@@ -127,33 +127,48 @@ def draw_groups(canvas):
         canvas.text(left + 12, top + 21, name, 16, bold=True, within=right - left - 20)
 
 
-def draw_bent(canvas, name, below, where):
-    """An arrow over a corner: it leaves sideways and ends from above, or the other way round."""
+def bent(name, below, where):
+    """The points of an arrow over a corner: it leaves sideways and ends from above, or the other
+    way round."""
     (x, y), (to_x, to_y) = where[name], where[below]
     corner, at = BENT[name, below]
     across = where[at][1] + HIGH / 2
     if at == name:
         side = width(name) / 2 if corner > x else -width(name) / 2
-        points = [(x + side, across), (corner, across), (corner, to_y)]
-    else:
-        side = width(below) / 2 if corner > to_x else -width(below) / 2
-        points = [(corner, y + HIGH), (corner, across), (to_x + side, across)]
-    canvas.line(points, arrow=True)
+        return [(x + side, across), (corner, across), (corner, to_y)]
+    side = width(below) / 2 if corner > to_x else -width(below) / 2
+    return [(corner, y + HIGH), (corner, across), (to_x + side, across)]
+
+
+def straight(name, below, where):
+    """The points of an arrow straight down."""
+    (x, y), (to_x, to_y) = where[name], where[below]
+    layers = round((to_y - y) / APART)
+    aside = max(-50, min(50, (to_x - x) / (2 + 3 * layers)))
+    return [(x + aside, y + HIGH), (to_x - aside, to_y)]
+
+
+def see_that_none_is_met(points, ends, where):
+    """Refuses an arrow that meets the box of a crate which is none of its ends."""
+    for (x, y), (to_x, to_y) in zip(points, points[1:]):
+        for step in range(201):
+            at, down = x + (to_x - x) * step / 200, y + (to_y - y) * step / 200
+            for name, (middle, top) in where.items():
+                is_in = abs(at - middle) < width(name) / 2 + 4 and top - 4 < down < top + HIGH + 4
+                if is_in and name not in ends:
+                    sys.exit(f"the arrow from {ends[0]} to {ends[1]} meets {name}")
 
 
 def draw_arrows(canvas, crates, where):
     for name, below in arrows(crates):
         if name not in where:
             continue
-        (x, y), (to_x, to_y) = where[name], where[below]
-        if to_y <= y:
+        if where[below][1] <= where[name][1]:
             sys.exit(f"{name} has to be above {below}")
-        if (name, below) in BENT:
-            draw_bent(canvas, name, below, where)
-        else:
-            layers = round((to_y - y) / APART)
-            aside = max(-50, min(50, (to_x - x) / (2 + 3 * layers)))
-            canvas.line([(x + aside, y + HIGH), (to_x - aside, to_y)], arrow=True)
+        way = bent if (name, below) in BENT else straight
+        points = way(name, below, where)
+        see_that_none_is_met(points, (name, below), where)
+        canvas.line(points, arrow=True)
 
 
 def picture():

@@ -64,7 +64,7 @@ LEGEND = [
 ]
 NOTES = [
     "The three things: how often steps ask other passes, that Memory is returned only where memory"
-    " was refused, and that the point of a read lies within its call (below, 'What rests on code').",
+    " was refused, and that a read's point lies within its call (below, 'What rests on code').",
 ]
 
 
