@@ -116,7 +116,8 @@ def is_earlier(page, who):
 def picture():
     found, page = figures(), told()
     see_that_the_page_tells_them(found, page)
-    canvas = Canvas("threads", "Calls a second by the number of threads", 798)
+    below = LOWER + 150 + 30 * max(len(each) for each in found.values())
+    canvas = Canvas("threads", "Calls a second by the number of threads", below + 122)
     for who, (left, right, title, unit, beside, ways) in PANELS.items():
         each = {how: found[who][how] for how in ways if how in found[who]}
         most = end_of(max(calls for one in each.values() for calls, _ in one.values()))
@@ -126,5 +127,5 @@ def picture():
         draw_columns(canvas, left, right, most, unit, ways, each)
         draw_names(canvas, left, who, beside)
         draw_legend(canvas, left, ways, each)
-    canvas.lines(20, 684, CAPTION)
+    canvas.lines(20, below, CAPTION)
     return canvas
