@@ -11,6 +11,12 @@ MODULE = re.compile(r"(pub )?mod (\w+)$")
 IMPL = re.compile(r"impl(?:<.*?>)? (\w+)(?:<.*>)?$", re.DOTALL)
 
 
+def plain(line):
+    """A line without its links to names of the crate, of which there is no page."""
+    line = re.sub(r"\[(`[^`]+`)\]\((?:crate|self|super)::[^)]*\)", r"\1", line)
+    return re.sub(r"\[(`[^`]+`)\](?!\()", r"\1", line)
+
+
 def words_of(item, mark="///"):
     """Words are Markdown already, but for links to names of the crate and hidden lines of code."""
     lines = line_lines([it for it in item.before if not it.startswith("////")], [mark])
@@ -22,7 +28,7 @@ def words_of(item, mark="///"):
         elif is_code and (line.startswith("# ") or line == "#"):
             continue
         else:
-            line = line if is_code else re.sub(r"\[(`[^`]+`)\](?!\()", r"\1", line)
+            line = line if is_code else plain(line)
         out.append(line)
     return joined(trimmed(out))
 
