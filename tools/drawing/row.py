@@ -17,7 +17,7 @@ LEGEND = [
     ("dotted", "may be written, by a write that takes it"),
     ("thick", "is being written, for the version to come"),
     ("thin", "is of the newest version"),
-    ("dashed", "is of versions before the new one alone"),
+    ("dashed", "is only of versions before the new one"),
 ]
 NOTES = [
     "Version v reaches a row exactly when birth ≤ v < death. While the current version or a pinned"

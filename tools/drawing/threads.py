@@ -17,7 +17,7 @@ PANELS = {
         "newest": ("of the newest version", TINT),
         "beside": ("of the newest version, while another thread puts", "white"),
     }),
-    "writers": (744, 1184, "puts a second, in thousands", 1_000, ("slowest", "writer"), {
+    "writers": (744, 1184, "puts a second, in thousands", 1_000, ("slowest", "writer, %"), {
         "put": ("`mst_put`", DARK_GREY),
         "mutex": ("a mutex around `mst_try_put`", LIGHT_GREY),
     }),
@@ -87,7 +87,7 @@ def draw_columns(canvas, left, right, most, unit, ways, found):
             y = LOWER - (LOWER - UPPER) * calls / most
             canvas.box(x + 2, y, column - 4, LOWER - y, "thin", ways[how][1])
             canvas.text(x + column / 2, y - 7, f"{calls / unit:.3g}", 16, "middle", halo=True)
-            canvas.text(x + column / 2, LOWER + 68, beside.replace(" %", "%"), 16, "middle")
+            canvas.text(x + column / 2, LOWER + 68, beside.replace(" %", ""), 16, "middle")
             x += column
         canvas.text(left + (place + 0.5) * wide, LOWER + 28, f"{number}", 17, "middle", bold=True)
 

@@ -64,7 +64,7 @@ LEGEND = [
 ]
 NOTES = [
     "The three things: how often steps ask other passes, that Memory is returned only where memory"
-    " was refused, and that a read's point lies within its call (below, 'What rests on code').",
+    " was refused, and that a call's point, but for a write's, lies within it (below, 'What rests on code').",
 ]
 
 
@@ -98,11 +98,11 @@ def picture():
     for box in BOXES:
         draw_box(canvas, *box)
     draw_arrow(canvas, 210, CONTRACTS + HIGH, DEFINITIONS, "cite")
-    draw_arrow(canvas, 210, CHECKED, DEFINITIONS + HIGH, "keeps what contracts say in these words")
+    draw_arrow(canvas, 210, CHECKED, DEFINITIONS + HIGH, "keeps the clauses, in these words")
     draw_arrow(canvas, 590, CHECKED, DEFINITIONS + HIGH, "show that it does")
     draw_arrow(canvas, 210, CHECKED + HIGH, PORTED, "rests on")
     draw_arrow(canvas, 590, CHECKED + HIGH, PORTED, "rest on")
-    draw_arrow(canvas, 210, PORTED + HIGH, TOOLCHAIN, "are checked and built by, as all above")
+    draw_arrow(canvas, 210, PORTED + HIGH, TOOLCHAIN, "are checked and built by it; so is all above")
     top = TOOLCHAIN + HIGH + 42
     canvas.lines(LEFT, canvas.legend(LEFT, top, LEGEND) + 6, NOTES)
     return canvas
