@@ -195,9 +195,9 @@ def tidy(crate):
 
 
 def faults(crates):
-    """What is wrong with the record of these crates, which have wrong bodies, a line each, and the
-    number of wrong bodies that were tried on the text that stands here."""
-    rows, found, tried = lines(), [], 0
+    """What is wrong with the record of these crates, which have wrong bodies; which of them it
+    lacks, by crate; and the number of those that were tried on the text that stands here."""
+    rows, found, left, tried = lines(), [], [], 0
     for crate in crates:
         now = hashes(crate)
         old = {name: row for (of, name), row in rows.items() if of == crate.name}
@@ -205,11 +205,13 @@ def faults(crates):
         other = sorted(it for it in now.keys() & old.keys() if old[it][-1] != now[it])
         gone = sorted(old.keys() - now.keys())
         tried += len(now) - len(lacking) - len(other)
-        for what, names in (
-            ("not tried", lacking), ("tried on another text", other), ("there are no more", gone),
+        for what, names, of in (
+            ("not tried", lacking, left),
+            ("tried on another text", other, found),
+            ("there are no more", gone, found),
         ):
             if names:
                 some = ", ".join(names[:3]) + (", .." if len(names) > 3 else "")
-                found.append(f"{crate.name}: {len(names)} {what}: {some}")
+                of.append(f"{crate.name}: {len(names)} {what}: {some}")
     strangers = sorted({of for of, _ in rows} - {it.name for it in crates})
-    return found + [f"{it}: the record names no such crate" for it in strangers], tried
+    return found + [f"{it}: the record names no such crate" for it in strangers], left, tried
