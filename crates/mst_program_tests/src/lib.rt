@@ -4,6 +4,4 @@
 #![tactic(auto)]
 
 #[cfg(test)]
-mod confirming;
-#[cfg(test)]
 mod program;

@@ -1,8 +1,8 @@
 //! How many calls a load makes, which its report does not tell: they are counted at its gate.
 use super::outcome_behind;
-use crate::confirming::confirm_at;
 use mst_load::Gate;
-use std::alloc::AllocGlobal;
+use std::alloc::{AllocError, AllocGlobal};
+use std::process::Abort;
 use std::sync::Wait;
 use std::sync::atomic::AtomicU64;
 use std::sync::atomic::Ordering::SeqCst;
@@ -22,38 +22,32 @@ impl Gate for Counter {
     fn answered(&self, _worker: u32, _call: u32) {}
 }
 
-/// The status of the program by the words of a line, and how many calls of a load it made, or
-/// `None` if memory is refused.
+/// The status of the program, and how many calls of a load it made.
 fn status_and_calls<R: Threads + Wait + AllocGlobal + Sync>(
     rt: &R,
     line: &str,
-) -> Option<(u8, u64)> {
+) -> Result<(u8, u64), AllocError> {
     let counter = Counter {
         calls: AtomicU64::new(0),
     };
-    match outcome_behind(rt, line, &counter) {
-        Ok(outcome) => Some((outcome.status, counter.calls.load(SeqCst))),
-        Err(_) => None,
-    }
-}
-
-/// The same of a line with this word for each such mark in it.
-fn with_words<R: Threads + Wait + AllocGlobal + Sync>(
-    rt: &R,
-    line: &str,
-    mark: &str,
-    word: &str,
-) -> Option<(u8, u64)> {
-    match line.replace(rt.alloc(), mark, word) {
-        Ok(spelt) => status_and_calls(rt, spelt.as_str()),
-        Err(_) => None,
-    }
+    let outcome = outcome_behind(rt, line, &counter)?;
+    Ok((outcome.status, counter.calls.load(SeqCst)))
 }
 
 /// Whether a load makes `calls` calls, with each option as two words and as one.
-fn makes<R: Threads + Wait + AllocGlobal + Sync>(rt: &R, line: &str, calls: u64) -> bool {
-    with_words(rt, line, "=", " ") == Some((0, calls))
-        && with_words(rt, line, "=", "=") == Some((0, calls))
+fn makes<R: Threads + Wait + AllocGlobal + Sync>(
+    rt: &R,
+    line: &str,
+    calls: u64,
+) -> Result<bool, AllocError> {
+    for joint in [" ", "="] {
+        let spelt = line.replace(rt.alloc(), "=", joint)?;
+        let (status, made) = status_and_calls(rt, spelt.as_str())?;
+        if status != 0 || made != calls {
+            return Ok(false);
+        }
+    }
+    Ok(true)
 }
 
 /// Each order of the options, and each of three numbers in the place of each other one.
@@ -73,8 +67,8 @@ const LOADS: &[(&str, u64)] = &[
 
 #[test]
 fn loads_make_all_calls(rt: HostRuntime) {
-    for (place, (line, calls)) in LOADS.iter().enumerate() {
-        confirm_at(&rt, makes(&rt, line, *calls), place);
+    for (line, calls) in LOADS {
+        assert!(rt; matches!(makes(&rt, line, *calls), Ok(true)), "{line}");
     }
 }
 
@@ -105,19 +99,25 @@ const STRANGE: &[&str] = &[
     "--calls=5",
 ];
 
-/// Whether the line is refused without a call, with each of the words at the place.
-fn makes_none<R: Threads + Wait + AllocGlobal + Sync>(rt: &R, line: &str) -> bool {
-    for word in STRANGE {
-        if with_words(rt, line, "?", word) != Some((2, 0)) {
-            return false;
-        }
-    }
-    true
+/// Whether words are refused without a call.
+fn makes_none<R: Threads + Wait + AllocGlobal + Sync>(
+    rt: &R,
+    line: &str,
+    word: &str,
+) -> Result<bool, AllocError> {
+    let spoilt = line.replace(rt.alloc(), "?", word)?;
+    let (status, made) = status_and_calls(rt, spoilt.as_str())?;
+    Ok(status == 2 && made == 0)
 }
 
 #[test]
 fn refused_words_make_no_call(rt: HostRuntime) {
-    for (place, line) in SPOILT.iter().enumerate() {
-        confirm_at(&rt, makes_none(&rt, line), place);
+    for line in SPOILT {
+        for word in STRANGE {
+            assert!(rt;
+                matches!(makes_none(&rt, line, word), Ok(true)),
+                "{word} in {line}"
+            );
+        }
     }
 }

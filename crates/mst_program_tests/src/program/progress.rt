@@ -1,15 +1,13 @@
 //! What a load says of its calls while they are made.
 use super::outcome_behind;
-use crate::confirming::confirm_at;
 use mst_load::Gate;
 use mst_program::Progress;
-use std::alloc::{AllocError, AllocGlobal, Global};
+use std::alloc::{AllocError, Global};
 use std::fmt::Display;
 use std::io;
-use std::sync::Wait;
 use std::sync::atomic::AtomicU64;
 use std::sync::atomic::Ordering::SeqCst;
-use std::thread::Threads;
+use std::test::Fail;
 
 /// Takes the lines in place of standard error: how many there were, and how many of them said ten
 /// thousand calls more than the one before.
@@ -78,30 +76,19 @@ const CALLS_AND_LINES: &[(u32, u64)] = &[
 #[test]
 fn each_ten_thousandth_call_is_told(rt: HostRuntime) {
     for (calls, lines) in CALLS_AND_LINES {
-        let told = lines_of(rt.alloc(), *calls);
-        confirm_at(&rt, told == (*lines, *lines), *calls as usize);
+        let (told, right) = lines_of(rt.alloc(), *calls);
+        assert!(rt; told == *lines && right == *lines, "of {calls} calls");
     }
 }
 
 const LINE: &str = "mst load --readers 2 --writers 1 --calls 10000";
 
-// Whether a load of three times ten thousand calls tells each, and writes nothing to the sink for
-// standard error.
-fn tells_its_calls<R: Threads + Wait + AllocGlobal + Sync>(
-    rt: &R,
-    progress: &Progress<Lines>,
-) -> bool {
-    match outcome_behind(rt, LINE, progress) {
-        Ok(outcome) => {
-            outcome.status == 0 && !outcome.errs && progress.errors.told.load(SeqCst) == 3
-        }
-        Err(_) => false,
-    }
-}
-
-// The calls of all workers count.
+// The calls of all workers count, and nothing is written to the sink for standard error.
 #[test]
-fn a_load_tells_its_calls(rt: HostRuntime) {
+fn a_load_tells_its_calls(rt: HostRuntime) -> Result<(), Fail> {
     let progress = Progress::new(Lines::new(rt.alloc()));
-    assert!(rt; tells_its_calls(&rt, &progress));
+    let outcome = outcome_behind(&rt, LINE, &progress)?;
+    let told = progress.errors.told.load(SeqCst);
+    assert!(rt; outcome.status == 0 && outcome.err.len() == 0 && told == 3);
+    Ok(())
 }
