@@ -10,6 +10,14 @@ COUNTS = (2, 7, 64)  # of shards
 KEYS = [bytes([1 + number // 16, number % 16]) for number in range(128)]
 # From one key on, below another one, and at most how many pairs.
 RANGES = [(0, 127, 200), (17, 101, 1), (63, 64, 5), (64, 32, 5), (3, 120, 40)]
+# The keys with the least bytes and with the greatest.
+LEAST, GREATEST = b"\0", b"\xff" * 32
+FEWEST_ROWS = 4
+# Shards, handles, rows of each shard, and the bytes of a split.
+ENDS = [
+    (2, 1, FEWEST_ROWS, 2), (2, 1, 65_535, 32), (64, 8, 16, 32), (65, 9, 16, 2), (1_023, 32, 16, 2),
+    (1_024, 1, 16, 32),
+]
 # So few rows that a shard has room for some keys, and not for all of its own.
 FEW_ROWS = 24
 
@@ -22,10 +30,12 @@ class Script:
     """The lines of a script over a sharded map with their answers: each method is a line or some.
     Handle 1 writes. All answers are those of the dict, for no handle pins while another writes."""
 
-    def __init__(self, count, seed=1, rows=1024):
-        self.splits, self.chance = splits_into(count), random.Random(seed)
-        keys = ",".join(map(spelt, self.splits))
-        self.words = f"mst run --rows {rows} --passes 2 --splits {keys}"
+    def __init__(self, count, seed=1, rows=1024, passes=2, splits=None):
+        self.splits = splits_into(count) if splits is None else splits
+        self.chance, keys = random.Random(seed), ",".join(map(spelt, self.splits))
+        self.words = f"mst run --rows {rows} --passes {passes}"
+        # without splits it would be a store
+        self.words += f" --splits {keys}" if keys else ""
         self.known, self.format, self.lines, self.answers = {}, 1, [], []
 
     def case(self, title):
@@ -189,7 +199,43 @@ def shards_without_room():
         yield script.case("a shard without room stops a migration")
 
 
+def ends_of(script, handle):
+    """What a handle reads and proves at both ends of what a line takes."""
+    script.line("pin", "pinned", handle)
+    pairs = sorted(script.known.items())
+    for limit in (0, 1, 1_000, 1_001, 65_535):
+        answers = [f"pairs {len(pairs[:limit])}", *(pair_line(*it) for it in pairs[:limit])]
+        script.line(f"range - - {limit}", "\n".join(answers), handle)
+    script.line("next " + spelt(GREATEST), "none", handle)
+    model = script.root(handle)
+    for key in (LEAST, GREATEST):
+        script.line(f"get {spelt(key)}", told(script.known.get(key)), handle)
+        script.line(f"prove {spelt(key)}", model.proof(key).hex(), handle)
+    script.line("format", f"format {script.format}", handle)
+    script.line("unpin", "unpinned", handle)
+
+
+def at_both_ends():
+    """Maps of the fewest and the most shards, handles and rows, whose splits, keys and values are
+    the shortest and the longest: with ample memory none is refused it."""
+    for count, handles, rows, length in ENDS:
+        numbers = range(257, 256 + count)
+        splits = [number.to_bytes(2, "big").ljust(length, b"\0") for number in numbers]
+        script = Script(count, 1, rows, handles, splits)
+        ends_of(script, handles)
+        few = rows == FEWEST_ROWS
+        for key in (LEAST, GREATEST)[: 1 if few else 2]:
+            for value in (b"", b"\7" * 64, None):
+                script.write(key, value)
+        script.batch([] if few else [(LEAST, b""), (GREATEST, b"\7" * 64)])
+        ends_of(script, handles)
+        script.migrate(2)
+        ends_of(script, handles)
+        yield script.case(f"both ends, {handles} handles, {rows} rows, splits of {length} bytes")
+
+
 def cases():
+    yield from at_both_ends()
     yield from writes()
     yield from batches()
     yield from before_and_after_a_migration()
