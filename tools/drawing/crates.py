@@ -33,26 +33,29 @@ GROUPS = {
     "lines of text": ("#e2e2e2", 1010, 1184, {
         "mst_devices": (0, 1098), "mst_lines": (1, 1098), "mst_requests": (2, 1098),
     }),
-    "the program": ("#e6d8cf", 590, 1100, {
-        "mst_load": (10, 790), "mst_script": (10, 980), "mst_sharded_script": (11, 700),
-        "mst_command": (12, 870), "mst_program": (13, 870), "mst": (14, 870),
+    "the program": ("#e6d8cf", 565, 1180, {
+        "mst_load": (10, 745), "mst_script": (10, 905), "mst_sharded_script": (11, 662),
+        "mst_arguments": (12, 1100), "mst_command": (13, 840), "mst_program": (14, 840),
+        "mst": (15, 840),
     }),
 }
 FOR_C = {"mst_verifier", "mst_exports"}
 # Arrows that go round other crates: the corner between their two straight parts, as the places from
 # left to right and the crate at whose height it is.
 BENT = {
-    ("mst_command", "mst_report"): (347, "mst_command"),
+    ("mst_arguments", "mst_report"): (347, "mst_arguments"),
+    ("mst_arguments", "mst_store"): (985, "mst_store"),
+    ("mst_arguments", "mst_devices"): (1192, "mst_devices"),
     ("mst_sharded", "mst_sharded_proof"): (401, "mst_sharded_proof"),
     ("mst_sharded", "mst_store"): (646, "mst_sharded"),
     ("mst_theorem", "mst_store"): (616, "mst_theorem"),
     ("mst_c", "mst_store"): (110, "mst_store"),
     ("mst_proof", "mst_node"): (210, "mst_node"),
-    ("mst_command", "mst_replay"): (1074, "mst_command"),
+    ("mst_command", "mst_replay"): (1000, "mst_command"),
     ("mst_script", "mst_requests"): (1150, "mst_script"),
 }
 BOX, HIGH, FIRST, APART = 140, 36, 44, 88
-LAYERS = 15
+LAYERS = 16
 NOTES = [
     "A colour is a group. An arrow leads to what a crate stands on; it is left out where others"
     " lead the same way. No arrow leads from the verifiers to the store.",

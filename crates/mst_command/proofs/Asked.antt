@@ -6,16 +6,17 @@ use Rattle.std.specs.declared.alloc.Global.{Global}
 use Rattle.std.proofs.lemmas.Bool.{false≢true}
 use Rattle.std.proofs.lemmas.Option.{none-some, same_Some}
 use denote.Ref.{Bor}
-use Rattle.mst_command.specs.Commanding.{AsksFor, Ends, EndsWords, IsDevice, IsPlain, NamesShape, ProofWords, Unread, Untouched, status_of, told, asks_replay, asks_verify, splits_in, verified_words}
-use Rattle.mst_command.specs.Loading.{IsLoadOf, RanLoad, asks_load}
+use Rattle.mst_arguments.specs.Commanding.{AsksFor, Ends, EndsWords, IsDevice, IsPlain, NamesShape, ProofWords, Unread, Untouched, status_of, told, asks_replay, asks_verify, splits_in, verified_words}
+use Rattle.mst_arguments.specs.Loads.{IsLoadOf, asks_load}
+use Rattle.mst_command.specs.Loading.{RanLoad}
 use Rattle.mst_devices.specs.Device.{Breaks}
 use Rattle.mst_command.specs.Programs.{RanScript, RanSharded, RanReplay, RanVerify, Did, Helped, HasBadShape, HasBadSplits, HasBadRoot, HasBadKey, IsBad, Comes}
-use Rattle.mst_command.specs.declared.task.Task.{Task}
-use Rattle.mst_command.specs.declared.task.Task.TheVariants.{Run, RunSharded, Verify, UnknownFormat, Replay, Load, Help}
-use Rattle.mst_command.specs.declared.task.Ending.{Ending}
-use Rattle.mst_command.specs.declared.task.Ending.TheVariants.{Done}
-use Rattle.mst_command.specs.declared.task.Refusal.{Refusal}
-use Rattle.mst_command.specs.declared.task.Refusal.TheVariants.{Words, NotText, Shape, Splits, BadRoot, BadKey, Device, Memory}
+use Rattle.mst_arguments.specs.declared.task.Task.{Task}
+use Rattle.mst_arguments.specs.declared.task.Task.TheVariants.{Run, RunSharded, Verify, UnknownFormat, Replay, Load, Help}
+use Rattle.mst_arguments.specs.declared.task.Ending.{Ending}
+use Rattle.mst_arguments.specs.declared.task.Ending.TheVariants.{Done}
+use Rattle.mst_arguments.specs.declared.task.Refusal.{Refusal}
+use Rattle.mst_arguments.specs.declared.task.Refusal.TheVariants.{Words, NotText, Shape, Splits, BadRoot, BadKey, Device, Memory}
 
 module _ {S W : Type 0} (gives : S → List ℕ → S → Type 0) (left : S → ℕ)
     (takes : W → List ℕ → W → Type 0) (words : List (Bor (List ℕ))) where

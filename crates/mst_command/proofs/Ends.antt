@@ -1,10 +1,10 @@
 -- Errors that do not occur.
 use Rattle.std.proofs.Common.{◌↔◌, Result, IfErr, IsErrOf}
 use Rattle.std.proofs.lemmas.Result.{IfErr-at_err}
-use Rattle.mst_command.specs.Commanding.{EndsScript, EndsSharded, EndsVerify, EndsReplay, EndsLoad, EndsHelp}
-use Rattle.mst_command.specs.declared.task.Ending.{Ending}
-use Rattle.mst_command.specs.declared.task.Refusal.{Refusal}
-use Rattle.mst_command.specs.declared.task.Refusal.TheVariants.{Shape, Splits, BadRoot, BadKey}
+use Rattle.mst_arguments.specs.Commanding.{EndsScript, EndsSharded, EndsVerify, EndsReplay, EndsLoad, EndsHelp}
+use Rattle.mst_arguments.specs.declared.task.Ending.{Ending}
+use Rattle.mst_arguments.specs.declared.task.Refusal.{Refusal}
+use Rattle.mst_arguments.specs.declared.task.Refusal.TheVariants.{Shape, Splits, BadRoot, BadKey}
 
 never : (P : Refusal → Type 0) (why : Refusal) (r : Result Ending Refusal) → IfErr r P → (P why → ⊥)
     → IsErrOf r why ↔ ⊥

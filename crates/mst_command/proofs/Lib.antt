@@ -3,5 +3,4 @@ mod Ends
 pub mod Fresh
 mod Inputs
 pub mod Opening
-pub mod PlainWords
 pub mod Splitting

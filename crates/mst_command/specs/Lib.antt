@@ -1,6 +1,4 @@
-pub mod Options
 pub mod Loading
-pub mod Commanding
 pub mod Recalling
 pub mod Reading
 pub mod Splits

@@ -12,14 +12,14 @@ use Rattle.mst_report.specs.declared.report.ProofKind.{ProofKind}
 use Rattle.mst_report.specs.declared.report.Report.{Report}
 use Rattle.mst_report.specs.Words.{root_of, key_of}
 use Rattle.mst_report.specs.Report.{limit, report_of, line_of, is_refusal}
-use Rattle.mst_command.specs.declared.task.Task.{Task}
-use Rattle.mst_command.specs.declared.task.Task.TheVariants.{Run, RunSharded, Verify, UnknownFormat, Replay as TaskReplay, Load, Help}
-use Rattle.mst_command.specs.declared.task.Ending.{Ending}
-use Rattle.mst_command.specs.declared.task.Ending.TheVariants.{Done, ProofRefused}
+use Rattle.mst_arguments.specs.declared.task.Task.{Task}
+use Rattle.mst_arguments.specs.declared.task.Task.TheVariants.{Run, RunSharded, Verify, UnknownFormat, Replay as TaskReplay, Load, Help}
+use Rattle.mst_arguments.specs.declared.task.Ending.{Ending}
+use Rattle.mst_arguments.specs.declared.task.Ending.TheVariants.{Done, ProofRefused}
 use denote.Ref.{Bor}
-use Rattle.mst_command.specs.declared.task.Refusal.{Refusal}
-use Rattle.mst_command.specs.declared.task.Refusal.TheVariants.{Words, NotText, Shape as BadShape, Splits, BadRoot, BadKey, Device, Memory}
-use Rattle.mst_command.specs.Commanding.{AskText, AsksFor, IsPlain, IsTold, ProofWords, Unread, Untouched, asks_verify}
+use Rattle.mst_arguments.specs.declared.task.Refusal.{Refusal}
+use Rattle.mst_arguments.specs.declared.task.Refusal.TheVariants.{Words, NotText, Shape as BadShape, Splits, BadRoot, BadKey, Device, Memory}
+use Rattle.mst_arguments.specs.Commanding.{AskText, AsksFor, IsPlain, IsTold, ProofWords, Unread, Untouched, asks_verify}
 use Rattle.mst_command.specs.Loading.{IsLoadSize, RanLoad, BrokeLoad}
 use Rattle.mst_command.specs.Reading.{piece}
 use Rattle.mst_command.specs.Recalling.{Recalls}

@@ -11,35 +11,21 @@
 //! }
 //! ```
 //!
-//! [`plain_task`] reads the words that name a task, with options in any spelling and order, and
-//! [`execute`] does a task: it answers a script over a store or a sharded map, judges a proof,
-//! replays the core of pins, runs a load, or writes a text. `specs/Programs.antt` says what each
-//! task reads and writes, `specs/Commanding.antt` what words ask for and how a program ends early,
-//! `specs/Options.antt` what they say by options.
-//!
-//! What is said of all other words, `mst_program` has from `clap`. Nothing here takes the terminal
-//! or the program's own arguments.
+//! [`execute`] does a task, which `mst_arguments` reads from words: it answers a script over a
+//! store or a sharded map, judges a proof, replays the core of pins, runs a load, or writes a text.
+//! `specs/Programs.antt` says what each task reads and writes. Nothing here takes the terminal or
+//! the program's own arguments.
 #![tactic(auto)]
 
-mod ending;
 mod events;
 mod input;
 mod laws;
 mod loading;
-mod numbers;
-mod options;
-mod plain;
 mod programs;
 mod replay;
 mod sharded;
 mod splits;
-mod task;
 mod verify;
-mod words;
 
-pub use ending::{DONE, PROOF_REFUSED, complain};
 pub use laws::reading_laws;
-pub use plain::plain_task;
 pub use programs::execute;
-pub use task::{Ending, Load, Refusal, Size, Task};
-pub use words::{ask_text, ask_version_alone};

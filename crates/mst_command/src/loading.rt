@@ -1,10 +1,10 @@
 //! A load: readers and writers at one store at once, and the report of what they left.
 ghost use Rattle.std.specs.Prelude.{◌≡◌, ◌<◌, ◌-◌, ◌^◌, ◌↔◌, true, OnOk, IfOk, IfErr, IsErrOf};
-ghost use Rattle.mst_command.specs.Commanding.{EndsLoad, IsDevice, Untouched};
+ghost use Rattle.mst_arguments.specs.Commanding.{EndsLoad, IsDevice, Untouched};
 ghost use Rattle.mst_command.specs.Loading.{IsLoadSize, RanLoad, BrokeLoad};
-ghost use Rattle.mst_command.specs.declared.task.Ending.TheVariants.{Done};
+ghost use Rattle.mst_arguments.specs.declared.task.Ending.TheVariants.{Done};
 
-use crate::task::{Ending, Load, Refusal};
+use mst_arguments::{Ending, Load, Refusal};
 use mst_devices::{Device, Sink, write_all};
 use mst_load::{Gate, LoadFault, load};
 use std::alloc::{AllocGlobal, Allocator};

@@ -3,13 +3,13 @@ ghost use Rattle.std.specs.Prelude.{◌≡◌, ◌<◌, ◌-◌, ◌+◌, ◌^�
 ghost use Rattle.mst_devices.specs.Device.{Breaks};
 ghost use Rattle.mst_store.specs.Passes.{IsShape};
 ghost use Rattle.mst_command.specs.Programs.{RanScript, BrokeScript, RanReplay, BrokeReplay, Did, Broke, HasBadShape, HasBadSplits, HasBadRoot, HasBadKey};
-ghost use Rattle.mst_command.specs.Commanding.{IsDevice, Ends, EndsHelp, EndsReplay, EndsScript, Untouched, Unread, verified_words};
-ghost use Rattle.mst_command.specs.declared.task.Ending.TheVariants.{Done};
+ghost use Rattle.mst_arguments.specs.Commanding.{IsDevice, Ends, EndsHelp, EndsReplay, EndsScript, Untouched, Unread, verified_words};
+ghost use Rattle.mst_arguments.specs.declared.task.Ending.TheVariants.{Done};
 
 use crate::events::replay_events;
 use crate::loading::run_load;
 use crate::sharded::run_sharded;
-use crate::task::{Ending, Refusal, Task};
+use mst_arguments::{Ending, Refusal, Task};
 use crate::verify::run_verify;
 use mst_devices::{Device, Sink, Source, write_all};
 use mst_load::Gate;

@@ -4,11 +4,11 @@ ghost use Rattle.mst_store.specs.Passes.{IsShape};
 ghost use Rattle.mst_sharded_script.specs.States.{are_free};
 ghost use Rattle.mst_sharded.specs.Opening.{seats_of, new_handles};
 ghost use Rattle.mst_command.specs.Programs.{RanSharded, BrokeSharded, IsOpened, RefusesSplits, SpellsBadSplits};
-ghost use Rattle.mst_command.specs.Commanding.{IsDevice, EndsSharded, Untouched};
-ghost use Rattle.mst_command.specs.declared.task.Ending.TheVariants.{Done};
+ghost use Rattle.mst_arguments.specs.Commanding.{IsDevice, EndsSharded, Untouched};
+ghost use Rattle.mst_arguments.specs.declared.task.Ending.TheVariants.{Done};
 
 use crate::splits::{NoSplits, splits_in};
-use crate::task::{Ending, Refusal};
+use mst_arguments::{Ending, Refusal};
 use mst_devices::{Sink, Source};
 use mst_key::Memory;
 use mst_script::RunFault;

@@ -2,11 +2,11 @@
 ghost use Rattle.std.specs.Prelude.{◌≡◌, ◌<◌, ◌-◌, ◌+◌, ◌^◌, ◌↔◌, ◌⊎◌, Some, None, IfOk, OnOk, IfErr, IsErrOf, IsSome};
 ghost use Rattle.mst_report.specs.Words.{root_of, key_of};
 ghost use Rattle.mst_script.specs.Scripts.{OnMemory};
-ghost use Rattle.mst_command.specs.Commanding.{EndsVerify, IsDevice, Unread, Untouched};
+ghost use Rattle.mst_arguments.specs.Commanding.{EndsVerify, IsDevice, Unread, Untouched};
 ghost use Rattle.mst_command.specs.Programs.{RanVerify, BrokeVerify, IsSaid, ending_of};
 
 use crate::input::read_up_to;
-use crate::task::{Ending, Refusal};
+use mst_arguments::{Ending, Refusal};
 use mst_devices::{Device, Sink, Source, write_all};
 use mst_key::{Format, Key};
 use mst_report::{LIMIT, ProofKind, Report, key_in, report_on, root_in};

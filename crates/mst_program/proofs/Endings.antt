@@ -1,13 +1,13 @@
 -- Which task was done where the program ended, and what it came to with no words.
 use Rattle.std.proofs.Common.{◌≡◌, ◌⊎◌, inl, inr, ℕ, ◌<◌, ◌≤◌, List, Result, Ok, Err, IfOk, arith}
 use denote.Ref.{Bor}
-use Rattle.mst_command.specs.Commanding.{AsksFor, status_at, status_of}
+use Rattle.mst_arguments.specs.Commanding.{AsksFor, status_at, status_of}
 use Rattle.mst_command.specs.Programs.{Did}
-use Rattle.mst_command.specs.declared.task.Task.{Task}
-use Rattle.mst_command.specs.declared.task.Ending.{Ending}
-use Rattle.mst_command.specs.declared.task.Ending.TheVariants.{Done, ProofRefused}
-use Rattle.mst_command.specs.declared.task.Refusal.{Refusal}
-use Rattle.mst_command.specs.declared.task.Refusal.TheVariants.{Words, NotText, Shape, Splits, BadRoot, BadKey, Device, Memory}
+use Rattle.mst_arguments.specs.declared.task.Task.{Task}
+use Rattle.mst_arguments.specs.declared.task.Ending.{Ending}
+use Rattle.mst_arguments.specs.declared.task.Ending.TheVariants.{Done, ProofRefused}
+use Rattle.mst_arguments.specs.declared.task.Refusal.{Refusal}
+use Rattle.mst_arguments.specs.declared.task.Refusal.TheVariants.{Words, NotText, Shape, Splits, BadRoot, BadKey, Device, Memory}
 use Rattle.mst_program.specs.Commanded.{Performed}
 
 pub performed : {S W : Type 0} (gives : S → List ℕ → S → Type 0) (left : S → ℕ)

@@ -4,11 +4,11 @@ use Rattle.std.specs.declared.string.String.{String}
 use Rattle.std.specs.declared.alloc.Global.{Global}
 use denote.Ref.{Bor}
 use Rattle.mst_devices.specs.Device.{Breaks, Flow}
-use Rattle.mst_command.specs.declared.task.Task.{Task}
-use Rattle.mst_command.specs.declared.task.Ending.{Ending}
-use Rattle.mst_command.specs.declared.task.Refusal.{Refusal}
-use Rattle.mst_command.specs.declared.task.Refusal.TheVariants.{Device, Memory}
-use Rattle.mst_command.specs.Commanding.{AsksFor, asks_verify, status_at, status_of, told as told_text}
+use Rattle.mst_arguments.specs.declared.task.Task.{Task}
+use Rattle.mst_arguments.specs.declared.task.Ending.{Ending}
+use Rattle.mst_arguments.specs.declared.task.Refusal.{Refusal}
+use Rattle.mst_arguments.specs.declared.task.Refusal.TheVariants.{Device, Memory}
+use Rattle.mst_arguments.specs.Commanding.{AsksFor, asks_verify, status_at, status_of, told as told_text}
 use Rattle.mst_command.specs.Programs.{Broke, Comes, Did, EndedEarly}
 
 -- the task that the words ask for was done, and ended so

@@ -13,16 +13,11 @@
 //! of the process; [`command`] is the same over words that are read, which tests make over bytes.
 //! The exit statuses are 0 to 4. [`Watch`] says whether a user is told how far a load is, and
 //! [`Progress`] writes how many of its calls have returned.
-//!
-//! Words that name a task are read without `clap`, and contracts say everything of those. `clap`
-//! writes the help texts and what is said of wrong words, of which no contract speaks; `--version`
-//! or `-V` alone is answered without it too.
 #![tactic(auto)]
 
 mod program;
 mod progress;
 mod starting;
-mod words;
 
 pub use program::command;
 pub use progress::{Progress, Watch};

@@ -1,6 +1,6 @@
 //! How far a load is, written line by line while its threads make their calls.
 ghost use Rattle.std.specs.Prelude.{◌≡◌, ◌≢◌, ◌↔◌, ◌⊎◌, ◌%◌, true, false};
-ghost use Rattle.mst_command.specs.Loading.{asks_load};
+ghost use Rattle.mst_arguments.specs.Loads.{asks_load};
 ghost use Rattle.mst_program.specs.declared.progress.Watch.TheVariants.{Silent};
 
 use mst_load::Gate;

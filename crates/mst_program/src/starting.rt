@@ -7,7 +7,7 @@ ghost use Rattle.mst_program.specs.Commanded.{AreTexts, Commanded, HadNoMemory, 
 
 use crate::program::command;
 use crate::progress::Watch;
-use mst_command::{Refusal, complain};
+use mst_arguments::{Refusal, complain};
 use mst_devices::{Sink, Source};
 use mst_store::Memory;
 use std::alloc::{AllocGlobal, Global};

@@ -1,5 +1,0 @@
-use Rattle.std.proofs.Common.{length}
-use Rattle.mst_command.proofs.options.+operand.Given as goal
-
-abbrev pub decreases-operand : goal.decreases-operand
-decreases-operand l = length l.words.now
