@@ -53,6 +53,7 @@ static const struct call calls[] = {
     {"range", RANGE, ALONE, 0},
     {"put", PUT, ALONE, 0},
     {"batch-10", BATCH, ALONE, 10},
+    {"batch-100", BATCH, ALONE, 100},
     {"batch-1000", BATCH, ALONE, 1000},
     {"load", LOAD, ALONE, 0},
     {"prove", PROVE, ALONE, 0},

@@ -27,11 +27,11 @@ LEGEND = [
     ("warm", "keys that an attacker chose, all of layer 0"),
 ]
 CAPTION = [
-    "All scales are of powers of ten, and the upward ones alike. µs: microseconds; kilobytes: of"
-    " 1,000 bytes.",
-    "Such keys are easy to find: 15 of 16 random keys have layer 0 in format 1, 3 of 4 in format 2"
-    " (these in both).",
-    "A hash by a secret, in place of the key, helps as a tag does.",
+    "All scales are logarithmic, and the three upward scales are the same. µs: microseconds. A"
+    " kilobyte has 1,000 bytes.",
+    "Keys of layer 0 are easy to find: 15 of 16 random keys have it in format 1, 3 of 4 in format 2"
+    " (and these 3 in both).",
+    "A keyed hash in place of the key helps as a tag does.",
 ]
 
 
@@ -125,7 +125,7 @@ def points_of(kinds, divided):
 def picture():
     found = figures()
     see_that_the_page_tells_them(found)
-    canvas = Canvas("chosen", "Keys that an attacker chooses: one node has all of them", 996)
+    canvas = Canvas("chosen", "Keys that an attacker chooses, and what they cost", 996)
     draw_trees(canvas)
     points = {call: points_of(found[call], divided) for call, _, divided in PANELS}
     high = scale([

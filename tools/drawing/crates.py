@@ -57,7 +57,7 @@ BENT = {
 BOX, HIGH, FIRST, APART = 140, 36, 44, 88
 LAYERS = 16
 NOTES = [
-    "A colour is a group. An arrow leads to what a crate stands on; it is left out where others"
+    "A colour is a group. An arrow leads to what a crate depends on; it is left out where others"
     " lead the same way. No arrow leads from the verifiers to the store.",
     "Not drawn: crates of tests, mst_bench and mst_cookbook, which stand at the top.",
 ]
@@ -178,7 +178,8 @@ def picture():
     see_that_groups_are_the_pages()
     where = places()
     low = top_of(0) + HIGH + 58
-    canvas = Canvas("crates", "The crates in groups, with arrows to what each stands on", low + 108)
+    title = "The crates in groups, with arrows to what each depends on"
+    canvas = Canvas("crates", title, low + 108)
     draw_groups(canvas)
     draw_arrows(canvas, stands_on(), where)
     for name, (x, y) in where.items():
@@ -186,7 +187,7 @@ def picture():
         style = "thick" if name in FOR_C else "thin"
         canvas.box(x - width(name) / 2, y, width(name), HIGH, style)
         canvas.text(x, y + 24, name, size, "middle", code=True, within=width(name) - 6)
-    says = "the two crates of which the libraries for C are made, each with all that it stands on"
+    says = "the two crates from which the libraries for C are built, with all that each depends on"
     canvas.legend(20, low, [("thick", says)])
     canvas.lines(20, low + 38, NOTES)
     return canvas

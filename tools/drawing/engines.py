@@ -2,10 +2,10 @@
 docs/pictures/engines.tsv, and of puts by the size of a batch, from the tables of docs/SPEED.md."""
 from .canvas import Canvas
 from .curves import Plot, apart, scale
-from .figures import batches, figures, see_that_the_page_tells_them
+from .figures import are_earlier, batches, figures, see_that_the_page_tells_them
 
 LEFT, ACROSS, NEXT, UPPER, HIGH, BELOW = 94, 196, 394, 62, 400, 540
-READS = {"get": "get", "range": "range of 100 pairs", "prove": "prove"}
+READS = {"get": "get", "range": "range of 100 pairs", "prove": "prove (the store alone)"}
 LOOKS = {
     "store": ("thick", "square"),
     "LMDB": ("thin", "disc"),
@@ -13,12 +13,13 @@ LOOKS = {
     "std::map": ("dashed", "diamond"),
 }
 CAPTION = [
-    "ns: nanoseconds of one call, or of one put of a batch. All scales are of powers of ten; those"
-    " of time are alike.",
-    "Keys of 16 bytes, values of 32, from C; the least times of a run. Batches are of another run"
-    " than the rest.",
-    "The store alone has a root digest and proofs: the hashes for these are most of its put.",
+    "ns: nanoseconds of one call, or of one put of a batch; less is better. All scales are"
+    " logarithmic, the six of time alike.",
+    "Keys of 16 bytes, values of 32, from C; the least times of a run. Batches of 10 and more are"
+    " of another run than the rest; a batch of 1 is the put alone.",
+    "Only the store has root digests and proofs: the hashes for these are most of its put.",
 ]
+EARLIER = "The store's figures are of an earlier library (above, 'How to read a figure')."
 
 
 def panels():
@@ -55,11 +56,11 @@ def picture():
         it for row in rows for _, _, _, engines in row for each in engines.values()
         for it in each.values()
     ])
-    canvas = Canvas("engines", "The time of calls of the store and of other engines", 1180)
+    canvas = Canvas("engines", "The time of one call: the store, LMDB, SQLite and std::map", 1258)
     for down, row in enumerate(rows):
         upper = UPPER + down * BELOW
         for across, panel in enumerate(row):
             left = LEFT + across * NEXT
             draw_panel(canvas, (left, left + ACROSS, upper, upper + HIGH), times, panel)
-    canvas.lines(20, 1104, CAPTION)
+    canvas.lines(20, 1104, CAPTION + [EARLIER] * are_earlier("SPEED.md"))
     return canvas

@@ -31,7 +31,8 @@ PAGE = os.path.join(TOP, "docs", "SPEED.md")
 
 def batches():
     """For each number of keys for which docs/SPEED.md has a table of other calls, and for each
-    engine: the nanoseconds of a put in batches, by how many puts a batch has."""
+    engine: the nanoseconds of a put in batches, by how many puts a batch has. A put that is alone
+    is a batch of one."""
     found, keys, engines = {}, None, []
     with open(PAGE, encoding="utf-8") as file:
         for line in file:
@@ -47,7 +48,18 @@ def batches():
                         times[whole(size[1])] = whole(cell)
             elif not line.strip():
                 keys = None
+    alone = figures()["put"]
+    for keys, engines in found.items():
+        for engine, times in engines.items():
+            times[1] = alone[engine][keys]
     return found
+
+
+def are_earlier(name):
+    """Whether this page of docs/ says that its figures are of an earlier library: its picture then
+    says so too."""
+    with open(os.path.join(TOP, "docs", name), encoding="utf-8") as file:
+        return "of an earlier library" in file.read()
 
 
 def whole(text):

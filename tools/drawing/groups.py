@@ -5,7 +5,7 @@ import re
 from .maps import TOP
 
 PAGE = os.path.join("docs", "ARCHITECTURE.md")
-HEAD = "| Group | Crates | Stands on"
+HEAD = "| Group | Crates | Depends on"
 # What the table calls the crates of no group.
 LAST = "at the top"
 

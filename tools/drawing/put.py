@@ -26,6 +26,7 @@ def mask(number):
 BIT = mask(READER)
 LOOKS = [("thick", "what the step changes")]
 CAPTION = [
+    "pass: a per-thread handle. turn: the write lock. desk: the writer's record of free rows.",
     f"From its pin to its unpin (thick line at the left) pass {READER} reads record 0 and the rows"
     " of its version. No step changes them.",
     "step: its number in the list 'A read' or 'A write' on this page.",
@@ -119,7 +120,7 @@ def draw_heads(canvas):
 
 def picture():
     title = "A put while a reader pins: the words of the table after each step"
-    canvas = Canvas("put", title, 724)
+    canvas = Canvas("put", title, 750)
     table = Table()
     draw_heads(canvas)
     before, y = table.cells(), FIRST

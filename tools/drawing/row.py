@@ -20,9 +20,9 @@ LEGEND = [
     ("dashed", "is only of versions before the new one"),
 ]
 NOTES = [
-    "Version v reaches a row exactly when birth ≤ v < death. While the current version or a pinned"
-    " one reaches it, no word of it changes. Between a kill and the publication the current"
-    " version still reaches the dead row.",
+    "Version v reaches a row (has it in its tree) exactly when birth ≤ v < death. While the"
+    " current version or a pinned one reaches it, no word of it changes. Between a kill and the"
+    " publication the current version still reaches the dead row.",
 ]
 BOX, HIGH, FIRST, APART, TOP_EDGE = 150, 56, 105, 292, 104
 
@@ -78,7 +78,8 @@ def draw_sweep(canvas):
 
 def picture():
     see_that_calls_exist([*CALLS, "sweep", "undo"])
-    canvas = Canvas("row", "The life of a row, by the calls of the desk", 492)
+    title = "The life of a row (memory cell), by the calls of the desk (allocator)"
+    canvas = Canvas("row", title, 492)
     draw_states(canvas)
     for state in range(len(CALLS)):
         draw_onward(canvas, state)

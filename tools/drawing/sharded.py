@@ -11,12 +11,13 @@ ASKED = b"lima"
 EDGE, GAP, HIGH = 24, 24, 60
 DIRECTORY, KEYS, PROOF, LEGEND = 82, 290, 470, 610
 CAPTION = [
-    "A shard has the keys from its lower bound on, and below its upper bound, which is the next"
-    " shard's lower one.",
-    "The proof's first part shows what the directory lists for the bound, its second part what that"
-    " shard has of the key. The verifier tests too that the key lies within the bounds.",
-    "Digests, bounds and the first four fields are hexadecimal; in brackets stands a bound as"
-    " text. Of a digest only the beginning is shown.",
+    "A shard has the keys from its lower bound on and below its upper bound, which is the lower"
+    " bound of the next shard.",
+    "The first part of the proof shows what the directory lists for the bound, and the second part"
+    " what that shard has for the key. The verifier also tests that the key lies within the"
+    " bounds.",
+    "Digests, bounds and the first four fields are hexadecimal, with a bound as text in brackets."
+    " Only the beginning of each digest is shown.",
 ]
 
 

@@ -4,7 +4,7 @@ import os
 import sys
 
 from .canvas import DARK_GREY, INK, LIGHT_GREY, TINT, Canvas
-from .figures import row
+from .figures import are_earlier, row
 from .maps import TOP
 
 UPPER, LOWER = 76, 450
@@ -23,12 +23,14 @@ PANELS = {
     }),
 }
 CAPTION = [
-    "One store of 1,000 keys, a pass for each thread, four processors. A get of the newest version"
-    " pins and unpins it, by two steps on words that all threads share; where a pin is kept, a get"
-    " makes none. Writers take turns, so more of them make no more puts.",
-    "time of a get: processor time, as a multiple of a lone reader's.",
-    "slowest writer: its puts, as a part of those of the fastest one.",
+    "One store of 1,000 keys on four processors; each thread has a pass (handle) of its own.",
+    "Readers: a get of the newest version pins it and unpins it, by two atomic steps on words that"
+    " all threads share. A get of a pinned version makes no such step.",
+    "Writers: one write lock, the turn, serves all, so more writers make no more puts.",
+    "time of a get: its processor time, as a multiple of a lone reader's.",
+    "slowest writer: its puts, as a part of those of the fastest writer.",
 ]
+EARLIER = "All figures are of an earlier library."
 
 
 def figures():
@@ -107,25 +109,18 @@ def draw_names(canvas, left, who, beside):
         canvas.text(left - 8, LOWER + 59 + 20 * place, line, 16, "end")
 
 
-def is_earlier(page, who):
-    """Whether the page says of figures that they are of an earlier library."""
-    lines = [it for it in page.split("\n") if f"`bench/store/run {who}`" in it]
-    return any("of an earlier library" in it for it in lines)
-
-
 def picture():
     found, page = figures(), told()
     see_that_the_page_tells_them(found, page)
     below = LOWER + 150 + 30 * max(len(each) for each in found.values())
-    canvas = Canvas("threads", "Calls a second by the number of threads", below + 122)
+    canvas = Canvas("threads", "Calls a second of one store, by the number of threads", below + 178)
     for who, (left, right, title, unit, beside, ways) in PANELS.items():
         each = {how: found[who][how] for how in ways if how in found[who]}
         most = end_of(max(calls for one in each.values() for calls, _ in one.values()))
-        said = f"{title} (of an earlier library)" if is_earlier(page, who) else title
-        canvas.text(left - 60, 36, said, 17, bold=True)
+        canvas.text(left - 60, 36, title, 17, bold=True)
         draw_scale(canvas, left, right, most, unit)
         draw_columns(canvas, left, right, most, unit, ways, each)
         draw_names(canvas, left, who, beside)
         draw_legend(canvas, left, ways, each)
-    canvas.lines(20, below, CAPTION)
+    canvas.lines(20, below, CAPTION + [EARLIER] * are_earlier("STORE_C.md"))
     return canvas

@@ -11,9 +11,10 @@ CAPTION = [
     "A box is an entry: its key, its value, and how the key's SHA-256 begins, which gives the"
     " layer.",
     "Boxes that touch are one node, with entries of one layer.",
-    "Above a node stands how its digest begins: the SHA-256 of its text, which holds the digests of"
-    " the nodes below it.",
-    "A child hangs at its gap: before the first entry, between two, or after the last.",
+    "Above a node is the beginning of its digest: the SHA-256 of its text, which holds the digests"
+    " of its children.",
+    "An arrow leads to the child with the keys of a gap: before the first entry, between two, or"
+    " after the last.",
 ]
 
 

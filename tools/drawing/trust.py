@@ -36,7 +36,7 @@ BOXES = [
         "the folder of rt",
     )),
     ("dashed", RIGHT, CONTRACTS, COLUMN, "wrong bodies", (
-        "edits that a check must refuse",
+        "mutation tests of the clauses",
         "crates/*/wrong-bodies",
     )),
     ("dashed", RIGHT, DEFINITIONS, COLUMN, "laws and worked cases", (
@@ -52,19 +52,20 @@ BOXES = [
         "bindings, include, verifiers",
     )),
     ("dashed", RIGHT, TOOLCHAIN, COLUMN, "tools of the gate", (
-        "look at three things that rest on code",
+        "check three things that rest on code",
         "tools/step_calls and others",
     )),
 ]
 TITLE = "The layers of trust: what has to be read or believed, and what is checked"
 LEGEND = [
     ("thick", "read it, or take it on trust"),
-    ("thin", "the machine checks it; but for three things, nobody need read it to use the calls"),
-    ("dashed", "shows that clauses say enough, or looks at what they do not say"),
+    ("thin", "the machine checks it: except for three things, users of the calls need not read it"),
+    ("dashed", "tests that clauses say enough, or tests what they do not say"),
 ]
 NOTES = [
-    "The three things: how often steps ask other passes, that Memory is returned only where memory"
-    " was refused, and that a call's point, but for a write's, lies within it (below, 'What rests on code').",
+    "The three things: how many steps depend on other passes; that Memory is returned only if"
+    " memory was refused; that the linearization point of a call, except of a write, lies within"
+    " the call (below, 'What rests on code').",
 ]
 
 

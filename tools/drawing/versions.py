@@ -11,10 +11,10 @@ ROW, HEIGHT, TOP, APART, EDGE, BETWEEN = 80, 40, 80, 140, 20, 310
 # How far from the middle of a shared node a link of one version ends.
 ASIDE = {"dashed": -16, "thick": 16}
 NOTES = [
-    "A box is a row. A node has one for each entry (a key and its value), and one for itself, its"
-    " head.",
-    "An arrow is a link to a node: an entry's to the keys just before its own, a head's to those"
-    " after all entries.",
+    "A box is a row (memory cell). A node has one for each entry (a key with its value), and a last"
+    " one for itself, its head.",
+    "An arrow is a link to a child node. An entry links to the keys just before its own, the head"
+    " to the keys after all entries.",
 ]
 
 
