@@ -5,7 +5,6 @@ ghost use Rattle.std.specs.declared.cmp.Ordering.TheVariants.{Less};
 ghost use Rattle.mst_key.specs.Map.{key_cmp};
 
 use crate::cases::{Case, ask};
-use crate::confirming::{confirm, confirm_at};
 use crate::pairs::{key_of, pair};
 use mst_key::{Edit, Key, Value};
 use std::alloc::{AllocError, Allocator, Global};
@@ -64,18 +63,8 @@ fn sort_keys<A: Allocator>(alloc: A, keys: &mut [Key]) -> Result<(), AllocError>
     keys.sort(alloc)
 }
 
-/// Keys, each with the next one in their order.
-const RISING: &[(&[u8], &[u8])] = &[
-    (b"\x00", b"\x00\x00"),
-    (b"\x00\x00", b"a"),
-    (b"a", b"ab"),
-    (b"ab", b"b"),
-    (b"b", b"\x7f\xff"),
-    (b"\x7f\xff", b"\x80"),
-];
-
 /// Whether two keys that rise stand so, and either is equal to itself.
-fn rise(rt: &impl Abort, one: &[u8], other: &[u8]) -> bool {
+pub fn rise(rt: &impl Abort, one: &[u8], other: &[u8]) -> bool {
     let (one, other) = (key_of(rt, one), key_of(rt, other));
     stand_so(&one, &other, Ordering::Less)
         && stand_so(&other, &one, Ordering::Greater)
@@ -83,17 +72,9 @@ fn rise(rt: &impl Abort, one: &[u8], other: &[u8]) -> bool {
 }
 
 /// Whether two keys that fall are sorted.
-fn are_sorted(rt: &impl Abort, alloc: Global) -> bool {
-    let mut keys = [key_of(rt, b"ab"), key_of(rt, b"a")];
+pub fn are_sorted(rt: &impl Abort, alloc: Global, one: &[u8], other: &[u8]) -> bool {
+    let mut keys = [key_of(rt, one), key_of(rt, other)];
     sort_keys(alloc, &mut keys).is_ok() && stand_so(&keys[0], &keys[1], Ordering::Less)
-}
-
-#[test]
-fn keys_in_ascending_order(rt: HostRuntime) {
-    for (place, (one, other)) in RISING.iter().enumerate() {
-        confirm_at(&rt, rise(&rt, one, other), place);
-    }
-    confirm(&rt, are_sorted(&rt, rt.alloc()), "sorted");
 }
 
 /// Whether the clones and the copies of a key and of a value are the same.
@@ -117,12 +98,20 @@ pub fn edits_are_compared(rt: &impl Abort, key: &[u8], value: &[u8]) -> bool {
     same_edit(&put, &put) && !same_edit(&put, &remove)
 }
 
-const CLONES: &[Case] = &[
+const KEYS: &[Case] = &[
+    // keys, each with the next one in their order
+    Case::Rise(b"\x00", b"\x00\x00"),
+    Case::Rise(b"\x00\x00", b"a"),
+    Case::Rise(b"a", b"ab"),
+    Case::Rise(b"ab", b"b"),
+    Case::Rise(b"b", b"\x7f\xff"),
+    Case::Rise(b"\x7f\xff", b"\x80"),
+    Case::Sorts(b"ab", b"a"),
     Case::Clones(&[0xff; 32], &[0x00; 64]),
     Case::Edits(&[0xff; 32], &[0x00; 64]),
 ];
 
 #[test]
-fn clones_are_the_same(rt: HostRuntime) {
-    ask(&rt, CLONES);
+fn keys_in_ascending_order_and_clones(rt: HostRuntime) {
+    ask(&rt, KEYS);
 }

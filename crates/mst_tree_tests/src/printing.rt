@@ -9,6 +9,7 @@ const PRINTED: &[Case] = &[
     Case::MemoryPrints("no memory"),
     Case::NodeFaultPrints("not a node text"),
     Case::NoRoomPrints("no room"),
+    Case::VersionsSpentPrints("version numbers are spent"),
     Case::FaultPrints(ProofFault::FormatByte, "P1"),
     Case::FaultPrints(ProofFault::CutShort, "P2"),
     Case::FaultPrints(ProofFault::LeftOver, "P3"),

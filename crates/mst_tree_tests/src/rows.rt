@@ -8,7 +8,7 @@ ghost use Rattle.mst_arena.specs.Row.{IsRow, keyed_links, entry_value, head_dige
 mod counted;
 mod counts;
 mod plain;
-mod standing;
+pub mod standing;
 mod words;
 
 use crate::pairs::pair;

@@ -1,5 +1,5 @@
 //! The audit of a directory. Another program made the bytes (Python's hashlib).
-mod audits;
+pub mod audits;
 
 /// The map of apple 30, cherry 7, fig with no byte, grape 12, plum 5 and quince 41, split at d and
 /// m: its root digest in format 1.

@@ -2,7 +2,7 @@
 //! in ample memory: no call may return that memory was refused. `tests/store/test_maps.py` has what
 //! these proofs show.
 use super::{has_free_proof, is_free, proof_for};
-use crate::confirming::confirm_at;
+use crate::cases::{Case, ask};
 use crate::pairs::{numbered, pairs_of_one_node};
 use mst_key::{Format, Key, Value};
 use std::alloc::Global;
@@ -21,20 +21,18 @@ fn proofs_are_free(rt: &impl Abort, alloc: Global, pairs: &[(Key, Value)]) -> bo
     own && none && is_free(rt, alloc, Format::One, pairs, (ABSENT, proof.as_slice()))
 }
 
-/// The ends of the numbers of which some stand in one node.
-const NODES: &[u32] = &[5_000, 69_815];
+/// Whether that is so of the numbers below the end that stand in one node.
+pub fn node_is_free(rt: &impl Abort, alloc: Global, end: u32) -> bool {
+    let pairs = pairs_of_one_node(rt, alloc, end);
+    proofs_are_free(rt, alloc, pairs.as_slice())
+}
+
+const NODES: &[Case] = &[Case::NodeFree(5_000), Case::NodeFree(69_815)];
 
 #[test]
 fn nodes_of_long_values(rt: HostRuntime) {
-    for end in NODES {
-        let pairs = pairs_of_one_node(&rt, rt.alloc(), *end);
-        let free = proofs_are_free(&rt, rt.alloc(), pairs.as_slice());
-        confirm_at(&rt, free, *end as usize);
-    }
+    ask(&rt, NODES);
 }
-
-/// Sizes above 2,000.
-const ABOVE: &[usize] = &[4_096, 8_750, 30_001, 60_000];
 
 /// Whether nothing in its own proof collides with the tree of this many of the pairs.
 fn front_is_free(rt: &impl Abort, alloc: Global, pairs: &[(Key, Value)], count: usize) -> bool {
@@ -44,15 +42,26 @@ fn front_is_free(rt: &impl Abort, alloc: Global, pairs: &[(Key, Value)], count: 
     }
 }
 
+/// Whether that is so of each map of the first numbers from one size to another.
+pub fn fronts_are_free(rt: &impl Abort, alloc: Global, first: usize, last: usize) -> bool {
+    let pairs = numbered(rt, alloc, 60_000);
+    for count in first..=last {
+        if !front_is_free(rt, alloc, pairs.as_slice(), count) {
+            return false;
+        }
+    }
+    true
+}
+
+const SIZES: &[Case] = &[
+    Case::SizesFree(0, 2_000),
+    Case::SizesFree(4_096, 4_096),
+    Case::SizesFree(8_750, 8_750),
+    Case::SizesFree(30_001, 30_001),
+    Case::SizesFree(60_000, 60_000),
+];
+
 #[test]
 fn no_collision_at_each_size_up_to_2000(rt: HostRuntime) {
-    let pairs = numbered(&rt, rt.alloc(), 60_000);
-    for count in 0..=2_000usize {
-        let free = front_is_free(&rt, rt.alloc(), pairs.as_slice(), count);
-        confirm_at(&rt, free, count);
-    }
-    for count in ABOVE {
-        let free = front_is_free(&rt, rt.alloc(), pairs.as_slice(), *count);
-        confirm_at(&rt, free, *count);
-    }
+    ask(&rt, SIZES);
 }

@@ -12,14 +12,14 @@ use crate::confirming::confirm_at;
 use crate::pairs::{key_of, numbered, numbered_key};
 use crate::rows::counted::Reads;
 use crate::rows::standing::StandingMap;
-use mst_key::Key;
+use mst_key::{Format, Key};
 use std::alloc::Global;
 use std::process::Abort;
 
 /// The map of 300 pairs.
 fn map_of_300(rt: &impl Abort, alloc: Global) -> StandingMap {
     let pairs = numbered(rt, alloc, 300);
-    StandingMap::new(rt, alloc, pairs.as_slice(), 1_000)
+    StandingMap::new(rt, alloc, Format::One, pairs.as_slice())
 }
 
 /// Whether no more was read than this many heads, entries and values, and nothing else.
@@ -89,15 +89,8 @@ fn holds(
     answers(rt, alloc, map, ask, values as usize) && is_within(map.reads(), heads, entries, values)
 }
 
-/// Asks the map of 300 pairs.
-fn ask_each(rt: &(impl Abort + AllocGlobal), cases: &[Case]) {
-    let mut map = map_of_300(rt, rt.alloc());
-    for (place, case) in cases.iter().enumerate() {
-        confirm_at(rt, holds(rt, rt.alloc(), &mut map, *case), place);
-    }
-}
-
-const RANGES: &[Case] = &[
+const READS: &[Case] = &[
+    // a range reads no row past its limit
     (Ask::Range(None, None, 0), 0, 0, 0),
     (Ask::Range(None, None, 1), 3, 3, 1),
     (Ask::Range(None, None, 2), 3, 4, 2),
@@ -111,14 +104,7 @@ const RANGES: &[Case] = &[
     (Ask::Range(Some(17), Some(19), 10), 3, 30, 2),
     (Ask::Range(Some(150), Some(160), 2), 3, 16, 2),
     (Ask::Range(Some(150), Some(160), 300), 3, 38, 10),
-];
-
-#[test]
-fn a_range_reads_no_row_past_its_limit(rt: HostRuntime) {
-    ask_each(&rt, RANGES);
-}
-
-const LOOK_UPS: &[Case] = &[
+    // a look-up reads one path
     (Ask::Get(0), 3, 3, 1),
     (Ask::Get(39), 2, 4, 1),
     (Ask::Get(100), 3, 26, 1),
@@ -127,14 +113,7 @@ const LOOK_UPS: &[Case] = &[
     (Ask::Get(299), 3, 7, 1),
     (Ask::GetBehind49, 3, 16, 0),
     (Ask::Root, 0, 0, 0),
-];
-
-#[test]
-fn a_look_up_reads_one_path(rt: HostRuntime) {
-    ask_each(&rt, LOOK_UPS);
-}
-
-const NEXTS: &[Case] = &[
+    // the next pair is on one path
     (Ask::Next(None), 3, 3, 1),
     (Ask::Next(Some(39)), 3, 7, 1),
     (Ask::Next(Some(100)), 3, 27, 1),
@@ -144,6 +123,9 @@ const NEXTS: &[Case] = &[
 ];
 
 #[test]
-fn the_next_pair_is_on_one_path(rt: HostRuntime) {
-    ask_each(&rt, NEXTS);
+fn no_call_reads_more_rows_than_it_needs(rt: HostRuntime) {
+    let mut map = map_of_300(&rt, rt.alloc());
+    for (place, case) in READS.iter().enumerate() {
+        confirm_at(&rt, holds(&rt, rt.alloc(), &mut map, *case), place);
+    }
 }

@@ -1,39 +1,43 @@
 //! A map that is planted in plain rows, and is read.
 ghost use Rattle.std.specs.Prelude.{◌≤◌, ◌<◌, List, option_copied};
 ghost use Rattle.mst_key.specs.Map.{Pair, IsMap};
-ghost use Rattle.mst_key.specs.declared.format.Format.TheVariants.{One};
 ghost use Rattle.mst_path.specs.Planting.{tree_at, IsTreeOf};
 
 use super::counted::{CountedRows, Reads};
 use crate::confirming::few;
 use mst_arena::{Desk, Root};
 use mst_key::{Format, Key, Memory, Value};
-use mst_node::{Node, build, is_map};
+use mst_node::{Node, build_in, is_map};
 use mst_path::plant;
 use std::alloc::{Allocator, Global};
 use std::marker::Model;
 use std::process::Abort;
 
-/// A map in rows.
+/// A map in rows, and its format.
 #[derive(Drop)]
 pub struct StandingMap {
     rows: CountedRows<Global>,
     root: Root,
+    format: Format,
 }
 
-/// Contracts see the rows and the root.
+/// Contracts see all of it but the counts.
 impl Model for StandingMap {
     ghost use Rattle.std.specs.Prelude.{List, Option};
     ghost use Rattle.mst_arena.specs.Content.{listed};
+    ghost use Rattle.mst_arena.specs.Standing.{Stands};
     ghost use Rattle.mst_arena.specs.declared.row.Root.{Root};
     ghost use Rattle.mst_arena.specs.declared.row.Row.{Row};
+    ghost use Rattle.mst_key.specs.Map.{Pair};
+    ghost use Rattle.mst_key.specs.declared.format.Format.{Format};
     ghost use Rattle.mst_read.specs.Search.{MapStands};
 
-    ghost Value = { List (Option Row) × Root };
+    ghost Value = { List (Option Row) × Root × Format };
 
-    ghost view = { λ p. (p.rows, p.root) };
+    ghost view = { λ p. (p.rows, p.root, p.format) };
 
-    ghost invariant = { λ p. MapStands (listed p.rows) p.root };
+    ghost invariant = { λ p. ((m : List Pair) × Stands p.format (listed p.rows) p.root m)
+        × MapStands (listed p.rows) p.root };
 }
 
 impl StandingMap {
@@ -41,29 +45,35 @@ impl StandingMap {
     fn planted<A: Allocator>(
         rt: &impl Abort,
         alloc: Global,
+        format: Format,
         tree: Option<&Node<A>>,
         size: u32,
     ) -> Result<StandingMap, Memory>
         requires tree { (m : List Pair) × IsMap m
-            × IsTreeOf One (tree_at One (option_copied tree)) m }
+            × IsTreeOf format (tree_at format (option_copied tree)) m }
         requires some { 0 < size }
         requires few { size ≤ 65535 }
     {
         let mut desk = Desk::new(alloc, size, 2, 0)?;
         let mut rows = CountedRows::new(alloc, size)?;
-        let Ok(root) = plant(&mut rows, &mut desk, tree, Format::One) else {
+        let Ok(root) = plant(&mut rows, &mut desk, tree, format) else {
             panic!(rt; "no room")
         };
-        Ok(StandingMap { rows, root })
+        Ok(StandingMap { rows, root, format })
     }
 
-    /// The map of these pairs, planted in this many rows.
-    pub fn new(rt: &impl Abort, alloc: Global, pairs: &[(Key, Value)], size: u32) -> StandingMap {
+    /// The map of these pairs, planted in rows enough.
+    pub fn new(
+        rt: &impl Abort,
+        alloc: Global,
+        format: Format,
+        pairs: &[(Key, Value)],
+    ) -> StandingMap {
         assert!(rt; is_map(pairs));
         few(rt, pairs);
-        assert!(rt; 0 < size && size <= 65_535);
-        let tree = build(alloc, pairs).expect(rt, "memory");
-        StandingMap::planted(rt, alloc, tree.as_deref(), size).expect(rt, "memory")
+        let tree = build_in(alloc, format, pairs).expect(rt, "memory");
+        let size = if pairs.len() < 4_000 { 8_000 } else { 65_535 };
+        StandingMap::planted(rt, alloc, format, tree.as_deref(), size).expect(rt, "memory")
     }
 
     /// What was read of the rows since the counts began.
@@ -100,5 +110,10 @@ impl StandingMap {
     /// The root digest.
     pub fn root(&mut self) -> [u8; 32] {
         mst_read::root(&mut self.rows, &self.root)
+    }
+
+    /// The proof for a key.
+    pub fn prove(&mut self, alloc: Global, key: &Key) -> Result<Vec<u8>, Memory> {
+        mst_read::prove(alloc, &mut self.rows, &self.root, key, self.format)
     }
 }

@@ -63,13 +63,6 @@ fn are_of(words: &[u64; 16], row: &Row) -> bool {
     Row::read(words).as_ref() == Some(row)
 }
 
-#[test]
-fn words_by_hand(rt: HostRuntime) {
-    let entry = entry_of(&rt, 7, 9, b"ab", b"xyz");
-    confirm(&rt, are_of(&ENTRY_WORDS, &entry), "an entry");
-    confirm(&rt, are_of(&HEAD_WORDS, &HEAD), "a head");
-}
-
 /// The words of a row, the index of one of them, and a word that makes them of no row.
 const FAULTS: &[([u64; 16], usize, u64)] = &[
     (ENTRY_WORDS, 0, 0),
@@ -137,15 +130,9 @@ const DIGEST_WORDS: [u64; 4] = [
     0x1819_1a1b_1c1d_1e1f,
 ];
 
-#[test]
-fn parts_by_hand(rt: HostRuntime) {
-    confirm(&rt, entry_is_read(&rt), "an entry");
-    confirm(
-        &rt,
-        HeadLinks::read(&[3, 1, 5, 0]) == Some(HEAD_LINKS),
-        "a head",
-    );
-    confirm(&rt, Row::read_digest(&DIGEST_WORDS) == DIGEST, "a digest");
+/// Whether the parts of a head, the links and the digest, are read from their words.
+fn head_is_read() -> bool {
+    HeadLinks::read(&[3, 1, 5, 0]) == Some(HEAD_LINKS) && Row::read_digest(&DIGEST_WORDS) == DIGEST
 }
 
 /// Whether no entry is read of the words of a key of 33 bytes, of a key of no byte, and of a child
@@ -162,7 +149,11 @@ fn nothing_else_is_read() -> bool {
 }
 
 #[test]
-fn words_of_no_part(rt: HostRuntime) {
-    confirm(&rt, no_entry_is_read(), "an entry");
-    confirm(&rt, nothing_else_is_read(), "a value or a head");
+fn words_and_parts_by_hand(rt: HostRuntime) {
+    let entry = entry_of(&rt, 7, 9, b"ab", b"xyz");
+    let entry = are_of(&ENTRY_WORDS, &entry) && entry_is_read(&rt);
+    let head = are_of(&HEAD_WORDS, &HEAD) && head_is_read();
+    confirm(&rt, entry && head, "an entry and a head");
+    let none = no_entry_is_read() && nothing_else_is_read();
+    confirm(&rt, none, "words of no part");
 }

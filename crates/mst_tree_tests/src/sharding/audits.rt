@@ -1,42 +1,62 @@
 //! The audit of a directory.
 use super::ROOT;
-use crate::confirming::confirm_at;
-use crate::pairs::{bytes_of, pair, prints};
+use crate::cases::{Case, Listings, ask};
+use crate::pairs::{pair, prints};
 use mst_key::{Format, Key, Value};
 use mst_sharded_proof::audit_directory;
 use std::alloc::Global;
 use std::process::Abort;
 
-type Text = &'static str;
-
-/// A lower bound, a root digest in hexadecimal digits, and an upper bound.
-type Listing = (&'static [u8], Text, &'static [u8]);
-
 /// The root digests of the three shards in format 1.
-const FIRST: Text = "ec36763611dd79560de2a0e8c31f633c3aabf205e095b97b88e6291d7cdfbb25";
+const DIGESTS: [[u8; 32]; 3] = [
+    [
+        0xec, 0x36, 0x76, 0x36, 0x11, 0xdd, 0x79, 0x56, 0x0d, 0xe2, 0xa0, 0xe8, 0xc3, 0x1f, 0x63,
+        0x3c, 0x3a, 0xab, 0xf2, 0x05, 0xe0, 0x95, 0xb9, 0x7b, 0x88, 0xe6, 0x29, 0x1d, 0x7c, 0xdf,
+        0xbb, 0x25,
+    ],
+    [
+        0x29, 0xee, 0xdf, 0x21, 0x0a, 0x21, 0x63, 0xcb, 0xa9, 0x98, 0x60, 0x3b, 0xa5, 0xcc, 0xd3,
+        0x61, 0xa8, 0x18, 0x59, 0xd2, 0xd0, 0xad, 0x26, 0xcd, 0x90, 0xde, 0x11, 0xe1, 0x68, 0x91,
+        0x96, 0x1a,
+    ],
+    [
+        0xba, 0x1a, 0x09, 0x81, 0xe6, 0x78, 0xc0, 0xfd, 0xf1, 0x83, 0x0c, 0x94, 0x9f, 0x49, 0xa9,
+        0x9d, 0xc7, 0x8f, 0x23, 0x8a, 0x43, 0x68, 0x4e, 0x3d, 0x4b, 0xaa, 0xfe, 0x65, 0xf4, 0x3c,
+        0x1a, 0xa2,
+    ],
+];
 
-const SECOND: Text = "29eedf210a2163cba998603ba5ccd361a81859d2d0ad26cd90de11e16891961a";
+/// The number of each digest.
+const FIRST: usize = 0;
 
-const THIRD: Text = "ba1a0981e678c0fdf1830c949f49a99dc78f238a43684e3d4baafe65f43c1aa2";
+const SECOND: usize = 1;
 
-/// Listings, and what the audit says of them.
-type Question = (&'static [Listing], Text);
+const THIRD: usize = 2;
+
+/// How long a listing is with an upper bound of one byte, and without one.
+const BOUND: usize = 33;
+
+const NO_BOUND: usize = 32;
+
+/// The pair of a listing: at its lower bound its digest and its upper bound, cut to the length.
+fn listing_of(rt: &impl Abort, listing: (u8, usize, usize, u8)) -> (Key, Value) {
+    let (low, digest, length, high) = listing;
+    let mut held = [high; 33];
+    held[..32].copy_from_slice(&DIGESTS[digest % 3]);
+    pair(rt, &[low], &held[..length.min(33)])
+}
 
 /// The pairs of these listings.
-fn listed(rt: &impl Abort, alloc: Global, listings: &[Listing]) -> Vec<(Key, Value)> {
+fn listed(rt: &impl Abort, alloc: Global, listings: Listings) -> Vec<(Key, Value)> {
     let mut pairs = Vec::new(alloc);
-    for (low, digest, high) in listings {
-        let mut held = bytes_of(rt, alloc, digest);
-        held.extend_from_slice(high).expect(rt, "memory");
-        let pair = pair(rt, low, held.as_slice());
-        pairs.push(pair).expect(rt, "memory");
+    for listing in listings {
+        pairs.push(listing_of(rt, *listing)).expect(rt, "memory");
     }
     pairs
 }
 
 /// Whether the audit with the root of the map in format 1 says what is expected.
-fn holds(rt: &impl Abort, alloc: Global, question: Question) -> bool {
-    let (listings, words) = question;
+pub fn is_audited(rt: &impl Abort, alloc: Global, listings: Listings, words: &str) -> bool {
     let pairs = listed(rt, alloc, listings);
     match audit_directory(Format::One, &ROOT, pairs.as_slice()) {
         Ok(()) => words == "passed",
@@ -44,74 +64,82 @@ fn holds(rt: &impl Abort, alloc: Global, question: Question) -> bool {
     }
 }
 
-const QUESTIONS: &[Question] = &[
-    (
+const AUDITS: &[Case] = &[
+    Case::Audited(
         &[
-            (b"\0", FIRST, b"d"),
-            (b"d", SECOND, b"m"),
-            (b"m", THIRD, b""),
+            (0, FIRST, BOUND, b'd'),
+            (b'd', SECOND, BOUND, b'm'),
+            (b'm', THIRD, NO_BOUND, 0),
         ],
         "passed",
     ),
     // no shard, and a first one that begins above the least key
-    (&[], "A2"),
-    (&[(b"d", SECOND, b"m"), (b"m", THIRD, b"")], "A3"),
+    Case::Audited(&[], "A2"),
+    Case::Audited(
+        &[(b'd', SECOND, BOUND, b'm'), (b'm', THIRD, NO_BOUND, 0)],
+        "A3",
+    ),
     // a digest that is cut short
-    (
-        &[(b"\0", FIRST, b"d"), (b"d", "00", b""), (b"m", THIRD, b"")],
+    Case::Audited(
+        &[
+            (0, FIRST, BOUND, b'd'),
+            (b'd', SECOND, 1, 0),
+            (b'm', THIRD, NO_BOUND, 0),
+        ],
         "A4 1 L1",
     ),
     // lower bounds that fall, though each is an upper bound
-    (
+    Case::Audited(
         &[
-            (b"\0", FIRST, b"m"),
-            (b"m", THIRD, b"d"),
-            (b"d", SECOND, b""),
+            (0, FIRST, BOUND, b'm'),
+            (b'm', THIRD, BOUND, b'd'),
+            (b'd', SECOND, NO_BOUND, 0),
         ],
         "A4 1 L2",
     ),
     // the keys between c and d have no shard
-    (
+    Case::Audited(
         &[
-            (b"\0", FIRST, b"c"),
-            (b"d", SECOND, b"m"),
-            (b"m", THIRD, b""),
+            (0, FIRST, BOUND, b'c'),
+            (b'd', SECOND, BOUND, b'm'),
+            (b'm', THIRD, NO_BOUND, 0),
         ],
         "A4 0 L3",
     ),
     // the keys between d and e have two, or all above 00 have
-    (
+    Case::Audited(
         &[
-            (b"\0", FIRST, b"e"),
-            (b"d", SECOND, b"m"),
-            (b"m", THIRD, b""),
+            (0, FIRST, BOUND, b'e'),
+            (b'd', SECOND, BOUND, b'm'),
+            (b'm', THIRD, NO_BOUND, 0),
         ],
         "A4 0 L4",
     ),
-    (
+    Case::Audited(
         &[
-            (b"\0", FIRST, b""),
-            (b"d", SECOND, b"m"),
-            (b"m", THIRD, b""),
+            (0, FIRST, NO_BOUND, 0),
+            (b'd', SECOND, BOUND, b'm'),
+            (b'm', THIRD, NO_BOUND, 0),
         ],
         "A4 0 L4",
     ),
     // the keys from z on have no shard
-    (
+    Case::Audited(
         &[
-            (b"\0", FIRST, b"d"),
-            (b"d", SECOND, b"m"),
-            (b"m", THIRD, b"z"),
+            (0, FIRST, BOUND, b'd'),
+            (b'd', SECOND, BOUND, b'm'),
+            (b'm', THIRD, BOUND, b'z'),
         ],
         "A4 2 L5",
     ),
     // a directory of other shards
-    (&[(b"\0", FIRST, b"d"), (b"d", SECOND, b"")], "A5"),
+    Case::Audited(
+        &[(0, FIRST, BOUND, b'd'), (b'd', SECOND, NO_BOUND, 0)],
+        "A5",
+    ),
 ];
 
 #[test]
 fn audits_say_what_is_wrong_and_where(rt: HostRuntime) {
-    for (place, question) in QUESTIONS.iter().enumerate() {
-        confirm_at(&rt, holds(&rt, rt.alloc(), *question), place);
-    }
+    ask(&rt, AUDITS);
 }

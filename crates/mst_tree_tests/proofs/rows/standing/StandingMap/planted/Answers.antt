@@ -1,7 +1,7 @@
-use Rattle.mst_key.specs.declared.format.Format.TheVariants.{One}
 use Rattle.mst_tree_tests.proofs.rows.standing.StandingMap.planted.Goals as goal
 
 pub invariant_of-result : goal.invariant_of-result
 invariant_of-result g c =
     let m = c.requires.tree.0 in
-    (One, m, c.in-Ok.ensures.stands m c.requires.tree.1 c.requires.tree.2)
+    let stands = c.in-Ok.ensures.stands m c.requires.tree.1 c.requires.tree.2 in
+    ((m, stands), (c.args.format, m, stands))

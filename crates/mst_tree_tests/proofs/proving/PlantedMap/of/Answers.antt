@@ -1,6 +1,0 @@
-use Rattle.mst_tree_tests.proofs.proving.PlantedMap.of.Goals as goal
-
-pub invariant_of-result : goal.invariant_of-result
-invariant_of-result g c =
-    let m = c.requires.tree.0 in
-    (m, c.in-Ok.ensures.stands m c.requires.tree.1 c.requires.tree.2)
