@@ -7,66 +7,76 @@ use std::alloc::{AllocError, Global};
 use std::fmt::Display;
 use std::process::Abort;
 
+/// A refusal of one of the calls.
+enum Refusal {
+    Open(OpenFault),
+    Write(WriteFault),
+    Change(ChangeFault),
+    Migrate(MigrateFault),
+    Apply(ApplyFault),
+    Batch(BatchFault),
+    Count(Busy),
+}
+
 /// Whether a refusal prints this text.
 fn says<T: Display>(rt: &impl Abort, alloc: Global, fault: &T, text: &str) -> bool {
     let printed = format!(in alloc; "{fault}").expect(rt, "memory");
     printed.as_str() == text
 }
 
-/// Each of these refusals prints its text.
-fn all_say<T: Display>(rt: &impl Abort, alloc: Global, faults: &[(T, &str)]) {
-    for (fault, text) in faults {
-        confirm(rt, says(rt, alloc, fault, text), text);
+/// The same of a refusal of any call.
+fn any_says(rt: &impl Abort, alloc: Global, refusal: &Refusal, text: &str) -> bool {
+    match refusal {
+        Refusal::Open(fault) => says(rt, alloc, fault, text),
+        Refusal::Write(fault) => says(rt, alloc, fault, text),
+        Refusal::Change(fault) => says(rt, alloc, fault, text),
+        Refusal::Migrate(fault) => says(rt, alloc, fault, text),
+        Refusal::Apply(fault) => says(rt, alloc, fault, text),
+        Refusal::Batch(fault) => says(rt, alloc, fault, text),
+        Refusal::Count(busy) => says(rt, alloc, busy, text),
     }
 }
 
-/// Whether the refusals that no table has print their texts.
-fn others_say(rt: &impl Abort, alloc: Global, refused: Memory) -> bool {
-    const SHAPE: &str = "a store has 4 to 65535 rows and 1 to 32 passes";
-    says(rt, alloc, &OpenFault::Shape, SHAPE)
-        && says(rt, alloc, &OpenFault::Memory(refused), "no memory")
-        && says(rt, alloc, &MigrateFault::Memory(refused), "no memory")
-        && says(rt, alloc, &Busy, "another pass has the turn")
+/// Whether each refusal for want of memory says so.
+fn memory_says(rt: &impl Abort, alloc: Global, refused: Memory) -> bool {
+    const TEXT: &str = "no memory";
+    says(rt, alloc, &OpenFault::Memory(refused), TEXT)
+        && says(rt, alloc, &MigrateFault::Memory(refused), TEXT)
+        && says(rt, alloc, &ApplyFault::Memory(refused), TEXT)
+        && says(rt, alloc, &BatchFault::Memory(refused), TEXT)
 }
+
+const SHAPE: &str = "a store has 4 to 65535 rows and 1 to 32 passes";
+
+const BUSY: &str = "another pass has the turn";
+
+const SPENT: &str = "version numbers are spent";
+
+const NO_ROOM: &str = "no room";
+
+const TEXTS: &[(Refusal, &str)] = &[
+    (Refusal::Open(OpenFault::Shape), SHAPE),
+    (Refusal::Write(WriteFault::Busy), BUSY),
+    (Refusal::Write(WriteFault::VersionsSpent), SPENT),
+    (Refusal::Write(WriteFault::NoRoom), NO_ROOM),
+    (Refusal::Change(ChangeFault::VersionsSpent), SPENT),
+    (Refusal::Change(ChangeFault::NoRoom), NO_ROOM),
+    (Refusal::Migrate(MigrateFault::Busy), BUSY),
+    (Refusal::Migrate(MigrateFault::VersionsSpent), SPENT),
+    (Refusal::Migrate(MigrateFault::NoRoom), NO_ROOM),
+    (Refusal::Apply(ApplyFault::Busy), BUSY),
+    (Refusal::Apply(ApplyFault::VersionsSpent), SPENT),
+    (Refusal::Apply(ApplyFault::NoRoom), NO_ROOM),
+    (Refusal::Batch(BatchFault::VersionsSpent), SPENT),
+    (Refusal::Batch(BatchFault::NoRoom), NO_ROOM),
+    (Refusal::Count(Busy), BUSY),
+];
 
 #[test]
 fn each_refusal_has_its_text(rt: HostRuntime) {
-    const WRITES: &[(WriteFault, &str)] = &[
-        (WriteFault::Busy, "another pass has the turn"),
-        (WriteFault::VersionsSpent, "version numbers are spent"),
-        (WriteFault::NoRoom, "no room"),
-    ];
-    const CHANGES: &[(ChangeFault, &str)] = &[
-        (ChangeFault::VersionsSpent, "version numbers are spent"),
-        (ChangeFault::NoRoom, "no room"),
-    ];
-    const MIGRATIONS: &[(MigrateFault, &str)] = &[
-        (MigrateFault::Busy, "another pass has the turn"),
-        (MigrateFault::VersionsSpent, "version numbers are spent"),
-        (MigrateFault::NoRoom, "no room"),
-    ];
-    all_say(&rt, rt.alloc(), WRITES);
-    all_say(&rt, rt.alloc(), CHANGES);
-    all_say(&rt, rt.alloc(), MIGRATIONS);
-    assert!(rt; others_say(&rt, rt.alloc(), Memory::from(AllocError)));
-}
-
-#[test]
-fn each_refusal_of_a_batch_has_its_text(rt: HostRuntime) {
-    const TRIES: &[(ApplyFault, &str)] = &[
-        (ApplyFault::Busy, "another pass has the turn"),
-        (ApplyFault::VersionsSpent, "version numbers are spent"),
-        (ApplyFault::NoRoom, "no room"),
-    ];
-    const BATCHES: &[(BatchFault, &str)] = &[
-        (BatchFault::VersionsSpent, "version numbers are spent"),
-        (BatchFault::NoRoom, "no room"),
-    ];
-    all_say(&rt, rt.alloc(), TRIES);
-    all_say(&rt, rt.alloc(), BATCHES);
-    let refused = Memory::from(AllocError);
-    assert!(rt;
-        says(&rt, rt.alloc(), &ApplyFault::Memory(refused), "no memory")
-            && says(&rt, rt.alloc(), &BatchFault::Memory(refused), "no memory")
-    );
+    for (refusal, text) in TEXTS {
+        confirm(&rt, any_says(&rt, rt.alloc(), refusal, text), text);
+    }
+    let memory = memory_says(&rt, rt.alloc(), Memory::from(AllocError));
+    confirm(&rt, memory, "no memory");
 }

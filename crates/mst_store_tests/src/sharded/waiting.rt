@@ -83,28 +83,25 @@ fn all_keys(rt: &(impl Abort + AllocGlobal)) -> Vec<Key> {
     keys
 }
 
-// The last two of these handles.
-fn two<'a>(
-    rt: &impl Abort,
-    handles: Vec<Handle<'a, Global, Global>>,
-) -> (Handle<'a, Global, Global>, Handle<'a, Global, Global>) {
-    let mut handles = handles;
-    let (Some(one), Some(other)) = (handles.pop(), handles.pop()) else {
-        panic!(rt; "two handles")
-    };
-    (one, other)
+// Whether all writes of two handles go through, and leave what the last writes did.
+fn write_and_leave<R: Threads + Wait + Sync>(
+    rt: &R,
+    handles: &mut [Handle<'_, Global, Global>],
+    keys: &[Key],
+    value: &Value,
+) -> bool {
+    if handles.len() != 2 {
+        return false;
+    }
+    let (front, back) = handles.split_at_mut(1);
+    both_write(rt, &mut front[0], &mut back[0], keys, value) && is_left(&mut front[0], keys)
 }
 
 #[test]
 fn writes_wait_for_each_other(rt: HostRuntime) {
-    let (sharded, seats) = opened(&rt, 2, Shape { passes: 2, ..SHAPE });
-    let (mut one, mut other) = two(&rt, dealt(&rt, rt.alloc(), &sharded, seats));
     let (keys, value) = (all_keys(&rt), value(&rt, 1));
-    let wrote = both_write(&rt, &mut one, &mut other, &keys, &value);
-    confirm(&rt, wrote, "all writes go through");
-    confirm(
-        &rt,
-        is_left(&mut one, &keys),
-        "the map is that of the last writes",
-    );
+    let (sharded, seats) = opened(&rt, 2, Shape { passes: 2, ..SHAPE });
+    let mut handles = dealt(&rt, rt.alloc(), &sharded, seats);
+    let right = write_and_leave(&rt, &mut handles, &keys, &value);
+    confirm(&rt, right, "all writes go through, and the last are left");
 }
