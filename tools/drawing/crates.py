@@ -59,7 +59,7 @@ LAYERS = 16
 NOTES = [
     "A colour is a group. An arrow leads to what a crate depends on; it is left out where others"
     " lead the same way. No arrow leads from the verifiers to the store.",
-    "Not drawn: crates of tests, mst_bench and mst_cookbook, which stand at the top.",
+    "Not drawn: crates of tests and mst_cookbook, which stand at the top.",
 ]
 # From a crate's box to the edge of its group: where its name stands, and elsewhere.
 NAMED, EDGE = 32, 10

@@ -1,5 +1,5 @@
 //! What an audit service answers, and what its client checks by the root digest alone.
-use crate::sharing::{put, two_passes};
+use crate::sharing::{put, tell, two_passes};
 use anyhow::Result;
 use mst_key::{Format, Key, Memory, Value};
 use mst_proof::verify_in;
@@ -34,54 +34,52 @@ fn judged(root: &[u8; 32], key: &Key, answer: &Answer) -> &'static str {
     }
 }
 
-// Prints what the client finds of an answer.
-fn tell(rt: &HostRuntime, what: &str, root: &[u8; 32], key: &Key, answer: &Answer) -> Result<()> {
-    let verdict = judged(root, key, answer);
-    println!(rt; "{what}: {verdict}")?;
-    Ok(())
-}
-
 // What somebody makes of an answer on the way.
-fn forged(answer: Answer) -> Result<Answer> {
-    let value = Value::new(b"31")?;
-    Ok(Answer {
-        value: Some(value),
-        proof: answer.proof,
-    })
+fn forge(answer: &mut Answer) {
+    answer.value = Value::new(b"31").ok();
 }
 
-// The client gets an answer, and then a forged one.
-fn compare(rt: &HostRuntime, root: &[u8; 32], key: &Key, told: Answer) -> Result<()> {
-    tell(rt, "the answer", root, key, &told)?;
-    tell(rt, "a forged one", root, key, &forged(told)?)
-}
-
-// The service moves on to the version now. The client still has the root digest of the one before.
-fn tell_newer(
+// The client gets an answer, then the same one forged, and one of a newer version. It still has the
+// root digest of the version before.
+fn compare(
     rt: &HostRuntime,
-    reader: Pass<'_, Global>,
     root: &[u8; 32],
     key: &Key,
+    told: &mut Answer,
+    newer: &Answer,
 ) -> Result<()> {
-    let told = answer_for(rt.alloc(), &mut reader.pin(), key)?;
-    tell(rt, "a newer one", root, key, &told)
+    tell(rt, "the answer", judged(root, key, told))?;
+    forge(told);
+    tell(rt, "a forged one", judged(root, key, told))?;
+    tell(rt, "a newer one", judged(root, key, newer))
 }
 
 // The service answers from a version that it pins, and then from the newest one.
-fn serve(rt: &HostRuntime, mut pinned: Pinned<'_, Global>) -> Result<()> {
+fn serve(
+    rt: &HostRuntime,
+    before: &mut Pinned<'_, Global>,
+    now: &mut Pinned<'_, Global>,
+) -> Result<()> {
     let apple = Key::new(b"apple")?;
-    let answer = answer_for(rt.alloc(), &mut pinned, &apple)?;
-    let root = pinned.root();
-    compare(rt, &root, &apple, answer)?;
-    tell_newer(rt, pinned.unpin(), &root, &apple)
+    let mut told = answer_for(rt.alloc(), before, &apple)?;
+    let newer = answer_for(rt.alloc(), now, &apple)?;
+    compare(rt, &before.root(), &apple, &mut told, &newer)
 }
 
-// A writer goes on while the service has a version pinned.
+// The writer goes on while the service has a version pinned.
+fn go_on(
+    rt: &HostRuntime,
+    mut writer: Pass<'_, Global>,
+    before: &mut Pinned<'_, Global>,
+) -> Result<()> {
+    put(&mut writer, "apple", "35")?;
+    serve(rt, before, &mut writer.pin())
+}
+
+// Puts a price, and pins the version that has it.
 fn show(rt: &HostRuntime, mut writer: Pass<'_, Global>, reader: Pass<'_, Global>) -> Result<()> {
     put(&mut writer, "apple", "30")?;
-    let pinned = reader.pin();
-    put(&mut writer, "apple", "35")?;
-    serve(rt, pinned)
+    go_on(rt, writer, &mut reader.pin())
 }
 
 pub fn run(rt: &HostRuntime) -> Result<()> {

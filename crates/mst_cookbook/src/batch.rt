@@ -1,7 +1,7 @@
 //! A block of changes as one version.
-use crate::sharing::one_pass;
+use crate::sharing::{one_pass, pair};
 use anyhow::Result;
-use mst_key::{Edit, Format, Key, Value};
+use mst_key::{Edit, Format, Key};
 use mst_store::{Pass, Shape, Store};
 use std::alloc::Global;
 
@@ -16,10 +16,12 @@ type Change = (&'static str, Option<&'static str>);
 
 // The edit of a change.
 fn edit_of(fruit: &str, price: Option<&str>) -> Result<Edit> {
-    let key = Key::new(fruit.as_bytes())?;
     match price {
-        Some(text) => Ok(Edit::Put(key, Value::new(text.as_bytes())?)),
-        None => Ok(Edit::Remove(key)),
+        Some(price) => {
+            let (key, value) = pair(fruit, price)?;
+            Ok(Edit::Put(key, value))
+        }
+        None => Ok(Edit::Remove(Key::new(fruit.as_bytes())?)),
     }
 }
 

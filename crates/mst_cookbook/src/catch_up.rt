@@ -1,7 +1,7 @@
 //! A replica that was away takes over what it lacks of another, by one batch.
 use crate::sharing::{one_pass, put_users};
 use anyhow::Result;
-use mst_key::{Edit, Format, Value};
+use mst_key::{Edit, Format};
 use mst_store::{MOST_ROWS, Pass, Pinned, Shape, Store};
 use std::alloc::Global;
 
@@ -81,11 +81,15 @@ fn tell(
     Ok(())
 }
 
-// Lets theirs go on without us, and catches up.
+// Fills both, and lets theirs go on without us.
+fn fill(alloc: Global, ours: &mut Pass<'_, Global>, theirs: &mut Pass<'_, Global>) -> Result<()> {
+    put_users(alloc, ours, 0..100, b"new")?;
+    put_users(alloc, theirs, 10..130, b"new")
+}
+
+// Fills both, and catches up.
 fn show(rt: &HostRuntime, mut ours: Pass<'_, Global>, mut theirs: Pass<'_, Global>) -> Result<()> {
-    let value = Value::new(b"new")?;
-    put_users(rt.alloc(), &mut ours, 0..100, &value)?;
-    put_users(rt.alloc(), &mut theirs, 10..130, &value)?;
+    fill(rt.alloc(), &mut ours, &mut theirs)?;
     tell(rt, &mut ours, &mut theirs.pin())
 }
 

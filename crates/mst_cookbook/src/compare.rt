@@ -1,7 +1,7 @@
 //! Two replicas: whether their maps are equal, and at which keys they differ.
-use crate::sharing::{one_pass, put_each, text};
+use crate::sharing::{one_pass, put_each, tell, text};
 use anyhow::Result;
-use mst_key::{Format, Key};
+use mst_key::Format;
 use mst_store::{MOST_ROWS, Pass, Pinned, Shape, Store};
 use std::alloc::Global;
 
@@ -11,32 +11,18 @@ const SHAPE: Shape = Shape {
     format: Format::One,
 };
 
-// Prints a key at which a replica differs.
-fn tell_key(rt: &HostRuntime, name: &str, key: &Key) -> Result<()> {
-    let fruit = text(key.bytes());
-    println!(rt; "differs in {name}: {fruit}")?;
-    Ok(())
-}
-
 // Prints the keys of one replica that have another value in the other, or none.
 fn tell_differing(
     rt: &HostRuntime,
-    name: &str,
+    what: &str,
     one: &mut Pinned<'_, Global>,
     other: &mut Pinned<'_, Global>,
 ) -> Result<()> {
     for (key, value) in one.range(rt.alloc(), None, None, MOST_ROWS as usize)? {
         if other.get(&key) != Some(value) {
-            tell_key(rt, name, &key)?;
+            tell(rt, what, text(key.bytes()))?;
         }
     }
-    Ok(())
-}
-
-// Prints whether the root digests are equal.
-fn tell_equal(rt: &HostRuntime, equal: bool) -> Result<()> {
-    let word = if equal { "yes" } else { "no" };
-    println!(rt; "equal: {word}")?;
     Ok(())
 }
 
@@ -46,13 +32,12 @@ fn compare(
     ours: &mut Pinned<'_, Global>,
     theirs: &mut Pinned<'_, Global>,
 ) -> Result<()> {
-    let equal = ours.root() == theirs.root();
-    tell_equal(rt, equal)?;
-    if equal {
-        return Ok(());
+    if ours.root() == theirs.root() {
+        return tell(rt, "equal", "yes");
     }
-    tell_differing(rt, "ours", ours, theirs)?;
-    tell_differing(rt, "theirs", theirs, ours)
+    tell(rt, "equal", "no")?;
+    tell_differing(rt, "differs in ours", ours, theirs)?;
+    tell_differing(rt, "differs in theirs", theirs, ours)
 }
 
 // Prices of fruits: the same in both maps, put in other orders, and then a change of theirs.
@@ -62,23 +47,28 @@ const THEIRS: &[(&str, &str)] = &[("plum", "12"), ("apple", "30")];
 
 const LATER: &[(&str, &str)] = &[("apple", "35"), ("pear", "20")];
 
+// Fills both.
+fn fill(ours: &mut Pass<'_, Global>, theirs: &mut Pass<'_, Global>) -> Result<()> {
+    put_each(ours, OURS)?;
+    put_each(theirs, THEIRS)
+}
+
 // Compares both before and after the change.
 fn compare_twice(
     rt: &HostRuntime,
-    mut ours: Pinned<'_, Global>,
+    ours: &mut Pinned<'_, Global>,
     mut theirs: Pinned<'_, Global>,
 ) -> Result<()> {
-    compare(rt, &mut ours, &mut theirs)?;
+    compare(rt, ours, &mut theirs)?;
     let mut theirs = theirs.unpin();
     put_each(&mut theirs, LATER)?;
-    compare(rt, &mut ours, &mut theirs.pin())
+    compare(rt, ours, &mut theirs.pin())
 }
 
 // Fills both, and compares them.
 fn show(rt: &HostRuntime, mut ours: Pass<'_, Global>, mut theirs: Pass<'_, Global>) -> Result<()> {
-    put_each(&mut ours, OURS)?;
-    put_each(&mut theirs, THEIRS)?;
-    compare_twice(rt, ours.pin(), theirs.pin())
+    fill(&mut ours, &mut theirs)?;
+    compare_twice(rt, &mut ours.pin(), theirs.pin())
 }
 
 // Opens theirs next to ours.

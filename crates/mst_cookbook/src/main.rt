@@ -2,13 +2,14 @@
 //! Each is whole: it opens its stores itself, and prints what it found.
 //!
 //! `rt run` in this folder proves them and runs them; `rt try` runs them unproved. With words on
-//! its command line the program makes the calls of `mst_bench` in their place.
+//! its command line the program makes the calls of `counted` in their place.
 #![tactic(auto)]
 
 mod audit_service;
 mod batch;
 mod catch_up;
 mod compare;
+mod counted;
 mod migrate;
 mod open_and_size;
 mod prove_and_verify;
@@ -51,7 +52,7 @@ fn run_all<T: Threads + Wait + Sync>(rt: &HostRuntime, threads: &T) -> Result<()
 fn main(rt: HostRuntime) -> Result<()> {
     let words: Vec<String> = env::args(&rt)?.collect(rt.alloc())?;
     if words.len() > 1 {
-        return Ok(mst_bench::run(&rt, words.as_slice())?);
+        return counted::run(&rt, &words);
     }
     run_all(&rt, &rt)
 }

@@ -1,7 +1,7 @@
 //! Turns a store to format 2, while a reader pins the version before.
 use crate::sharing::{put_users, two_passes};
 use anyhow::Result;
-use mst_key::{Format, Key, Value};
+use mst_key::{Format, Key};
 use mst_store::{Pass, Pinned, Shape, Store};
 use std::alloc::Global;
 
@@ -32,22 +32,31 @@ fn tell(rt: &HostRuntime, whose: &str, pinned: &mut Pinned<'_, Global>, key: &Ke
     Ok(())
 }
 
-// Migrates, and compares the version before, which a reader pins, with the one after.
+// Compares the version before with the one after.
+fn compare(
+    rt: &HostRuntime,
+    before: &mut Pinned<'_, Global>,
+    now: &mut Pinned<'_, Global>,
+) -> Result<()> {
+    let key = Key::new(b"user 1")?;
+    tell(rt, "the pinned version", before, &key)?;
+    tell(rt, "the version now", now, &key)
+}
+
+// Migrates, while a reader pins the version before.
 fn migrate(
     rt: &HostRuntime,
     mut writer: Pass<'_, Global>,
-    mut before: Pinned<'_, Global>,
+    before: &mut Pinned<'_, Global>,
 ) -> Result<()> {
-    let key = Key::new(b"user 1")?;
     writer.try_migrate(rt.alloc(), Format::Two)?;
-    tell(rt, "the pinned version", &mut before, &key)?;
-    tell(rt, "the version now", &mut writer.pin(), &key)
+    compare(rt, before, &mut writer.pin())
 }
 
 // Fills the map in format 1, and migrates it.
 fn show(rt: &HostRuntime, mut writer: Pass<'_, Global>, reader: Pass<'_, Global>) -> Result<()> {
-    put_users(rt.alloc(), &mut writer, 0..KEYS, &Value::new(&[0; 32])?)?;
-    migrate(rt, writer, reader.pin())
+    put_users(rt.alloc(), &mut writer, 0..KEYS, &[0; 32])?;
+    migrate(rt, writer, &mut reader.pin())
 }
 
 pub fn run(rt: &HostRuntime) -> Result<()> {

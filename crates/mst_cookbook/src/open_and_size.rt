@@ -1,7 +1,7 @@
 //! Opens a store for 1,000 keys, puts them, and asks how many rows they take.
 use crate::sharing::{one_pass, put_users};
 use anyhow::{Error, Result};
-use mst_key::{Format, Value};
+use mst_key::Format;
 use mst_store::{Pass, Shape, Store};
 use std::alloc::Global;
 
@@ -23,10 +23,11 @@ const SHAPE: Shape = Shape {
     format: Format::One,
 };
 
-// Prints how many rows are taken. Another pass could have the turn, or pin.
+// Prints how many rows are taken.
 fn tell_rows(rt: &HostRuntime, pass: &mut Pass<'_, Global>) -> Result<()> {
-    let Some(taken) = pass.rows()? else {
-        return Err(Error::msg("no pass pins a version"));
+    // another pass could have the turn, or pin
+    let Ok(Some(taken)) = pass.rows() else {
+        return Err(Error::msg("no other pass has the turn, and none pins a version"));
     };
     let rows = SHAPE.rows;
     println!(rt; "{KEYS} keys take {taken} rows of {rows}")?;
@@ -35,7 +36,7 @@ fn tell_rows(rt: &HostRuntime, pass: &mut Pass<'_, Global>) -> Result<()> {
 
 // Fills the store, and asks.
 fn show(rt: &HostRuntime, mut pass: Pass<'_, Global>) -> Result<()> {
-    put_users(rt.alloc(), &mut pass, 0..KEYS, &Value::new(b"new")?)?;
+    put_users(rt.alloc(), &mut pass, 0..KEYS, b"new")?;
     tell_rows(rt, &mut pass)
 }
 

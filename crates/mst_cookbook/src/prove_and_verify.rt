@@ -23,13 +23,6 @@ fn check(rt: &HostRuntime, format: Format, root: &[u8; 32], key: &Key, proof: &[
     Ok(printed?)
 }
 
-// Proves an answer, and has it checked: format, root digest and proof are of one version.
-fn show_answer(rt: &HostRuntime, pinned: &mut Pinned<'_, Global>, key: &Key) -> Result<()> {
-    let proof = pinned.prove(rt.alloc(), key)?;
-    let (format, root) = (pinned.format(), pinned.root());
-    check(rt, format, &root, key, &proof)
-}
-
 // Makes the last byte of a proof another one.
 fn change(proof: &mut [u8]) {
     if let Some(digit) = proof.last_mut() {
@@ -37,20 +30,27 @@ fn change(proof: &mut [u8]) {
     }
 }
 
-// The same, with the proof changed on the way.
-fn show_forged(rt: &HostRuntime, pinned: &mut Pinned<'_, Global>, key: &Key) -> Result<()> {
-    let mut proof = pinned.prove(rt.alloc(), key)?;
-    change(&mut proof);
-    let (format, root) = (pinned.format(), pinned.root());
-    check(rt, format, &root, key, &proof)
+// Proves an answer, and has it checked: format, root digest and proof are of one version. The proof
+// may be changed on the way.
+fn show_answer(
+    rt: &HostRuntime,
+    pinned: &mut Pinned<'_, Global>,
+    fruit: &str,
+    is_forged: bool,
+) -> Result<()> {
+    let key = Key::new(fruit.as_bytes())?;
+    let mut proof = pinned.prove(rt.alloc(), &key)?;
+    if is_forged {
+        change(&mut proof);
+    }
+    check(rt, pinned.format(), &pinned.root(), &key, &proof)
 }
 
 // Has two answers of one version checked, and one whose proof was changed.
 fn show_all(rt: &HostRuntime, pinned: &mut Pinned<'_, Global>) -> Result<()> {
-    let (apple, pear) = (Key::new(b"apple")?, Key::new(b"pear")?);
-    show_answer(rt, pinned, &apple)?;
-    show_answer(rt, pinned, &pear)?;
-    show_forged(rt, pinned, &apple)
+    show_answer(rt, pinned, "apple", false)?;
+    show_answer(rt, pinned, "pear", false)?;
+    show_answer(rt, pinned, "apple", true)
 }
 
 // Puts a pair, and pins the version that has it.

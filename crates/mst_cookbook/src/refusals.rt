@@ -1,5 +1,5 @@
 //! Refusals, and what to do then.
-use crate::sharing::two_passes;
+use crate::sharing::{pair, put_each, tell, two_passes};
 use anyhow::Result;
 use mst_key::{Format, Key, Value};
 use mst_store::{ChangeFault, Pass, Shape, Store, WriteFault};
@@ -13,19 +13,21 @@ const SHAPE: Shape = Shape {
     format: Format::One,
 };
 
-// Prints whether something went through.
-fn tell(rt: &HostRuntime, what: &str, is_done: bool) -> Result<()> {
-    let word = if is_done { "done" } else { "refused" };
-    println!(rt; "{what}: {word}")?;
-    Ok(())
+// What is printed of something that went through, or not.
+fn outcome(is_done: bool) -> &'static str {
+    if is_done { "done" } else { "refused" }
 }
 
 // Asks for sizes that nothing has.
 fn show_sizes(rt: &HostRuntime) -> Result<()> {
-    let opened = Store::open(rt.alloc(), Shape { rows: 3, ..SHAPE }).is_ok();
-    tell(rt, "a store of 3 rows", opened)?;
-    tell(rt, "a key of 33 bytes", Key::new(&[0; 33]).is_ok())?;
-    tell(rt, "a value of 65 bytes", Value::new(&[0; 65]).is_ok())
+    let is_open = Store::open(rt.alloc(), Shape { rows: 3, ..SHAPE }).is_ok();
+    tell(rt, "a store of 3 rows", outcome(is_open))?;
+    tell(rt, "a key of 33 bytes", outcome(Key::new(&[0; 33]).is_ok()))?;
+    tell(
+        rt,
+        "a value of 65 bytes",
+        outcome(Value::new(&[0; 65]).is_ok()),
+    )
 }
 
 // Puts a pair. If another pass has the turn, it waits for it.
@@ -45,25 +47,6 @@ fn put<T: Wait>(
     }
 }
 
-// Puts a pair, both of them texts.
-fn put_text<T: Wait>(
-    waits: &T,
-    pass: &mut Pass<'_, Global>,
-    fruit: &str,
-    price: &str,
-) -> Result<Option<Value>> {
-    let (key, value) = (Key::new(fruit.as_bytes())?, Value::new(price.as_bytes())?);
-    Ok(put(waits, pass, &key, &value)?)
-}
-
-// Puts keys with a price.
-fn put_each<T: Wait>(waits: &T, pass: &mut Pass<'_, Global>, fruits: &[&str]) -> Result<()> {
-    for fruit in fruits {
-        put_text(waits, pass, fruit, "30")?;
-    }
-    Ok(())
-}
-
 // Changes the price of an apple, and prints whether that went through.
 fn change<T: Wait>(
     rt: &HostRuntime,
@@ -72,8 +55,9 @@ fn change<T: Wait>(
     what: &str,
     price: &str,
 ) -> Result<()> {
-    let is_done = put_text(waits, pass, "apple", price).is_ok();
-    tell(rt, what, is_done)
+    let (key, value) = pair("apple", price)?;
+    let is_done = put(waits, pass, &key, &value).is_ok();
+    tell(rt, what, outcome(is_done))
 }
 
 // Changes it twice. The first change takes the rows that the second one would need, as long as the
@@ -83,18 +67,30 @@ fn change_twice<T: Wait>(rt: &HostRuntime, waits: &T, writer: &mut Pass<'_, Glob
     change(rt, waits, writer, "one more", "35")
 }
 
-// Puts three keys, and changes one of them twice while a version is pinned.
+// Changes it twice while a version is pinned, and once more.
+fn change_beside<T: Wait>(
+    rt: &HostRuntime,
+    waits: &T,
+    writer: &mut Pass<'_, Global>,
+    reader: Pass<'_, Global>,
+) -> Result<()> {
+    let pinned = reader.pin();
+    change_twice(rt, waits, writer)?;
+    pinned.unpin();
+    change(rt, waits, writer, "the same after the unpin", "35")
+}
+
+const FRUITS: &[(&str, &str)] = &[("plum", "30"), ("pear", "30"), ("apple", "30")];
+
+// Puts three keys, and changes one of them.
 fn show<T: Wait>(
     rt: &HostRuntime,
     waits: &T,
     mut writer: Pass<'_, Global>,
     reader: Pass<'_, Global>,
 ) -> Result<()> {
-    put_each(waits, &mut writer, &["plum", "pear", "apple"])?;
-    let pinned = reader.pin();
-    change_twice(rt, waits, &mut writer)?;
-    pinned.unpin();
-    change(rt, waits, &mut writer, "the same after the unpin", "35")
+    put_each(&mut writer, FRUITS)?;
+    change_beside(rt, waits, &mut writer, reader)
 }
 
 // Opens a store with little room.

@@ -33,24 +33,35 @@ fn report(rt: &HostRuntime, pinned: &mut Pinned<'_, Global>) -> Result<()> {
     report_accounts(rt, pinned)
 }
 
+// Reports on two versions.
+fn report_both(
+    rt: &HostRuntime,
+    before: &mut Pinned<'_, Global>,
+    now: &mut Pinned<'_, Global>,
+) -> Result<()> {
+    report(rt, before)?;
+    report(rt, now)
+}
+
 // Accounts with their amounts, before and after a payment.
 const BEFORE: &[(&str, &str)] = &[("ann", "60"), ("bob", "40")];
 
 const AFTER: &[(&str, &str)] = &[("ann", "10"), ("bob", "90")];
 
-// Reports on the version that is pinned, and on the newest one.
-fn report_both(rt: &HostRuntime, mut pinned: Pinned<'_, Global>) -> Result<()> {
-    report(rt, &mut pinned)?;
-    let mut pinned = pinned.unpin().pin();
-    report(rt, &mut pinned)
+// Goes on writing while a version is pinned.
+fn go_on(
+    rt: &HostRuntime,
+    mut writer: Pass<'_, Global>,
+    before: &mut Pinned<'_, Global>,
+) -> Result<()> {
+    put_each(&mut writer, AFTER)?;
+    report_both(rt, before, &mut writer.pin())
 }
 
-// Writes, and goes on writing while a version is pinned.
+// Writes, and pins the version that has that.
 fn show(rt: &HostRuntime, mut writer: Pass<'_, Global>, reader: Pass<'_, Global>) -> Result<()> {
     put_each(&mut writer, BEFORE)?;
-    let pinned = reader.pin();
-    put_each(&mut writer, AFTER)?;
-    report_both(rt, pinned)
+    go_on(rt, writer, &mut reader.pin())
 }
 
 pub fn run(rt: &HostRuntime) -> Result<()> {

@@ -1,7 +1,7 @@
 //! More keys than a store has rows for: a map of three shards, with one root digest.
-use crate::sharing::text;
+use crate::sharing::{pair, text};
 use anyhow::{Error, Result};
-use mst_key::{Format, Key, Value};
+use mst_key::{Format, Key};
 use mst_sharded::{Handle, Sharded, Snapshot};
 use mst_sharded_proof::verify_sharded;
 use mst_store::Shape;
@@ -16,36 +16,39 @@ const SHAPE: Shape = Shape {
 
 // Puts a price.
 fn put(handle: &mut Handle<'_, Global, Global>, fruit: &str, price: &str) -> Result<()> {
-    let value = Value::new(price.as_bytes())?;
-    handle.try_put(&Key::new(fruit.as_bytes())?, &value)?;
+    let (key, value) = pair(fruit, price)?;
+    handle.try_put(&key, &value)?;
     Ok(())
+}
+
+// Puts two prices, whose keys are in two shards.
+fn fill(handle: &mut Handle<'_, Global, Global>) -> Result<()> {
+    put(handle, "apple", "30")?;
+    put(handle, "plum", "12")
 }
 
 // Prints what somebody finds who has the root digest of all shards, and a proof.
 fn tell(rt: &HostRuntime, shards: usize, root: &[u8; 32], key: &Key, proof: &[u8]) -> Result<()> {
-    let printed = match verify_sharded(Format::One, root, key, proof) {
-        Ok(Some(value)) => {
-            let price = text(value.bytes());
-            println!(rt; "{shards} shards; proved: the price of plum is {price}")
-        }
-        _ => println!(rt; "{shards} shards; nothing is proved"),
+    let Ok(Some(value)) = verify_sharded(Format::One, root, key, proof) else {
+        return Err(Error::msg("nothing is proved"));
     };
-    Ok(printed?)
+    let price = text(value.bytes());
+    println!(rt; "{shards} shards; proved: the price of plum is {price}")?;
+    Ok(())
 }
 
 // Proves an answer of a snapshot.
-fn prove(rt: &HostRuntime, snapshot: &mut Snapshot<'_, Global, Global>, key: &Key) -> Result<()> {
+fn prove(rt: &HostRuntime, snapshot: &mut Snapshot<'_, Global, Global>) -> Result<()> {
+    let plum = Key::new(b"plum")?;
     let root = snapshot.root(rt.alloc())?;
-    let proof = snapshot.prove(rt.alloc(), key)?;
-    tell(rt, snapshot.shards(), &root, key, &proof)
+    let proof = snapshot.prove(rt.alloc(), &plum)?;
+    tell(rt, snapshot.shards(), &root, &plum, &proof)
 }
 
 // Writes through a handle, and proves an answer.
 fn show(rt: &HostRuntime, mut handle: Handle<'_, Global, Global>) -> Result<()> {
-    put(&mut handle, "apple", "30")?;
-    put(&mut handle, "plum", "12")?;
-    let plum = Key::new(b"plum")?;
-    prove(rt, &mut handle.snapshot(), &plum)
+    fill(&mut handle)?;
+    prove(rt, &mut handle.snapshot())
 }
 
 // The first keys of the shards after the first: below h, from h on, from p on.

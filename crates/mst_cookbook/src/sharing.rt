@@ -1,4 +1,4 @@
-//! What the recipes share: the passes of a store, and texts as keys and values.
+//! What the recipes share: the passes of a store, texts as keys and values, and lines.
 ghost use Rattle.std.specs.Prelude.{◌≡◌};
 
 use anyhow::{Error, Result};
@@ -52,9 +52,14 @@ pub fn two_passes<'a>(
     }
 }
 
+/// A key and a value, both of them texts.
+pub fn pair(key: &str, value: &str) -> Result<(Key, Value)> {
+    Ok((Key::new(key.as_bytes())?, Value::new(value.as_bytes())?))
+}
+
 /// Puts a value at a key, both of them texts.
 pub fn put(pass: &mut Pass<'_, Global>, key: &str, value: &str) -> Result<()> {
-    let (key, value) = (Key::new(key.as_bytes())?, Value::new(value.as_bytes())?);
+    let (key, value) = pair(key, value)?;
     pass.try_put(&key, &value)?;
     Ok(())
 }
@@ -67,10 +72,11 @@ pub fn put_each(pass: &mut Pass<'_, Global>, pairs: &[(&str, &str)]) -> Result<(
     Ok(())
 }
 
-// The key of a user.
-fn user(alloc: Global, number: u32) -> Result<Key> {
+// Puts a value at the key of a user.
+fn put_user(alloc: Global, pass: &mut Pass<'_, Global>, number: u32, value: &Value) -> Result<()> {
     let name = format!(in alloc; "user {number}")?;
-    Ok(Key::new(name.as_bytes())?)
+    pass.try_put(&Key::new(name.as_bytes())?, value)?;
+    Ok(())
 }
 
 /// Puts a value at the keys of the users with these numbers.
@@ -78,10 +84,11 @@ pub fn put_users(
     alloc: Global,
     pass: &mut Pass<'_, Global>,
     numbers: Range<u32>,
-    value: &Value,
+    value: &[u8],
 ) -> Result<()> {
+    let value = Value::new(value)?;
     for number in numbers {
-        pass.try_put(&user(alloc, number)?, value)?;
+        put_user(alloc, pass, number, &value)?;
     }
     Ok(())
 }
@@ -89,4 +96,10 @@ pub fn put_users(
 /// The text of a key or a value; `no text` for bytes that spell none.
 pub fn text(bytes: &[u8]) -> &str {
     str::from_utf8(bytes).unwrap_or("no text")
+}
+
+/// Prints a line: what it is about, and what was found.
+pub fn tell(rt: &HostRuntime, what: &str, found: &str) -> Result<()> {
+    println!(rt; "{what}: {found}")?;
+    Ok(())
 }

@@ -1,5 +1,5 @@
 //! The words of the command line.
-use crate::kinds::{self, Kind};
+use super::kinds::{self, Kind};
 use mst_key::Format;
 
 /// Calls of one kind at a map of this many keys, in a format.
@@ -33,38 +33,41 @@ fn number(word: &str) -> Option<u32> {
     }
 }
 
-// The format that a word names, format 1 if there is none.
-fn format(word: Option<&str>) -> Option<Format> {
-    match word {
-        None | Some("1") => Some(Format::One),
-        Some("2") => Some(Format::Two),
+// The format that the last word names, if there is one, and format 1 if there is none.
+fn format(last: &[String]) -> Option<Format> {
+    match last {
+        [] => Some(Format::One),
+        [word] if word.as_str() == "1" => Some(Format::One),
+        [word] if word.as_str() == "2" => Some(Format::Two),
         _ => None,
     }
 }
 
 // The calls that these words name.
-fn calls_of(kind: &str, keys: &str, calls: &str, last: Option<&str>) -> Option<Calls> {
-    let (keys, calls, format) = (number(keys)?, number(calls)?, format(last)?);
-    let (kind, name) = kinds::named(kind)?;
-    Some(Calls {
-        kind,
-        name,
-        keys,
-        calls,
-        format,
-    })
+fn calls_of(kind: &str, keys: &str, calls: &str, last: &[String]) -> Option<Calls> {
+    match (
+        kinds::named(kind),
+        number(keys),
+        number(calls),
+        format(last),
+    ) {
+        (Some((kind, name)), Some(keys), Some(calls), Some(format)) => Some(Calls {
+            kind,
+            name,
+            keys,
+            calls,
+            format,
+        }),
+        _ => None,
+    }
 }
 
 /// The calls that the words of the command line ask for, of which the first is the program's name.
 pub fn asked(words: &[String]) -> Option<Calls> {
     match words {
-        [_, kind, keys, calls] => calls_of(kind.as_str(), keys.as_str(), calls.as_str(), None),
-        [_, kind, keys, calls, last] => calls_of(
-            kind.as_str(),
-            keys.as_str(),
-            calls.as_str(),
-            Some(last.as_str()),
-        ),
+        [_, kind, keys, calls, last @ ..] => {
+            calls_of(kind.as_str(), keys.as_str(), calls.as_str(), last)
+        }
         _ => None,
     }
 }

@@ -1,20 +1,20 @@
 //! Batches: puts into a full map, and loads of an empty one.
 ghost use Rattle.std.specs.Prelude.{◌<◌, length};
 
-use crate::alone;
-use crate::calls::{FIRST_NEW_VALUE, picked};
-use crate::keys::value;
-use crate::stores::{one_pass, opened, tell};
-use mst_key::{Edit, Format, Key, Value};
+use super::alone;
+use super::changes::{FIRST_NEW_VALUE, picked};
+use super::keys::value;
+use super::words::Calls;
+use anyhow::Result;
+use mst_key::{Edit, Key, Value};
 use mst_store::Pass;
 use std::alloc::{AllocError, Global};
-use std::io;
 
 // The value of a call. Those of batches of other sizes are other values, so that one kind of calls
 // after another changes the map.
 fn new_value(size: u32, call: u32) -> Value {
     let first = FIRST_NEW_VALUE.saturating_add(u64::from(size) << 32);
-    value(first.saturating_add(u64::from(call)))
+    value(first.saturating_add(u64::from(call)), false)
 }
 
 // The puts of the batch that begins with the call `first` and ends before `end`.
@@ -72,24 +72,18 @@ pub fn put(alloc: Global, pass: &mut Pass<'_, Global>, keys: &[Key], calls: u32,
 fn edits_of_all(alloc: Global, keys: &[Key]) -> Result<Vec<Edit>, AllocError> {
     let mut edits = Vec::with_capacity(alloc, keys.len())?;
     for (number, key) in keys.iter().enumerate() {
-        edits.push(Edit::Put(key.copy(), value(number as u64)))?;
+        edits.push(Edit::Put(key.copy(), value(number as u64, false)))?;
     }
     Ok(edits)
 }
 
-// Opens a store, and makes the batch of these edits, one for each key.
-fn load_one(rt: &HostRuntime, edits: &[Edit], format: Format) -> io::Result<()> {
-    let (store, seats) = opened(rt.alloc(), alone::shape(format))?;
-    let mut pass = one_pass(rt.alloc(), &store, seats)?;
-    let done = pass.try_apply(rt.alloc(), edits).is_ok();
-    tell(rt, "load", edits.len(), 1, done)
-}
-
 /// Puts all keys by one batch into an empty store, `calls` times, each in a store of its own.
-pub fn load(rt: &HostRuntime, keys: &[Key], calls: u32, format: Format) -> io::Result<()> {
+pub fn load(rt: &HostRuntime, keys: &[Key], of: &Calls) -> Result<()>
+    requires some { 0 < length keys.now }
+{
     let edits = edits_of_all(rt.alloc(), keys)?;
-    for _ in 0..calls {
-        load_one(rt, edits.as_slice(), format)?;
+    for _ in 0..of.calls {
+        alone::run(rt, keys, &edits, of)?;
     }
     Ok(())
 }

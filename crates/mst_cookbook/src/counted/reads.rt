@@ -1,8 +1,8 @@
 //! Calls that change nothing, each made many times.
 ghost use Rattle.std.specs.Prelude.{◌<◌, length};
 
-use crate::calls::picked;
-use mst_key::{Key, Memory};
+use super::changes::picked;
+use mst_key::{Format, Key, Memory};
 use mst_proof::verify_in;
 use mst_store::{Pass, Pinned};
 use std::alloc::Global;
@@ -90,38 +90,43 @@ pub fn range(alloc: Global, pass: &mut Pass<'_, Global>, keys: &[Key], calls: u3
 }
 
 // Proofs of the answers for the keys of the first calls.
-fn proofs(
-    alloc: Global,
-    pass: &mut Pass<'_, Global>,
-    keys: &[Key],
-) -> Result<Vec<(Key, Vec<u8>)>, Memory>
+fn proofs(alloc: Global, pass: &mut Pass<'_, Global>, keys: &[Key]) -> Result<Vec<Vec<u8>>, Memory>
     requires some { 0 < length keys.now }
 {
     let mut proofs = Vec::new(alloc);
     for call in 0..PROOFS {
-        let key = picked(keys, call);
-        let proof = pass.prove(alloc, key)?;
-        proofs.push((key.copy(), proof))?;
+        let proof = pass.prove(alloc, picked(keys, call))?;
+        proofs.push(proof)?;
     }
     Ok(proofs)
+}
+
+// Verifies the proof for the key of a call. Returns true if it shows a value.
+fn verify_one(format: Format, root: &[u8; 32], keys: &[Key], proofs: &[Vec<u8>], call: u32) -> bool
+    requires some { 0 < length keys.now }
+{
+    let number = call % PROOFS;
+    match proofs.get(number as usize) {
+        Some(proof) => matches!(
+            verify_in(format, root, picked(keys, number), proof),
+            Ok(Some(_))
+        ),
+        None => false,
+    }
 }
 
 /// Verifies `calls` proofs, which are made before. Returns true if each shows a value.
 pub fn verify(alloc: Global, pass: &mut Pass<'_, Global>, keys: &[Key], calls: u32) -> bool
     requires some { 0 < length keys.now }
 {
-    let format = pass.format();
-    let root = pass.root();
+    let (format, root) = (pass.format(), pass.root());
     let Ok(proofs) = proofs(alloc, pass, keys) else {
         return false;
     };
     for call in 0..calls {
-        let Some((key, proof)) = proofs.get((call % PROOFS) as usize) else {
+        if !verify_one(format, &root, keys, &proofs, call) {
             return false;
-        };
-        let Ok(Some(_)) = verify_in(format, &root, key, proof) else {
-            return false;
-        };
+        }
     }
     true
 }

@@ -1,4 +1,4 @@
-//! Makes calls of a store, so that their instructions can be counted.
+//! Calls of a store, made so that their instructions can be counted.
 //!
 //! The words `KIND KEYS CALLS [1|2]` ask for a store of format 1 or 2 with KEYS keys of 16 bytes
 //! and values of 32, for CALLS calls of one kind, and for a line: the kind, the number of keys and
@@ -6,53 +6,48 @@
 //! are of a map of 32 shards. Keys, values and their order are the same in each run: `tools/counts`
 //! counts the instructions of one call, and `tools/peaks` sees the most memory.
 //!
-//! The program that takes these words is `mst_cookbook`: each program is checked with the code of
-//! all crates below it, so there is one for both. `bench/store/run` times the calls from C.
-#![tactic(auto)]
-
+//! They are made by the program of the recipes, since each program is checked with the code of all
+//! crates below it. `bench/store/run` times the calls from C.
 ghost use Rattle.std.specs.Prelude.{◌<◌, ◌≤◌, IfOk, length};
 ghost use Rattle.mst_store.specs.Passes.{most_rows};
 
 mod alone;
 mod batches;
-mod calls;
+mod changes;
 mod keys;
 mod kinds;
 mod reads;
 mod shards;
-mod stores;
 mod words;
 
+use anyhow::{Error, Result};
 use kinds::Kind;
 use mst_key::Key;
 use mst_store::MOST_ROWS;
-use shards::OfShards;
-use std::io;
 use words::{Calls, HELP};
 
 // The keys, of which there are at least one, and at most as many as a store has rows.
-fn some(keys: Vec<Key>) -> io::Result<Vec<Key>>
+fn some(keys: Vec<Key>) -> Result<Vec<Key>>
     ensures some { IfOk result (λ keys. 0 < length keys.items) }
     ensures few { IfOk result (λ keys. length keys.items ≤ most_rows) }
 {
     if keys.is_empty() || keys.len() > MOST_ROWS as usize {
-        return Err(io::ErrorKind::InvalidInput.into());
+        return Err(Error::msg("a store has 1 to 65535 keys"));
     }
     Ok(keys)
 }
 
-// Makes calls of a map of shards.
-fn make_sharded(rt: &HostRuntime, of: &Calls, kind: OfShards) -> io::Result<()> {
-    let keys = some(keys::rising(rt.alloc(), of.keys)?)?;
-    shards::run(rt, &keys, of, kind)
-}
-
-// Makes calls of passes.
-fn make_alone(rt: &HostRuntime, of: &Calls) -> io::Result<()> {
-    let keys = some(keys::keys(rt.alloc(), of.keys)?)?;
+// Makes calls at these keys.
+fn make(rt: &HostRuntime, keys: &[Key], of: &Calls) -> Result<()>
+    requires some { 0 < length keys.now }
+    requires few { length keys.now ≤ most_rows }
+{
     match of.kind {
-        Kind::Load => batches::load(rt, &keys, of.calls, of.format),
-        _ => alone::run(rt, &keys, of),
+        Kind::Load => batches::load(rt, keys, of),
+        Kind::GetOfPasses => shards::run_passes(rt, keys, of),
+        Kind::PutOfListing => shards::run_listings(rt, keys, of),
+        Kind::GetOfHandle | Kind::Snapshots(_) => shards::run_handle(rt, keys, of),
+        _ => alone::run(rt, keys, &[], of),
     }
 }
 
@@ -61,14 +56,12 @@ fn make_alone(rt: &HostRuntime, of: &Calls) -> io::Result<()> {
 ///
 /// # Errors
 ///
-/// `InvalidInput` for more keys than a store has rows, `OutOfMemory` if there is no memory, another
-/// kind if a call was refused or a line could not be printed.
-pub fn run(rt: &HostRuntime, words: &[String]) -> io::Result<()> {
+/// For more keys than a store has rows, if there is no memory, if a call was refused, or if a line
+/// could not be printed.
+pub fn run(rt: &HostRuntime, words: &[String]) -> Result<()> {
     let Some(of) = words::asked(words) else {
-        return println!(rt; "{HELP}");
+        return Ok(println!(rt; "{HELP}")?);
     };
-    match of.kind {
-        Kind::OfShards(kind) => make_sharded(rt, &of, kind),
-        _ => make_alone(rt, &of),
-    }
+    let keys = some(keys::keys(rt.alloc(), of.keys, of.kind.is_sharded())?)?;
+    make(rt, &keys, &of)
 }

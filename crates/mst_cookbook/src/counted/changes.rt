@@ -1,7 +1,7 @@
 //! Calls that change the map, each made many times.
-ghost use Rattle.std.specs.Prelude.{◌<◌, ◌≤◌, ◌^◌, length};
+ghost use Rattle.std.specs.Prelude.{◌<◌, length};
 
-use crate::keys::value;
+use super::keys::value;
 use mst_key::{Format, Key};
 use mst_store::Pass;
 use std::alloc::Global;
@@ -14,10 +14,10 @@ const STRIDE: usize = 7_919;
 /// have smaller numbers.
 pub const FIRST_NEW_VALUE: u64 = 1 << 40;
 
-/// Puts each key with its first value. Returns true if each call went through.
-pub fn fill(pass: &mut Pass<'_, Global>, keys: &[Key]) -> bool {
+/// Puts each key with its first value, or listing. Returns true if each call went through.
+pub fn fill(pass: &mut Pass<'_, Global>, keys: &[Key], lists: bool) -> bool {
     for (number, key) in keys.iter().enumerate() {
-        if pass.try_put(key, &value(number as u64)).is_err() {
+        if pass.try_put(key, &value(number as u64, lists)).is_err() {
             return false;
         }
     }
@@ -31,14 +31,13 @@ pub fn picked(keys: &[Key], call: u32) -> &Key
     &keys[call as usize * STRIDE % keys.len()]
 }
 
-/// Puts `calls` values, numbered from `first` on and other than the current ones, at keys that the
-/// map has. Returns true if each call went through.
-pub fn put(pass: &mut Pass<'_, Global>, keys: &[Key], calls: u32, first: u64) -> bool
+/// Puts `calls` values, or listings, other than the current ones at keys that the map has. Returns
+/// true if each call went through.
+pub fn put(pass: &mut Pass<'_, Global>, keys: &[Key], calls: u32, lists: bool) -> bool
     requires some { 0 < length keys.now }
-    requires few { first ≤ 2 ^ 63 }
 {
     for call in 0..calls {
-        let new = value(first + u64::from(call));
+        let new = value(FIRST_NEW_VALUE + u64::from(call), lists);
         let Ok(Some(_)) = pass.try_put(picked(keys, call), &new) else {
             return false;
         };

@@ -1,0 +1,47 @@
+//! Calls of the one pass of a store.
+ghost use Rattle.std.specs.Prelude.{◌<◌, length};
+
+use super::kinds::{self, Kind};
+use super::words::Calls;
+use crate::sharing::one_pass;
+use anyhow::{Error, Result};
+use mst_key::{Edit, Key};
+use mst_store::{MOST_ROWS, Pass, Shape, Store};
+use std::alloc::Global;
+
+/// Prints the line of calls; an error if one of them was refused.
+pub fn tell(rt: &HostRuntime, of: &Calls, is_done: bool) -> Result<()> {
+    if !is_done {
+        return Err(Error::msg("a call was refused"));
+    }
+    let (name, keys, calls) = (of.name, of.keys, of.calls);
+    println!(rt; "{name}: {keys} keys, {calls} calls")?;
+    Ok(())
+}
+
+// Makes the batch of these edits, or puts all keys and makes calls of one kind. Returns true if
+// each call went through.
+fn make(alloc: Global, mut pass: Pass<'_, Global>, keys: &[Key], edits: &[Edit], of: &Calls) -> bool
+    requires some { 0 < length keys.now }
+{
+    match of.kind {
+        Kind::Load => pass.try_apply(alloc, edits).is_ok(),
+        Kind::GetPinned => kinds::get_pinned(pass, keys, of.calls),
+        _ => kinds::make(alloc, &mut pass, keys, of),
+    }
+}
+
+/// Makes calls in a store that has no pair yet: one batch of these edits for a load, and otherwise
+/// a put of each key, and then calls of one kind.
+pub fn run(rt: &HostRuntime, keys: &[Key], edits: &[Edit], of: &Calls) -> Result<()>
+    requires some { 0 < length keys.now }
+{
+    let shape = Shape {
+        rows: MOST_ROWS,
+        passes: 1,
+        format: of.format,
+    };
+    let (store, seats) = Store::open(rt.alloc(), shape)?;
+    let pass = one_pass(rt.alloc(), &store, seats)?;
+    tell(rt, of, make(rt.alloc(), pass, keys, edits, of))
+}

@@ -1,0 +1,155 @@
+//! The kinds of calls.
+ghost use Rattle.std.specs.Prelude.{◌<◌, length};
+
+use super::words::Calls;
+use super::{batches, changes, reads};
+use mst_key::Key;
+use mst_store::Pass;
+use std::alloc::Global;
+
+/// A kind of call: of a pass, where nothing else is said.
+#[derive(Clone, Copy)]
+pub enum Kind {
+    Put,
+    /// Puts, this many in each batch.
+    PutInBatches(u32),
+    RemoveAndPutBack,
+    Version,
+    Get,
+    GetPinned,
+    Next,
+    Range,
+    Prove,
+    Verify,
+    Migrate,
+    /// Puts of all keys by one batch, each into an empty store of its own.
+    Load,
+    /// Gets of passes, one after the other, each of a store that has the keys of one shard.
+    GetOfPasses,
+    /// Gets of a handle of a map of shards.
+    GetOfHandle,
+    /// Puts into a store that has what a directory has: a pair for each shard.
+    PutOfListing,
+    /// Snapshots of a map of shards, each of which is released.
+    Snapshots(Each),
+}
+
+/// What is done with each snapshot.
+#[derive(Clone, Copy)]
+pub struct Each {
+    /// Whether a value is put before it.
+    pub puts: bool,
+    /// Whether it is asked for its root digest.
+    pub roots: bool,
+}
+
+/// Without a put, and without a root digest.
+const STILL: Each = Each {
+    puts: false,
+    roots: false,
+};
+
+/// Without a put.
+const TOLD: Each = Each {
+    puts: false,
+    roots: true,
+};
+
+/// Without a root digest.
+const CHANGED: Each = Each {
+    puts: true,
+    roots: false,
+};
+
+/// With both.
+const CHANGED_AND_TOLD: Each = Each {
+    puts: true,
+    roots: true,
+};
+
+/// The kinds, with what the command line calls them.
+const KINDS: &[(Kind, &str)] = &[
+    (Kind::Put, "put"),
+    (Kind::PutInBatches(1), "put in batches of 1"),
+    (Kind::PutInBatches(10), "put in batches of 10"),
+    (Kind::PutInBatches(100), "put in batches of 100"),
+    (Kind::PutInBatches(1_000), "put in batches of 1000"),
+    (Kind::PutInBatches(10_000), "put in batches of 10000"),
+    (Kind::RemoveAndPutBack, "remove and put back"),
+    (Kind::Version, "version"),
+    (Kind::Get, "get"),
+    (Kind::GetPinned, "get of a pinned version"),
+    (Kind::Next, "next"),
+    (Kind::Range, "range of 100"),
+    (Kind::Prove, "prove"),
+    (Kind::Verify, "verify"),
+    (Kind::Migrate, "migrate"),
+    (Kind::Load, "load"),
+    (Kind::GetOfPasses, "get in stores of one shard"),
+    (Kind::GetOfHandle, "get of a handle"),
+    (Kind::PutOfListing, "put of a listing"),
+    (Kind::Snapshots(STILL), "snapshot"),
+    (Kind::Snapshots(TOLD), "snapshot with its root"),
+    (Kind::Snapshots(CHANGED), "put and snapshot"),
+    (
+        Kind::Snapshots(CHANGED_AND_TOLD),
+        "put and snapshot with its root",
+    ),
+];
+
+/// The kind with this name, and what lines call it.
+pub fn named(name: &str) -> Option<(Kind, &'static str)> {
+    for (kind, its_name) in KINDS {
+        if *its_name == name {
+            return Some((*kind, *its_name));
+        }
+    }
+    None
+}
+
+impl Kind {
+    /// Whether it is of a map of shards, or of stores that have its keys.
+    pub fn is_sharded(self) -> bool {
+        matches!(
+            self,
+            Kind::GetOfPasses | Kind::GetOfHandle | Kind::PutOfListing | Kind::Snapshots(_)
+        )
+    }
+}
+
+/// Puts all keys, and gets them of the version that the pass then pins. Returns true if each call
+/// went through.
+pub fn get_pinned(mut pass: Pass<'_, Global>, keys: &[Key], calls: u32) -> bool
+    requires some { 0 < length keys.now }
+{
+    changes::fill(&mut pass, keys, false) && reads::get_pinned(&mut pass.pin(), keys, calls)
+}
+
+// Makes calls of a kind of a pass, gets if it is of something else. Returns true if each went
+// through.
+fn make_one_kind(alloc: Global, pass: &mut Pass<'_, Global>, keys: &[Key], of: &Calls) -> bool
+    requires some { 0 < length keys.now }
+{
+    match of.kind {
+        Kind::Put => changes::put(pass, keys, of.calls, false),
+        Kind::PutOfListing => changes::put(pass, keys, of.calls, true),
+        Kind::PutInBatches(size) => batches::put(alloc, pass, keys, of.calls, size),
+        Kind::RemoveAndPutBack => changes::remove_and_put_back(pass, keys, of.calls),
+        Kind::Version => reads::version(pass, of.calls),
+        Kind::Next => reads::next(pass, keys, of.calls),
+        Kind::Range => reads::range(alloc, pass, keys, of.calls),
+        Kind::Prove => reads::prove(alloc, pass, keys, of.calls),
+        Kind::Verify => reads::verify(alloc, pass, keys, of.calls),
+        Kind::Migrate => changes::migrate(alloc, pass, of.calls),
+        _ => reads::get(pass, keys, of.calls),
+    }
+}
+
+/// Puts all keys, and makes calls of a kind that leaves the pass where it is. Returns true if each
+/// call went through.
+pub fn make(alloc: Global, pass: &mut Pass<'_, Global>, keys: &[Key], of: &Calls) -> bool
+    requires some { 0 < length keys.now }
+{
+    let lists = matches!(of.kind, Kind::PutOfListing);
+    changes::fill(pass, keys, lists) && make_one_kind(alloc, pass, keys, of)
+}
