@@ -72,9 +72,9 @@ pub(crate) const FIRST_DIGEST: usize = FIRST_RECORD + FIRST_ROOT_DIGEST_WORD;
 /// The place of the word of the format in record 0.
 pub(crate) const FIRST_FORMAT: usize = FIRST_RECORD + FORMAT_WORD;
 
-/// How many words lie unused after the records. With them the first row begins where a cache line
-/// of 64 bytes does, if the table begins 16 bytes after such a place, as a large one does with
-/// glibc's allocator.
+/// How many words lie unused after the records. With them the words of the first row begin where a
+/// cache line of 64 bytes does, if the table begins 16 bytes after such a place. With glibc's
+/// allocator each table of 128 KiB or more does, and of smaller ones some do.
 const SPARE_WORDS: usize = 4;
 
 /// The place of the first word of the first row.
