@@ -33,9 +33,9 @@ GROUPS = {
     "lines of text": ("#e2e2e2", 1010, 1184, {
         "mst_devices": (0, 1098), "mst_lines": (1, 1098), "mst_requests": (2, 1098),
     }),
-    "the program": ("#e6d8cf", 565, 1180, {
+    "the program": ("#e6d8cf", 565, 1190, {
         "mst_load": (10, 745), "mst_script": (10, 905), "mst_sharded_script": (11, 662),
-        "mst_arguments": (12, 1100), "mst_command": (13, 840), "mst_program": (14, 840),
+        "mst_arguments": (12, 1110), "mst_command": (13, 840), "mst_program": (14, 840),
         "mst": (15, 840),
     }),
 }
@@ -44,8 +44,8 @@ FOR_C = {"mst_verifier", "mst_exports"}
 # left to right and the crate at whose height it is.
 BENT = {
     ("mst_arguments", "mst_report"): (347, "mst_arguments"),
-    ("mst_arguments", "mst_store"): (985, "mst_store"),
-    ("mst_arguments", "mst_devices"): (1192, "mst_devices"),
+    ("mst_arguments", "mst_store"): (1060, "mst_store"),
+    ("mst_arguments", "mst_devices"): (1176, "mst_devices"),
     ("mst_sharded", "mst_sharded_proof"): (401, "mst_sharded_proof"),
     ("mst_sharded", "mst_store"): (646, "mst_sharded"),
     ("mst_theorem", "mst_store"): (616, "mst_theorem"),

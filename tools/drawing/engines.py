@@ -19,7 +19,7 @@ CAPTION = [
     " of another run than the rest; a batch of 1 is the put alone.",
     "Only the store has root digests and proofs: the hashes for these are most of its put.",
 ]
-EARLIER = "The store's figures are of an earlier library (above, 'How to read a figure')."
+EARLIER = "The store's figures are of an earlier library (SPEED, 'How to read a figure')."
 
 
 def panels():

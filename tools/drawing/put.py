@@ -29,7 +29,7 @@ CAPTION = [
     "pass: a per-thread handle. turn: the write lock. desk: the writer's record of free rows.",
     f"From its pin to its unpin (thick line at the left) pass {READER} reads record 0 and the rows"
     " of its version. No step changes them.",
-    "step: its number in the list 'A read' or 'A write' on this page.",
+    "step: its number in the list 'A read' or 'A write' of PROTOCOL.",
     "current: the current record's number, and a mask of pins: 1, 2, 4, 8 for passes 1 to 4.",
     f"record {LAST}: a store of {PASSES} passes has the records 0 to {LAST}. The write finds that"
     f" no pass pins 1 to {LAST}, and uses the last one for the new version. Record 0, which the"

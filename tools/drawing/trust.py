@@ -39,8 +39,8 @@ BOXES = [
         "mutation tests of the clauses",
         "crates/*/wrong-bodies",
     )),
-    ("dashed", RIGHT, DEFINITIONS, COLUMN, "laws and worked cases", (
-        "what one expects of a definition",
+    ("thin", RIGHT, DEFINITIONS, COLUMN, "laws and worked cases", (
+        "proved: what to expect of a definition",
         "crates/*/src/laws.rt",
     )),
     ("dashed", RIGHT, CHECKED, COLUMN, "tests", (
@@ -51,7 +51,7 @@ BOXES = [
         "tested, and nothing of it is proved",
         "bindings, include, verifiers",
     )),
-    ("dashed", RIGHT, TOOLCHAIN, COLUMN, "tools of the gate", (
+    ("thick", RIGHT, TOOLCHAIN, COLUMN, "tools of the gate", (
         "check three things that rest on code",
         "tools/step_calls and others",
     )),
@@ -60,12 +60,12 @@ TITLE = "The layers of trust: what has to be read or believed, and what is check
 LEGEND = [
     ("thick", "read it, or take it on trust"),
     ("thin", "the machine checks it: except for three things, users of the calls need not read it"),
-    ("dashed", "tests that clauses say enough, or tests what they do not say"),
+    ("dashed", "a test: that clauses say enough, or of what they do not say"),
 ]
 NOTES = [
     "The three things: how many steps depend on other passes; that Memory is returned only if"
     " memory was refused; that the linearization point of a call, except of a write, lies within"
-    " the call (below, 'What rests on code').",
+    " the call (BELIEVE, 'What rests on code').",
 ]
 
 

@@ -9,7 +9,7 @@ from .maps import last_two
 ROW, HEIGHT, TOP, APART, EDGE, BETWEEN = 80, 40, 80, 140, 20, 310
 
 # How far from the middle of a shared node a link of one version ends.
-ASIDE = {"dashed": -16, "thick": 16}
+ASIDE = {"dashed": -7, "thick": 7}
 NOTES = [
     "A box is a row (memory cell). A node has one for each entry (a key with its value), and a last"
     " one for itself, its head.",
