@@ -14,8 +14,8 @@ LOOKS = {
 }
 CAPTION = [
     "ns: nanoseconds of one call, or of one put of a batch; less is better. All scales are"
-    " logarithmic, the six of time alike.",
-    "Keys of 16 bytes, values of 32, from C; the least times of a run. Batches of 10 and more are"
+    " logarithmic; the six time axes are alike.",
+    "Keys of 16 bytes, values of 32, from C; each the mean of the fastest round. Batches of 10 and more are"
     " of another run than the rest; a batch of 1 is the put alone.",
     "Only the store has root digests and proofs: the hashes for these are most of its put.",
 ]

@@ -30,7 +30,8 @@ CAPTION = [
     f"From its pin to its unpin (thick line at the left) pass {READER} reads record 0 and the rows"
     " of its version. No step changes them.",
     "step: its number in the list 'A read' or 'A write' of PROTOCOL.",
-    "current: the current record's number, and a mask of pins: 1, 2, 4, 8 for passes 1 to 4.",
+    "current: the current record's number, and a mask: 1, 2, 4, 8 for passes 1 to 4. Its xor with"
+    " done tells which passes pin the current record.",
     f"record {LAST}: a store of {PASSES} passes has the records 0 to {LAST}. The write finds that"
     f" no pass pins 1 to {LAST}, and uses the last one for the new version. Record 0, which the"
     " reader pins, keeps the old version.",
@@ -120,7 +121,7 @@ def draw_heads(canvas):
 
 def picture():
     title = "A put while a reader pins: the words of the table after each step"
-    canvas = Canvas("put", title, 750)
+    canvas = Canvas("put", title, 780)
     table = Table()
     draw_heads(canvas)
     before, y = table.cells(), FIRST

@@ -26,7 +26,8 @@ CAPTION = [
     "One store of 1,000 keys on four processors; each thread has a pass (handle) of its own.",
     "Readers: a get of the newest version pins it and unpins it, by two atomic steps on words that"
     " all threads share. A get of a pinned version makes no such step.",
-    "Writers: one write lock, the turn, serves all, so more writers make no more puts.",
+    "Writers: one write lock, the turn, serves all, so more writers make no more puts. Each bar is"
+    " of one run.",
     "time of a get: its processor time, as a multiple of a lone reader's.",
     "slowest writer: its puts, as a part of those of the fastest writer.",
 ]
