@@ -1,0 +1,15 @@
+# What is typed most, by name.
+#
+#   make check         the gate: every proof, and all tests (needs the kit)
+#   make libraries     the libraries for C, in bindings/out (needs the kit)
+#   make without-kit   all that needs no kit
+check:
+	sh .ci/run
+
+libraries:
+	$(MAKE) -C bindings
+
+without-kit:
+	sh tests/without_kit
+
+.PHONY: check libraries without-kit
