@@ -11,7 +11,8 @@
  * mst_open makes a store of the empty map and puts a pass into each hand of an array. Each thread
  * uses a hand of its own. Reads take no lock and wait for no other thread. One pass at a time has
  * the turn; meanwhile mst_try_put and its like return MST_BUSY for another pass, while mst_put,
- * mst_remove, mst_apply and mst_migrate wait. The store is freed when its last pass is closed.
+ * mst_remove, mst_apply and mst_migrate wait, and mst_put_within and its like wait for a time that
+ * is given. The store is freed when its last pass is closed.
  *
  *     mst_pass passes[2] = {MST_PASS_CLOSED, MST_PASS_CLOSED};
  *     uint8_t old[MST_VALUE_LONGEST], root[MST_ROOT_LENGTH];
@@ -28,7 +29,8 @@
  *     and are refused;
  *   - a thread that ends within a write keeps the turn for good: then no pass of this store writes,
  *     and reads go on;
- *   - threads that wait for the turn stand in no line: a writer may starve;
+ *   - calls that wait let those go first that have waited long, but calls that try do not: where
+ *     those take the turn again and again, a writer may starve;
  *   - keys that an attacker chooses can make a node of the tree large, and with it writes slow and
  *     proofs long.
  *
@@ -89,7 +91,8 @@ extern "C" {
  */
 typedef struct mst_pass {
     void *at; /* the library's alone */
-    uint64_t padding[31];
+    uint64_t padding[30];
+    void *place; /* the library's alone: the pass's place in the line of those that wait */
 } mst_pass;
 
 /* A hand that holds nothing. */
@@ -445,9 +448,14 @@ size_t mst_edit_remove(uint8_t *room, size_t at, const uint8_t *key, size_t key_
 
 /*
  * As mst_try_put, but waits instead of returning MST_BUSY: it tries again after a moment, then
- * after giving the processor up, then after sleeps, from a microsecond up to a millisecond. Passes
- * that wait have no order: none is promised the next turn. For a wait of another kind, such as one
- * with an end, call mst_try_put in a loop of your own.
+ * after giving the processor up, then after sleeps, from a microsecond up to a millisecond.
+ *
+ * A call that has waited for 30 milliseconds stands in line. From then on each call of this store
+ * that waits, and has not waited as long, leaves the turn to it: it sleeps instead of trying. So a
+ * thread that writes without a pause does not keep the turn from the others. A call that waits but
+ * gives no sign of it for 50 milliseconds, such as one of a thread that was stopped or has died,
+ * holds nobody up any longer. Calls that try leave the turn to nobody, those of sharded maps stand
+ * in no line, and of no call it is promised when it gets the turn.
  */
 int32_t mst_put(mst_pass *pass, const uint8_t *key, size_t key_length,
                 const uint8_t *value, size_t value_length, uint8_t *room, size_t room_length);
@@ -461,6 +469,27 @@ int32_t mst_apply(mst_pass *pass, const uint8_t *edits, size_t length, size_t *p
 
 /* As mst_try_migrate, but waits as mst_put does. */
 int32_t mst_migrate(mst_pass *pass, uint32_t format);
+
+/*
+ * As mst_put, but waits for no longer than so many microseconds: then it returns MST_BUSY, and
+ * nothing is written. It tries at least once, and with 0 exactly once, as mst_try_put does. Of the
+ * time that a sleep takes the system may add some, mostly less than 100 microseconds; a write that
+ * has begun is ended, however long it takes. UINT64_MAX is without end.
+ */
+int32_t mst_put_within(mst_pass *pass, const uint8_t *key, size_t key_length,
+                       const uint8_t *value, size_t value_length,
+                       uint8_t *room, size_t room_length, uint64_t microseconds);
+
+/* As mst_remove, but waits for no longer than mst_put_within does. */
+int32_t mst_remove_within(mst_pass *pass, const uint8_t *key, size_t key_length,
+                          uint8_t *room, size_t room_length, uint64_t microseconds);
+
+/* As mst_apply, but waits for no longer than mst_put_within does. */
+int32_t mst_apply_within(mst_pass *pass, const uint8_t *edits, size_t length, size_t *place,
+                         uint64_t microseconds);
+
+/* As mst_migrate, but waits for no longer than mst_put_within does. */
+int32_t mst_migrate_within(mst_pass *pass, uint32_t format, uint64_t microseconds);
 
 /* ---- sharded maps ---- */
 

@@ -12,7 +12,7 @@
  * current one are pinned.
  *
  * `pinned` loads KEYS keys, pins that version, and puts new values at random keys until a put is
- * refused: writes how many were made, or `none refused` after PUTS. `stuck` loads KEYS keys and
+ * refused: writes how many were made, or `no refusal in PUTS`. `stuck` loads KEYS keys and
  * writes what a put of a new value, a remove, and a batch that removes REMOVED keys return.
  * `memory` writes the bytes that the process has in memory for each row: once the store is opened,
  * once KEYS keys are put one by one, and after PUTS puts of new values at random keys. `opening`
@@ -69,7 +69,7 @@ static void tell_until_full(size_t size, long most) {
     if (told == MST_NO_FREE_ROWS)
         printf("%ld\n", puts);
     else if (told == VALUE_LENGTH)
-        printf("none refused\n");
+        printf("no refusal in %ld\n", puts);
     else
         give_up("mst_put", told);
     close_store(passes, 2);

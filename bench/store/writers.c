@@ -4,8 +4,9 @@
  *     writers HOW WRITERS [MILLISECONDS]
  *
  * HOW is how a writer waits for the turn: `put` by mst_put, `mutex` by a mutex around mst_try_put,
- * `spin` by mst_try_put alone, again and again. Writes the puts a second of all writers, and which
- * part of those of the fastest writer the slowest one has made, in percent.
+ * `spin` by mst_try_put alone, again and again. They put for two seconds, or for so many
+ * milliseconds. Writes the puts a second of all writers, and which part of the mean of a writer's
+ * puts the slowest one has made, in percent.
  */
 #include "../common.h"
 #include "mst_store.h"
@@ -103,7 +104,7 @@ static enum how how_named(const char *name) {
 int main(int argc, char **argv) {
     struct writer writers[MOST];
     int count = argc > 2 ? atoi(argv[2]) : 0;
-    long milliseconds = argc > 3 ? atol(argv[3]) : 1000, all = 0;
+    long milliseconds = argc > 3 ? atol(argv[3]) : 2000, all = 0;
     if (count < 1 || count > MOST || milliseconds < 1)
         give_up("writers HOW WRITERS [MILLISECONDS]", 0);
     how = how_named(argv[1]);
@@ -113,13 +114,13 @@ int main(int argc, char **argv) {
     for (uint64_t place = 0; place < KEYS; place++)
         put(0, place, place);
     double took = run(writers, count, milliseconds);
-    long least = writers[0].puts, most = writers[0].puts;
+    long least = writers[0].puts;
     for (int i = 0; i < count; i++) {
         all += writers[i].puts;
         least = writers[i].puts < least ? writers[i].puts : least;
-        most = writers[i].puts > most ? writers[i].puts : most;
         mst_close(&passes[i]);
     }
-    printf("%.0f %.0f\n", (double)all / took, most ? 100.0 * (double)least / (double)most : 0);
+    printf("%.0f %.0f\n", (double)all / took,
+           all ? 100.0 * count * (double)least / (double)all : 0);
     return 0;
 }

@@ -8,16 +8,17 @@
 //
 // A pass is one thread's at a time; it is moved, never copied, and closes itself. The store is
 // freed with its last pass. Refusals are exceptions of the class mst::refused. That another pass
-// has the turn is no refusal: the calls that try return it. If C++ has no memory for an answer, a
-// call throws std::bad_alloc, and what it has written stays. A call has room for each old value, so
-// MST_SHORT_ROOM, with which a put has been made all the same, is never thrown. Keys have 1 to 32
-// bytes, values 0 to 64. What the header mst_store.h says that a caller owes, callers of this one
-// owe too.
+// has the turn is no refusal: the calls that try, and those that wait for a time, return it. If C++
+// has no memory for an answer, a call throws std::bad_alloc, and what it has written stays. A call
+// has room for each old value, so MST_SHORT_ROOM, with which a put has been made all the same, is
+// never thrown. Keys have 1 to 32 bytes, values 0 to 64. What the header mst_store.h says that a
+// caller owes, callers of this one owe too.
 #pragma once
 #include "mst_store.h"
 #include "mst_store_answers.hpp"
 
 #include <algorithm>
+#include <chrono>
 #include <cstddef>
 #include <cstdint>
 #include <memory>
@@ -250,35 +251,45 @@ public:
 class pass : public reader {
     friend std::vector<pass> open(std::uint32_t, std::size_t, mst::format);
 
-    // Each of these is by a call that tries or by the one that waits.
-    tried put_by(decltype(mst_put) call, std::string_view key, std::string_view value) {
+    // Each of these is by a call that tries, by the one that waits, or by the one that waits for no
+    // longer than a time, which stands last.
+    template <typename Call, typename... Time>
+    tried put_by(Call call, std::string_view key, std::string_view value, Time... longest) {
         std::uint8_t room[MST_VALUE_LONGEST];
         int code = call(at(), bytes(key), key.size(), bytes(value), value.size(), room,
-                        sizeof room);
+                        sizeof room, longest...);
         if (code == MST_BUSY) return tried{true, std::nullopt};
         return tried{false, told(code, room)};
     }
 
-    tried remove_by(decltype(mst_remove) call, std::string_view key) {
+    template <typename Call, typename... Time>
+    tried remove_by(Call call, std::string_view key, Time... longest) {
         std::uint8_t room[MST_VALUE_LONGEST];
-        int code = call(at(), bytes(key), key.size(), room, sizeof room);
+        int code = call(at(), bytes(key), key.size(), room, sizeof room, longest...);
         if (code == MST_BUSY) return tried{true, std::nullopt};
         return tried{false, told(code, room)};
     }
 
-    applied apply_by(decltype(mst_apply) call, const batch &edits) {
+    template <typename Call, typename... Time>
+    applied apply_by(Call call, const batch &edits, Time... longest) {
         std::size_t place = 0;
-        int code = call(at(), edits.edits.data(), edits.edits.size(), &place);
+        int code = call(at(), edits.edits.data(), edits.edits.size(), &place, longest...);
         if (code == MST_BUSY) return applied{true};
         if (code == MST_BAD_KEY || code == MST_BAD_VALUE) throw refused_edit(code, place);
         require_done(code);
         return applied{};
     }
 
-    migrated migrate_by(decltype(mst_migrate) call, mst::format to) {
-        int code = call(at(), static_cast<std::uint32_t>(to));
+    template <typename Call, typename... Time>
+    migrated migrate_by(Call call, mst::format to, Time... longest) {
+        int code = call(at(), static_cast<std::uint32_t>(to), longest...);
         if (code == MST_BUSY) return migrated{true, std::nullopt};
         return migrated{false, told_format(code)};
+    }
+
+    // A time below 0 is none.
+    static std::uint64_t microseconds(std::chrono::microseconds longest) noexcept {
+        return longest.count() > 0 ? static_cast<std::uint64_t>(longest.count()) : 0;
     }
 
 public:
@@ -349,11 +360,30 @@ public:
         return remove_by(mst_remove, key).old;
     }
 
+    // As put, but waits for no longer than this: then it is busy, and nothing is written. It tries
+    // at least once, and with 0 exactly once, as try_put does.
+    //
+    //     if (!pass.put_within("apple", "30", std::chrono::milliseconds(5))) give_up();
+    tried put_within(std::string_view key, std::string_view value,
+                     std::chrono::microseconds longest) {
+        return put_by(mst_put_within, key, value, microseconds(longest));
+    }
+
+    // As remove, but waits for no longer than this, as put_within does.
+    tried remove_within(std::string_view key, std::chrono::microseconds longest) {
+        return remove_by(mst_remove_within, key, microseconds(longest));
+    }
+
     // Makes the edits as one version, if no other pass has the turn.
     applied try_apply(const batch &edits) { return apply_by(mst_try_apply, edits); }
 
     // As try_apply, but waits for the turn.
     void apply(const batch &edits) { (void)apply_by(mst_apply, edits); }
+
+    // As apply, but waits for no longer than this, as put_within does.
+    applied apply_within(const batch &edits, std::chrono::microseconds longest) {
+        return apply_by(mst_apply_within, edits, microseconds(longest));
+    }
 
     // Turns the tree of the map to a format, if no other pass has the turn. The map stays, and so
     // do the pinned versions, each in its format.
@@ -361,6 +391,11 @@ public:
 
     // As try_migrate, but waits for the turn. Returns the format before.
     mst::format migrate(mst::format to) { return *migrate_by(mst_migrate, to).was; }
+
+    // As migrate, but waits for no longer than this, as put_within does.
+    migrated migrate_within(mst::format to, std::chrono::microseconds longest) {
+        return migrate_by(mst_migrate_within, to, microseconds(longest));
+    }
 
     // Pins the current version.
     pinned pin() { return pinned(hand); }

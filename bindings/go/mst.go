@@ -12,7 +12,8 @@
 // A store is used through its passes alone, one for each goroutine, say: goroutines that share a
 // pass wait for each other. Reads wait for no other pass. One pass at a time has the turn to write;
 // the calls that begin with Try return ErrBusy meanwhile, and the others wait, each in a thread of
-// the system, so that other goroutines run.
+// the system, so that other goroutines run. Those that end with Within wait for no longer than a
+// time that they are given.
 //
 // Keys have 1 to 32 bytes, values 0 to 64. What a call is given it does not keep, and what it
 // returns is the caller's own. Each refusal is one of the errors below, as errors.Is finds it;
@@ -29,6 +30,7 @@ import "C"
 import (
 	"runtime"
 	"sync"
+	"time"
 	"unsafe"
 )
 
@@ -107,6 +109,14 @@ func word(number int) C.uint32_t {
 		return 0xFFFFFFFF
 	}
 	return C.uint32_t(number)
+}
+
+// microseconds is a time as the library takes it. One below 0 is none.
+func microseconds(longest time.Duration) C.uint64_t {
+	if longest < 0 {
+		return 0
+	}
+	return C.uint64_t(longest / time.Microsecond)
 }
 
 // at is a pointer to the bytes, for a call that gets their length too.

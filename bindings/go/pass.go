@@ -3,7 +3,10 @@ package mst
 // #include "mst_store.h"
 import "C"
 
-import "runtime"
+import (
+	"runtime"
+	"time"
+)
 
 // Pass is a pass of a store, from Open. While it pins a version, its reads are of that version and
 // its writes are refused with ErrPinned.
@@ -131,6 +134,18 @@ func (p *Pass) Put(key, value []byte) (old []byte, present bool, err error) {
 	})
 }
 
+// PutWithin is as Put, but waits for no longer than this, in whole microseconds: then the error is
+// ErrBusy, and nothing is written. It tries at least once, and with less than a microsecond exactly
+// once, as TryPut does. A goroutine that has this pass in another call is waited for all the same.
+func (p *Pass) PutWithin(key, value []byte, longest time.Duration) (
+	old []byte, present bool, err error,
+) {
+	return p.old(func(s *seat) C.int32_t {
+		return C.mst_put_within(&s.hand, at(key), size(key), at(value), size(value),
+			at(s.room[:]), size(s.room[:]), microseconds(longest))
+	})
+}
+
 // TryRemove takes the key out, if no other pass has the turn. It returns the value that the key had
 // before, if it was present. The error is that of TryPut, but for ErrValue.
 func (p *Pass) TryRemove(key []byte) (old []byte, present bool, err error) {
@@ -143,6 +158,16 @@ func (p *Pass) TryRemove(key []byte) (old []byte, present bool, err error) {
 func (p *Pass) Remove(key []byte) (old []byte, present bool, err error) {
 	return p.old(func(s *seat) C.int32_t {
 		return C.mst_remove(&s.hand, at(key), size(key), at(s.room[:]), size(s.room[:]))
+	})
+}
+
+// RemoveWithin is as Remove, but waits for no longer than this, as PutWithin does.
+func (p *Pass) RemoveWithin(key []byte, longest time.Duration) (
+	old []byte, present bool, err error,
+) {
+	return p.old(func(s *seat) C.int32_t {
+		return C.mst_remove_within(&s.hand, at(key), size(key), at(s.room[:]), size(s.room[:]),
+			microseconds(longest))
 	})
 }
 
@@ -182,6 +207,19 @@ func (p *Pass) Apply(batch *Batch) error {
 	return refusalOfBatch(told, place)
 }
 
+// ApplyWithin is as Apply, but waits for no longer than this, as PutWithin does.
+func (p *Pass) ApplyWithin(batch *Batch, longest time.Duration) error {
+	s, err := p.take()
+	if err != nil {
+		return err
+	}
+	defer s.giveBack()
+	var place C.size_t
+	told := C.mst_apply_within(&s.hand, at(batch.packed), size(batch.packed), &place,
+		microseconds(longest))
+	return refusalOfBatch(told, place)
+}
+
 // TryMigrate turns the tree of the map to a format, if no other pass has the turn, and returns the
 // format before. The map stays, and so do the pinned versions, each in its format. The error is
 // ErrClosed, ErrFormat, ErrPinned, ErrBusy, ErrVersionsSpent, ErrMemory, or ErrNoFreeRows.
@@ -202,4 +240,14 @@ func (p *Pass) Migrate(to Format) (was Format, err error) {
 	}
 	defer s.giveBack()
 	return formatOf(C.mst_migrate(&s.hand, C.uint32_t(to)))
+}
+
+// MigrateWithin is as Migrate, but waits for no longer than this, as PutWithin does.
+func (p *Pass) MigrateWithin(to Format, longest time.Duration) (was Format, err error) {
+	s, err := p.take()
+	if err != nil {
+		return 0, err
+	}
+	defer s.giveBack()
+	return formatOf(C.mst_migrate_within(&s.hand, C.uint32_t(to), microseconds(longest)))
 }

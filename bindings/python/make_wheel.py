@@ -14,7 +14,7 @@ import sys
 import zipfile
 
 HERE = os.path.dirname(os.path.abspath(__file__))
-LICENCES = ["LICENSE-APACHE", "LICENSE-MIT"]
+LICENCES = ["LICENSE-APACHE", "LICENSE-MIT", "THIRD_PARTY.md"]
 PACKAGE = "mst_store"
 
 

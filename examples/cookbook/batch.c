@@ -1,4 +1,4 @@
-/* A block of changes as one version. */
+/* A batch of changes as one version. */
 #include "mst_store.h"
 #include <stdio.h>
 

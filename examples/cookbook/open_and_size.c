@@ -6,7 +6,7 @@ enum {
     KEYS = 1000,
     MAP_ROWS = KEYS * 17 / 16, /* one for each key, in format 1 some 1/16 more for the nodes */
     PINNED = 1,                /* versions at a time, each of which may keep as many rows */
-    PATH_ROWS = 400,           /* of the longest path, all of which a put writes anew */
+    PATH_ROWS = 400,           /* for two writes, (1 + S) * W: W = 200 of one put, S = 1 read */
     ROWS = (PINNED + 1) * MAP_ROWS + PATH_ROWS
 };
 

@@ -4,7 +4,7 @@
  * turn return MST_BUSY, and the reads go on. Calls that wait, in a thread of their own, go
  * through once the migration has ended. This sched_yield and this nanosleep, which stand before
  * glibc's own too, see how they wait: they give the processor up before they sleep, and then sleep
- * for growing times up to a millisecond.
+ * for growing times up to a millisecond. Once they have waited long they begin anew.
  */
 #include "tests.h"
 #include <pthread.h>
@@ -15,7 +15,8 @@
 #include <time.h>
 #include <unistd.h>
 
-#define SLEEPS 50 /* how long a call that waits is kept waiting */
+#define SLEEPS 100 /* how long a call that waits is kept waiting */
+#define EARLY 10   /* of these the first ones are short */
 
 extern void *__libc_malloc(size_t size);
 
@@ -174,12 +175,19 @@ static void starts_to_wait(void) {
         syscall(SYS_sched_yield);
 }
 
-/* Each sleep is longer than the one before, from a microsecond on up to a millisecond. */
+/*
+ * Each sleep is longer than the one before, up to a millisecond; but the first one of a call that
+ * has waited long is short again. On a busy machine that may be before it has yielded each time.
+ */
 static void has_slept(void) {
-    EXPECT(atomic_load(&yields) == 16);
-    EXPECT(slept[0] == 1000 && slept[SLEEPS / 2] < 500000 && slept[SLEEPS - 1] == 1000000);
-    for (int i = 1; i < SLEEPS; i++)
-        EXPECT(slept[i] > slept[i - 1] || slept[i] == 1000000);
+    int again = 0;
+    EXPECT(atomic_load(&yields) <= 16);
+    EXPECT(slept[0] < 30000 && slept[EARLY] < 500000 && slept[SLEEPS - 1] == 1000000);
+    for (int i = 1; i < SLEEPS; i++) {
+        again += slept[i] < slept[i - 1];
+        EXPECT(slept[i] > slept[i - 1] || slept[i] == 1000000 || slept[i] < 30000);
+    }
+    EXPECT(again <= 1);
 }
 
 static void goes_through(uint32_t from, void *(*call)(void *), int32_t wanted) {

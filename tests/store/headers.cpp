@@ -20,6 +20,9 @@ int32_t each_call(uint8_t *room, size_t length) {
     int32_t told = mst_put(&one, room, end, room, length, room, length);
     told += mst_remove(&two[0], room, end, room, length);
     told += mst_apply(&two[1], room, end, &place) + mst_migrate(&one, 1);
+    told += mst_put_within(&one, room, end, room, length, room, length, 1);
+    told += mst_remove_within(&two[0], room, end, room, length, 1);
+    told += mst_apply_within(&two[1], room, end, &place, 1) + mst_migrate_within(&one, 1, 1);
     told += mst_verify(1, room, 32, room, length, room, length, room, length);
     return told + MST_SHARDED_TEST(told) + MST_PART_TEST(told) + MST_VERSION_NUMBER;
 }

@@ -66,10 +66,14 @@ static void closed_hands(mst_pass *pass) {
     EXPECT(mst_apply(pass, NULL, 0, &length) == MST_CLOSED);
     EXPECT(mst_try_migrate(pass, 2) == MST_CLOSED && mst_try_migrate(pass, 3) == MST_CLOSED);
     EXPECT(mst_migrate(pass, 1) == MST_CLOSED);
+    EXPECT(mst_put_within(pass, TEXT("a"), TEXT("1"), room, sizeof room, 9) == MST_CLOSED);
+    EXPECT(mst_remove_within(pass, TEXT("a"), room, sizeof room, 9) == MST_CLOSED);
+    EXPECT(mst_apply_within(pass, NULL, 0, &length, 9) == MST_CLOSED);
+    EXPECT(mst_migrate_within(pass, 1, 9) == MST_CLOSED);
     EXPECT(mst_pin(pass) == MST_CLOSED);
     EXPECT(mst_unpin(pass) == MST_CLOSED);
     EXPECT(mst_close(pass) == MST_CLOSED);
-    EXPECT(pass->at == NULL);
+    EXPECT(pass->at == NULL && pass->place == NULL);
     EXPECT(rooms_stay());
 }
 

@@ -1,5 +1,6 @@
 """The pictures of docs/pictures, each by the function that draws it."""
-from . import chosen, crates, engines, put, row, sharded, threads, tree, trust, versions
+from . import blocks, chosen, crates, engines, put, row, sharded, sharded_threads, sizes
+from . import threads, tree, trust, versions
 
 PICTURES = {
     "tree": tree.picture,
@@ -8,8 +9,11 @@ PICTURES = {
     "row": row.picture,
     "crates": crates.picture,
     "sharded": sharded.picture,
+    "blocks": blocks.picture,
+    "sizes": sizes.picture,
     "engines": engines.picture,
     "chosen": chosen.picture,
     "threads": threads.picture,
+    "sharded_threads": sharded_threads.picture,
     "trust": trust.picture,
 }

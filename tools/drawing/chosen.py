@@ -5,6 +5,7 @@ import sys
 
 from .canvas import Canvas
 from .curves import Plot, apart, scale
+from .figures import measured
 from .maps import TOP
 
 LEFT, ACROSS, NEXT, UPPER, LOWER = 104, 190, 386, 346, 706
@@ -27,11 +28,11 @@ LEGEND = [
     ("warm", "keys that an attacker chose, all of layer 0"),
 ]
 CAPTION = [
-    "All scales are logarithmic, and the three upward scales are the same. µs: microseconds. A"
-    " kilobyte has 1,000 bytes.",
+    "All scales are logarithmic; those of the two times are the same. µs: microseconds."
+    " A kilobyte has 1,000 bytes.",
     "Keys of layer 0 are easy to find: 15 of 16 random keys have it in format 1, 3 of 4 in format 2"
     " (and these 3 in both).",
-    "A keyed hash in place of the key helps as a tag does.",
+    "Keyed hashes in place of the keys were measured too: they lie between the two blue curves.",
 ]
 
 
@@ -125,14 +126,14 @@ def points_of(kinds, divided):
 def picture():
     found = figures()
     see_that_the_page_tells_them(found)
-    canvas = Canvas("chosen", "Keys that an attacker chooses, and what they cost", 996)
+    canvas = Canvas("chosen", "Keys that an attacker chooses, and what they cost", 1048)
     draw_trees(canvas)
     points = {call: points_of(found[call], divided) for call, _, divided in PANELS}
-    high = scale([
-        it for kinds in points.values() for each in kinds.values() for it in each.values()
-    ])
     for number, (call, title, _) in enumerate(PANELS):
-        left = LEFT + number * NEXT
+        left, unit = LEFT + number * NEXT, title.rpartition(", ")[2]
+        alike = [points[other] for other, name, _ in PANELS if name.endswith(unit)]
+        high = scale([it for kinds in alike for each in kinds.values() for it in each.values()])
         draw_panel(canvas, (left, left + ACROSS, UPPER, LOWER), title, points[call], high)
-    canvas.lines(20, canvas.legend(20, LOWER + 108, LEGEND) + 6, CAPTION)
+    below = canvas.legend(20, LOWER + 108, LEGEND) + 6
+    canvas.lines(20, below, CAPTION + measured("LIMITS.md", "microseconds, 1,000 keys"))
     return canvas

@@ -17,45 +17,50 @@ GROUPS = {
         "mst_proof": (3, 210), "mst_sharded_proof": (4, 210), "mst_verifier": (5, 110),
         "mst_report": (5, 300),
     }),
-    "trees in rows": ("#ffdfc6", 414, 826, {
-        "mst_arena": (3, 540), "mst_change": (3, 740), "mst_path": (4, 706), "mst_read": (4, 500),
+    "trees in rows": ("#ffdfc6", 428, 826, {
+        "mst_arena": (3, 540), "mst_change": (3, 740), "mst_path": (4, 706), "mst_read": (4, 506),
         "mst_batch": (5, 555),
     }),
     "the core of pins": ("#e3d6ee", 842, 1110, {"mst_pin": (4, 1020), "mst_replay": (5, 1020)}),
-    "the store": ("#d3e4f5", 414, 826, {
+    "the store": ("#d3e4f5", 428, 826, {
         "mst_words": (6, 706), "mst_versions": (7, 670), "mst_store": (8, 670),
-        "mst_theorem": (9, 500),
+        "mst_theorem": (9, 512),
     }),
-    "sharded maps": ("#bfe6e2", 366, 560, {"mst_sharded": (10, 462)}),
-    "the store for C": ("#f8d0d0", 20, 330, {
-        "mst_c": (10, 110), "mst_c_sharded": (11, 210), "mst_exports": (12, 210),
+    "sharded maps": ("#bfe6e2", 332, 562, {
+        "mst_shards": (10, 486), "mst_sharded": (11, 486), "mst_blocks": (12, 446),
+        "mst_snapshots": (13, 422),
+    }),
+    "the store for C": ("#f8d0d0", 20, 306, {
+        "mst_c": (10, 110), "mst_c_sharded": (12, 210), "mst_exports": (13, 210),
     }),
     "lines of text": ("#e2e2e2", 1010, 1184, {
         "mst_devices": (0, 1098), "mst_lines": (1, 1098), "mst_requests": (2, 1098),
     }),
     "the program": ("#e6d8cf", 565, 1190, {
-        "mst_load": (10, 745), "mst_script": (10, 905), "mst_sharded_script": (11, 662),
-        "mst_arguments": (12, 1110), "mst_command": (13, 840), "mst_program": (14, 840),
-        "mst": (15, 840),
+        "mst_load": (10, 745), "mst_script": (10, 905), "mst_sharded_script": (12, 678),
+        "mst_arguments": (14, 1110), "mst_command": (15, 840), "mst_program": (16, 840),
+        "mst": (17, 840),
     }),
 }
 FOR_C = {"mst_verifier", "mst_exports"}
 # Arrows that go round other crates: the corner between their two straight parts, as the places from
 # left to right and the crate at whose height it is.
 BENT = {
-    ("mst_arguments", "mst_report"): (347, "mst_arguments"),
+    ("mst_arguments", "mst_report"): (319, "mst_arguments"),
     ("mst_arguments", "mst_store"): (1060, "mst_store"),
     ("mst_arguments", "mst_devices"): (1176, "mst_devices"),
-    ("mst_sharded", "mst_sharded_proof"): (401, "mst_sharded_proof"),
-    ("mst_sharded", "mst_store"): (646, "mst_sharded"),
+    ("mst_shards", "mst_sharded_proof"): (418, "mst_sharded_proof"),
+    ("mst_shards", "mst_store"): (646, "mst_shards"),
+    ("mst_blocks", "mst_shards"): (394, "mst_shards"),
+    ("mst_snapshots", "mst_shards"): (364, "mst_shards"),
     ("mst_theorem", "mst_store"): (616, "mst_theorem"),
     ("mst_c", "mst_store"): (110, "mst_store"),
     ("mst_proof", "mst_node"): (210, "mst_node"),
-    ("mst_command", "mst_replay"): (1000, "mst_command"),
+    ("mst_command", "mst_replay"): (1030, "mst_command"),
     ("mst_script", "mst_requests"): (1150, "mst_script"),
 }
 BOX, HIGH, FIRST, APART = 140, 36, 44, 88
-LAYERS = 16
+LAYERS = 18
 NOTES = [
     "A colour is a group. An arrow leads to what a crate depends on; it is left out where others"
     " lead the same way. No arrow leads from the verifiers to the store.",

@@ -44,11 +44,19 @@ class Plot:
             self.canvas.line([(x, self.lower), (x, self.lower + 8)])
             self.canvas.text(x, self.lower + 30, f"{keys // unit:,}", 17, "middle")
 
-    def draw_curve(self, points, look, size=7):
-        """A curve through points, each a number of keys and a time. Returns where they stand."""
-        style, mark = look
+    def draw_curve(self, points, look, size=7, joined=math.inf):
+        """A curve through points, each a number of keys and a time. Neighbours are joined if one
+        number of keys is at most `joined` times the other. Returns where the points stand."""
+        (style, mark), points = look, list(points)
         places = [(self.across(keys), self.up(time)) for keys, time in points]
-        self.canvas.line(places, style)
+        runs = [places[:1]]
+        for (before, _), (keys, _), place in zip(points, points[1:], places[1:]):
+            if keys > joined * before:
+                runs.append([])
+            runs[-1].append(place)
+        for run in runs:
+            if len(run) > 1:
+                self.canvas.line(run, style)
         for x, y in places:
             self.canvas.mark(x, y, mark, size, style)
         return places

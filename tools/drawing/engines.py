@@ -2,12 +2,14 @@
 docs/pictures/engines.tsv, and of puts by the size of a batch, from the tables of docs/SPEED.md."""
 from .canvas import Canvas
 from .curves import Plot, apart, scale
-from .figures import are_earlier, batches, figures, see_that_the_page_tells_them
+from .figures import batches, figures, lanes, measured, see_that_the_page_tells_them
 
 LEFT, ACROSS, NEXT, UPPER, HIGH, BELOW = 94, 196, 394, 62, 400, 540
 READS = {"get": "get", "range": "range of 100 pairs", "prove": "prove (the store alone)"}
+TODAY = "today's"
 LOOKS = {
     "store": ("thick", "square"),
+    TODAY: ("broken", "diamond"),
     "LMDB": ("thin", "disc"),
     "SQLite": ("dotted", "ring"),
     "std::map": ("dashed", "diamond"),
@@ -15,11 +17,22 @@ LOOKS = {
 CAPTION = [
     "ns: nanoseconds of one call, or of one put of a batch; less is better. All scales are"
     " logarithmic; the six time axes are alike.",
-    "Keys of 16 bytes, values of 32, from C; each the mean of the fastest round. Batches of 10 and more are"
-    " of another run than the rest; a batch of 1 is the put alone.",
+    "Keys of 16 bytes, values of 32, from C; each the mean of the fastest of 81 rounds. A batch of"
+    " 1 is the put alone. Batches of 100 were not timed here (LIMITS has the store's), so no line"
+    " leads from 10 to 1,000.",
     "Only the store has root digests and proofs: the hashes for these are most of its put.",
+    "store: an earlier library. today's (broken): the time of today's library, computed from two"
+    " runs: that of the earlier one, times the part of it that today's took when both ran side by"
+    " side.",
 ]
-EARLIER = "The store's figures are of an earlier library (SPEED, 'How to read a figure')."
+# The heads of the tables that are drawn: what the page says above them is said below the picture.
+HEADS = {
+    "Nanoseconds of": "times by keys",
+    "nanoseconds, 1,000 keys": "batches",
+    "time with lanes ÷ time without": "today's",
+}
+# The most by which neighbours on a curve may differ that a line joins.
+JOINED = 12
 
 
 def panels():
@@ -33,20 +46,33 @@ def panels():
     return [upper, lower]
 
 
-def draw_panel(canvas, place, times, panel):
+def with_today(title, engines, later):
+    """The times of a panel, and those of today's library where a part is told for each number."""
+    parts = later.get(title, "").split(", ")
+    store = sorted(engines["store"].items())
+    if len(parts) != len(store):
+        return engines
+    return {**engines, TODAY: {keys: ns * float(part) for (keys, ns), part in zip(store, parts)}}
+
+
+def draw_panel(canvas, place, times, panel, later):
     """The curves of one panel, with their names where they end."""
     title, unit, says, engines = panel
+    engines = with_today(title, engines, later)
     numbers = sorted({it for each in engines.values() for it in each})
     plot = Plot(canvas, place, (numbers[0], numbers[-1]), times, 20)
     plot.draw_times()
     plot.draw_keys(numbers, unit)
     canvas.text(plot.left - 76, plot.upper - 24, title + ", ns", 17, bold=True)
     canvas.text((plot.left + plot.right) / 2, plot.lower + 56, says, 16, "middle")
-    names = sorted(engines, key=lambda it: it == "store")  # which then lies above the others
-    ends = [plot.draw_curve(sorted(engines[it].items()), LOOKS[it], 6)[-1] for it in names]
+    if title in later and TODAY not in engines:
+        canvas.text(plot.left - 52, plot.lower + 82, f"today's: × {later[title]}", 16, bold=True)
+    # The store's then lies above the others, and today's above that.
+    names = sorted(engines, key=lambda it: (it == TODAY, it == "store"))
+    ends = [plot.draw_curve(sorted(engines[it].items()), LOOKS[it], 6, JOINED)[-1] for it in names]
     for engine, (x, y), high in zip(names, ends, apart([y for _, y in ends], 22)):
         canvas.line([(x + 12, y), (plot.right + 4, high)], "faint")
-        canvas.text(plot.right + 8, high + 6, engine, 16, bold=engine == "store")
+        canvas.text(plot.right + 8, high + 6, engine, 16, bold=engine in ("store", TODAY))
 
 
 def picture():
@@ -56,11 +82,14 @@ def picture():
         it for row in rows for _, _, _, engines in row for each in engines.values()
         for it in each.values()
     ])
-    canvas = Canvas("engines", "The time of one call: the store, LMDB, SQLite and std::map", 1258)
+    canvas = Canvas("engines", "The time of one call: the store, LMDB, SQLite and std::map", 1436)
     for down, row in enumerate(rows):
         upper = UPPER + down * BELOW
         for across, panel in enumerate(row):
             left = LEFT + across * NEXT
-            draw_panel(canvas, (left, left + ACROSS, upper, upper + HIGH), times, panel)
-    canvas.lines(20, 1104, CAPTION + [EARLIER] * are_earlier("SPEED.md"))
+            draw_panel(canvas, (left, left + ACROSS, upper, upper + HIGH), times, panel, lanes())
+    canvas.lines(20, 1126, CAPTION + [
+        line.replace("Measured", f"Measured, {what}") for head, what in HEADS.items()
+        for line in measured("SPEED.md", head)
+    ])
     return canvas

@@ -6,13 +6,13 @@ PASSES, READER, WRITER = 4, 3, 1
 # version goes into the last one that is found drained.
 LAST = PASSES + 1
 LEFT = {
-    "pass": 44, "step": 106, "deed": 206, "turn": 542, "slot": 604, "current": 688, "done": 834,
-    "record": 930, "pins": 1100,
+    "pass": 36, "step": 94, "deed": 194, "turn": 513, "slot": 564, "current": 646, "done": 772,
+    "record": 866, "rows": 966, "pins": 1092,
 }
 HEADS = {
     "turn": ("", "turn"), "slot": ("", "slot"), "current": ("", "current"),
-    "done": ("done of", "record 0"), "record": (f"record {LAST},", "free rows"),
-    "pins": ("who pins", "record 0"),
+    "done": ("done of", "record 0"), "record": ("record", str(LAST)),
+    "rows": ("rows of the", "new path"), "pins": ("who pins", "record 0"),
 }
 WORDS = list(HEADS)
 FIRST, APART = 96, 38
@@ -26,9 +26,11 @@ def mask(number):
 BIT = mask(READER)
 LOOKS = [("thick", "what the step changes")]
 CAPTION = [
-    "pass: a per-thread handle. turn: the write lock. desk: the writer's record of free rows.",
+    "pass: a per-thread handle. turn: the write lock. desk: the allocator's list of rows, which only the writer has.",
     f"From its pin to its unpin (thick line at the left) pass {READER} reads record 0 and the rows"
-    " of its version. No step changes them.",
+    " of its version, at any time: 'read 2' is one such moment. No step changes them.",
+    f"Between write 7 and write 8 no word has the mask {BIT} of the reader's pin: only the writer,"
+    " to whom the publication returned it, holds it.",
     "step: its number in the list 'A read' or 'A write' of PROTOCOL.",
     "current: the current record's number, and a mask: 1, 2, 4, 8 for passes 1 to 4. Its xor with"
     " done tells which passes pin the current record.",
@@ -43,7 +45,7 @@ class Table:
 
     def __init__(self):
         self.turn, self.slot, self.current, self.done = 0, "desk", (0, 0), 0
-        self.record, self.due = "blank", 0
+        self.record, self.rows, self.due = "drained", "free", 0
 
     def pins(self):
         """The mask of the passes that pin record 0: its `done` xor a second mask."""
@@ -55,7 +57,8 @@ class Table:
         return {
             "turn": str(self.turn), "slot": self.slot,
             "current": f"{record}·2³² + {pinned}", "done": str(self.done),
-            "record": self.record, "pins": "pass " + who[0] if who else "none",
+            "record": self.record, "rows": self.rows,
+            "pins": "pass " + who[0] if who else "none",
         }
 
     def pin(self):
@@ -63,7 +66,7 @@ class Table:
 
     def publish(self):
         self.due, self.current = self.current[1], (LAST, 0)
-        self.record = "current"
+        self.record, self.rows = "current", "in use"
 
     def transfer(self):
         self.done, self.due = self.done ^ self.due, 0
@@ -72,20 +75,21 @@ class Table:
         self.done ^= mask(READER)
 
 
-def stores(what):
+def stores(where):
     """The change of a step that stores words which no other pass reads yet."""
-    return lambda it: setattr(it, "record", what)
+    return lambda it: setattr(it, where, "stored")
 
 
 # Each step: its pass, its number in docs/PROTOCOL.md, what it does, and how the table changes.
 STEPS = [
     (READER, "1", f"pins: xor of {BIT} into current", Table.pin),
-    (WRITER, "1", "takes the turn: compare-exchange", lambda it: setattr(it, "turn", WRITER)),
+    (WRITER, "1", "takes turn: compare-exchange", lambda it: setattr(it, "turn", WRITER)),
     (WRITER, "2", "takes the desk: exchange", lambda it: setattr(it, "slot", "empty")),
     (WRITER, "3, 4", f"asks records 1 to {LAST}; sweeps", None),
-    (WRITER, "5", "copies the path into free rows", stores("rows stored")),
-    (WRITER, "6", "stores the record's seven words", stores("record stored")),
+    (WRITER, "5", "copies the path into free rows", stores("rows")),
+    (WRITER, "6", "stores the record's words", stores("record")),
     (WRITER, "7", f"publishes: swap, returns mask {BIT}", Table.publish),
+    (READER, "2", "loads of record 0 and its rows", None),
     (WRITER, "8", f"transfers: xor of {BIT} into done", Table.transfer),
     (WRITER, "9", "returns the desk: exchange", lambda it: setattr(it, "slot", "desk")),
     (WRITER, "9", "gives the turn: store of 0", lambda it: setattr(it, "turn", 0)),
@@ -121,7 +125,7 @@ def draw_heads(canvas):
 
 def picture():
     title = "A put while a reader pins: the words of the table after each step"
-    canvas = Canvas("put", title, 780)
+    canvas = Canvas("put", title, 920)
     table = Table()
     draw_heads(canvas)
     before, y = table.cells(), FIRST

@@ -4,7 +4,7 @@ import os
 import sys
 
 from .canvas import DARK_GREY, INK, LIGHT_GREY, TINT, Canvas
-from .figures import are_earlier, row
+from .figures import measured, row
 from .maps import TOP
 
 UPPER, LOWER = 76, 450
@@ -12,7 +12,7 @@ UPPER, LOWER = 76, 450
 # in which unit, what the second number of a column is called, and for each way of theirs what it is
 # called, in the table of docs/STORE_C.md too. Reads are blue, writes grey.
 PANELS = {
-    "readers": (112, 640, "gets a second, in millions", 1_000_000, ("time of", "a get"), {
+    "readers": (112, 640, "gets a second, in millions", 1_000_000, ("time of", "one get,", "alone = 1"), {
         "held": ("of a pinned version", INK),
         "newest": ("of the newest version", TINT),
         "beside": ("of the newest version, while another thread puts", "white"),
@@ -26,12 +26,13 @@ CAPTION = [
     "One store of 1,000 keys on four processors; each thread has a pass (handle) of its own.",
     "Readers: a get of the newest version pins it and unpins it, by two atomic steps on words that"
     " all threads share. A get of a pinned version makes no such step.",
-    "Writers: one write lock, the turn, serves all, so more writers make no more puts. Each bar is"
-    " of one run.",
-    "time of a get: its processor time, as a multiple of a lone reader's.",
+    "Writers: one write lock, the turn, serves all, so more writers make no more puts. Those of a"
+    " sharded map do (USING has a picture). Each bar is of one run.",
+    "time of one get: its processor time; that of a get by one reader alone is 1.",
     "slowest writer: its puts, as a part of those of the fastest writer.",
 ]
-EARLIER = "All figures are of an earlier library."
+# The heads of the tables that are drawn: what the page says above them is said below the picture.
+HEADS = {"gets a second, by readers": "readers", "puts a second, by writers": "writers"}
 
 
 def figures():
@@ -61,7 +62,7 @@ def see_that_the_page_tells_them(found, page):
 
 
 # Where a scale may end: numbers whose quarters are short.
-ENDS = (1, 1.2, 1.6, 2, 2.4, 3.2, 4, 6, 8, 10)
+ENDS = (1, 1.2, 1.6, 2, 2.4, 3.2, 4, 4.8, 6, 8, 10)
 
 
 def end_of(number):
@@ -89,7 +90,7 @@ def draw_columns(canvas, left, right, most, unit, ways, found):
             calls, beside = each[number]
             y = LOWER - (LOWER - UPPER) * calls / most
             canvas.box(x + 2, y, column - 4, LOWER - y, "thin", ways[how][1])
-            canvas.text(x + column / 2, y - 7, f"{calls / unit:.3g}", 16, "middle", halo=True)
+            canvas.text(x + column / 2, y - 7, f"{calls / unit:.1f}", 16, "middle", halo=True)
             canvas.text(x + column / 2, LOWER + 68, beside.replace(" %", ""), 16, "middle")
             x += column
         canvas.text(left + (place + 0.5) * wide, LOWER + 28, f"{number}", 17, "middle", bold=True)
@@ -114,7 +115,7 @@ def picture():
     found, page = figures(), told()
     see_that_the_page_tells_them(found, page)
     below = LOWER + 150 + 30 * max(len(each) for each in found.values())
-    canvas = Canvas("threads", "Calls a second of one store, by the number of threads", below + 178)
+    canvas = Canvas("threads", "Calls a second of one store, by the number of threads", below + 290)
     for who, (left, right, title, unit, beside, ways) in PANELS.items():
         each = {how: found[who][how] for how in ways if how in found[who]}
         most = end_of(max(calls for one in each.values() for calls, _ in one.values()))
@@ -123,5 +124,8 @@ def picture():
         draw_columns(canvas, left, right, most, unit, ways, each)
         draw_names(canvas, left, who, beside)
         draw_legend(canvas, left, ways, each)
-    canvas.lines(20, below, CAPTION + [EARLIER] * are_earlier("STORE_C.md"))
+    canvas.lines(20, below, CAPTION + [
+        line.replace("Measured", f"Measured, {what}") for head, what in HEADS.items()
+        for line in measured("STORE_C.md", head)
+    ])
     return canvas

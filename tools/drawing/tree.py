@@ -7,7 +7,11 @@ from .maps import last_two
 CELL, HEIGHT, FIRST, APART = 162, 84, 40, 190
 # Where the nodes begin, to the right of what is said of their layers.
 NODES = 168
+# The key whose proof is shown.
+PROVED = b"hanoi"
 CAPTION = [
+    f"Blue: the nodes of the proof of {PROVED.decode()}, from the top down. The proof is their"
+    " texts, with all their entries; who checks it has the root digest.",
     "A box is an entry: its key, its value, and how the key's SHA-256 begins, which gives the"
     " layer.",
     "Boxes that touch are one node, with entries of one layer.",
@@ -47,10 +51,19 @@ def places(version):
     return {it: (lefts[it], FIRST + (highest - version.nodes[it].layer) * APART) for it in order}
 
 
-def draw_node(canvas, node, digest, left, top, is_root):
+def on_the_way(version, digest):
+    """The digests of the nodes from this one down to that of the proved key."""
+    node = version.nodes[digest]
+    if PROVED in node.keys:
+        return [digest]
+    child = node.children[sum(key < PROVED for key in node.keys)]
+    return [digest, *on_the_way(version, child)]
+
+
+def draw_node(canvas, node, digest, left, top, is_root, style):
     for index, (key, value) in enumerate(zip(node.keys, node.values)):
         middle = left + index * CELL + CELL / 2
-        canvas.box(left + index * CELL, top, CELL, HEIGHT)
+        canvas.box(left + index * CELL, top, CELL, HEIGHT, style)
         canvas.text(middle, top + 25, key.decode(), 19, "middle", bold=True, within=CELL - 8)
         canvas.text(middle, top + 48, "value " + value.decode(), 16, "middle", within=CELL - 8)
         start = f"SHA-256 {sha256(key).hexdigest()[:5]}.."
@@ -60,7 +73,7 @@ def draw_node(canvas, node, digest, left, top, is_root):
     canvas.text(middle, top - 8, label, 16, "middle", code=True, bold=is_root)
 
 
-def draw_edges(canvas, version, where):
+def draw_edges(canvas, version, where, way):
     for digest, (left, top) in where.items():
         node = version.nodes[digest]
         for gap, child in enumerate(node.children):
@@ -68,7 +81,8 @@ def draw_edges(canvas, version, where):
                 continue
             to_left, to_top = where[child]
             end = (to_left + len(version.nodes[child].keys) * CELL / 2, to_top - 28)
-            canvas.line([(left + gap * CELL, top + HEIGHT), end], arrow=True)
+            style = "thick" if child in way else "thin"
+            canvas.line([(left + gap * CELL, top + HEIGHT), end], style, arrow=True)
 
 
 def picture():
@@ -76,14 +90,17 @@ def picture():
     where = places(version)
     highest = version.nodes[version.root].layer
     title = f"The tree of a map of {len(version.pairs)} keys in format 1"
-    canvas = Canvas("tree", title, FIRST + highest * APART + 228)
+    canvas = Canvas("tree", title, FIRST + highest * APART + 280)
+    way = on_the_way(version, version.root)
     for layer in range(highest + 1):
         top = FIRST + (highest - layer) * APART
         canvas.text(24, top + 36, f"layer {layer}", 19, bold=True)
         zeros = "no digit 0" if not layer else f"{layer} digit{'s' * (layer > 1)} 0"
         canvas.lines(24, top + 60, ["SHA-256 begins", f"with {zeros}"], 16, 22)
-    draw_edges(canvas, version, where)
+    draw_edges(canvas, version, where, way)
     for digest, (left, top) in where.items():
-        draw_node(canvas, version.nodes[digest], digest, left, top, digest == version.root)
-    canvas.lines(24, canvas.height - 96, CAPTION)
+        style = "thick" if digest in way else "thin"
+        is_root = digest == version.root
+        draw_node(canvas, version.nodes[digest], digest, left, top, is_root, style)
+    canvas.lines(24, canvas.height - 148, CAPTION)
     return canvas

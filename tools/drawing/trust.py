@@ -8,23 +8,27 @@ from .maps import TOP
 
 LEFT, MIDDLE, RIGHT, HIGH = 24, 404, 804, 88
 BAND, COLUMN = 752, 372
-CONTRACTS, DEFINITIONS, CHECKED, PORTED, TOOLCHAIN = 70, 194, 318, 442, 566
+CONTRACTS, SECOND, THIRD, PORTED, TOOLCHAIN = 70, 194, 318, 442, 566
 # Each box: its style, its place and width, its name, and what is said in it.
 BOXES = [
     ("thick", LEFT, CONTRACTS, BAND, "contracts", (
         "what each call promises; one law says what all calls of a store do",
         "crates/*/src: ensures, requires",
     )),
-    ("thick", LEFT, DEFINITIONS, BAND, "definitions", (
-        "what the words of the clauses mean: map, history, tree, proof",
+    ("thick", LEFT, SECOND, COLUMN, "definitions", (
+        "what the words of clauses mean",
         "crates/*/specs",
     )),
-    ("thin", LEFT, CHECKED, COLUMN, "code", (
-        "keeps each clause of its contract",
+    ("thin", MIDDLE, SECOND, COLUMN, "code", (
+        "each function has a contract",
         "crates/*/src",
     )),
-    ("thin", MIDDLE, CHECKED, COLUMN, "proofs", (
-        "show it, step by step",
+    ("thin", LEFT, THIRD, COLUMN, "laws and worked cases", (
+        "proved: what a definition implies",
+        "crates/*/src/laws.rt",
+    )),
+    ("thin", MIDDLE, THIRD, COLUMN, "proofs", (
+        "of each clause, step by step",
         "crates/*/proofs",
     )),
     ("thick", LEFT, PORTED, BAND, "statements of the ported crates", (
@@ -37,18 +41,14 @@ BOXES = [
     )),
     ("dashed", RIGHT, CONTRACTS, COLUMN, "wrong bodies", (
         "mutation tests of the clauses",
-        "crates/*/wrong-bodies",
+        "crates/*: must-fail, wrong-bodies",
     )),
-    ("thin", RIGHT, DEFINITIONS, COLUMN, "laws and worked cases", (
-        "proved: what to expect of a definition",
-        "crates/*/src/laws.rt",
-    )),
-    ("dashed", RIGHT, CHECKED, COLUMN, "tests", (
+    ("dashed", RIGHT, SECOND, COLUMN, "tests", (
         "what no clause says",
         "crates/*_tests, tests",
     )),
     ("thick", RIGHT, PORTED, COLUMN, "what is not in Rattle", (
-        "tested, and nothing of it is proved",
+        "tested alone; the library's own C too",
         "bindings, include, verifiers",
     )),
     ("thick", RIGHT, TOOLCHAIN, COLUMN, "tools of the gate", (
@@ -59,13 +59,15 @@ BOXES = [
 TITLE = "The layers of trust: what has to be read or believed, and what is checked"
 LEGEND = [
     ("thick", "read it, or take it on trust"),
-    ("thin", "the machine checks it: except for three things, users of the calls need not read it"),
+    ("thin", "checked by machine; users need not read it, three things excepted (below)"),
     ("dashed", "a test: that clauses say enough, or of what they do not say"),
 ]
 NOTES = [
     "The three things: how many steps depend on other passes; that Memory is returned only if"
     " memory was refused; that the linearization point of a call, except of a write, lies within"
     " the call (BELIEVE, 'What rests on code').",
+    "What is not in Rattle: each library for C has the C files of bindings/ in it (calls that wait,"
+    " pages, buffers). Of the rest, trust what you use: a header, a binding, a verifier by hand.",
 ]
 
 
@@ -93,17 +95,19 @@ def draw_arrow(canvas, x, start, end, says):
 
 def picture():
     see_that_folders_exist()
-    canvas = Canvas("trust", TITLE, 844)
-    canvas.text(LEFT, 34, "what a proof rests on, from what a caller reads down", 17, bold=True)
+    canvas = Canvas("trust", TITLE, 900)
+    canvas.text(LEFT, 34, "what a proof rests on (top: what callers read)", 17, bold=True)
     canvas.text(RIGHT, 34, "what else is there", 17, bold=True)
     for box in BOXES:
         draw_box(canvas, *box)
-    draw_arrow(canvas, 210, CONTRACTS + HIGH, DEFINITIONS, "cite")
-    draw_arrow(canvas, 210, CHECKED, DEFINITIONS + HIGH, "keeps the clauses, in these words")
-    draw_arrow(canvas, 590, CHECKED, DEFINITIONS + HIGH, "show that it does")
-    draw_arrow(canvas, 210, CHECKED + HIGH, PORTED, "rests on")
-    draw_arrow(canvas, 590, CHECKED + HIGH, PORTED, "rest on")
-    draw_arrow(canvas, 210, PORTED + HIGH, TOOLCHAIN, "are checked and built by it; so is all above")
+    draw_arrow(canvas, 210, CONTRACTS + HIGH, SECOND, "cite")
+    draw_arrow(canvas, 590, SECOND, CONTRACTS + HIGH, "implements")
+    draw_arrow(canvas, 210, THIRD, SECOND + HIGH, "show what follows from them")
+    draw_arrow(canvas, 590, THIRD, SECOND + HIGH, "prove that it does")
+    draw_arrow(canvas, 210, THIRD + HIGH, PORTED, "rest on")
+    draw_arrow(canvas, 590, THIRD + HIGH, PORTED, "rest on")
+    says = "are checked and built by it; so is all above"
+    draw_arrow(canvas, 210, PORTED + HIGH, TOOLCHAIN, says)
     top = TOOLCHAIN + HIGH + 42
     canvas.lines(LEFT, canvas.legend(LEFT, top, LEGEND) + 6, NOTES)
     return canvas

@@ -6,7 +6,7 @@ the head stands last."""
 from .canvas import WIDTH, Canvas
 from .maps import last_two
 
-ROW, HEIGHT, TOP, APART, EDGE, BETWEEN = 80, 40, 80, 140, 20, 310
+ROW, HEIGHT, TOP, APART, EDGE, BETWEEN = 80, 40, 104, 140, 20, 310
 
 # How far from the middle of a shared node a link of one version ends.
 ASIDE = {"dashed": -7, "thick": 7}
@@ -102,7 +102,8 @@ def draw_links(canvas, placed):
 
 def draw_legend(canvas, counts, old, top):
     says = {
-        "dashed": f"rows of version {old.number} alone: readable while its pin lasts, then free",
+        "dashed": f"rows of version {old.number} alone: readable while its pin lasts; the first"
+        " write after the unpin frees them",
         "thin": "rows that both versions have",
         "thick": "rows that the put wrote, which were free: one path, with the new entry",
     }
@@ -125,7 +126,9 @@ def picture():
     for version, text in ((old, "pinned and read"), (new, f"made by one put of {key}")):
         top = placed[version.root]
         name = f"version {version.number}"
-        canvas.text(top.middle(), top.top - 42, name, 19, "middle", bold=True)
-        canvas.text(top.middle(), top.top - 18, text, 17, "middle")
+        canvas.text(top.middle(), top.top - 64, name, 19, "middle", bold=True)
+        canvas.text(top.middle(), top.top - 40, text, 17, "middle")
+        root = f"root digest {version.root.hex()[:8]}.."
+        canvas.text(top.middle(), top.top - 14, root, 16, "middle", code=True)
     draw_legend(canvas, counts, old, legend)
     return canvas

@@ -9,6 +9,10 @@ GROUP = re.compile(r"/\* ---- (.*?) ---- \*/", re.DOTALL)
 MACRO = re.compile(r"#define (\w+)(\([^)]*\))?(?:[ \t]+(.*))?", re.DOTALL)
 DECLARED = re.compile(r"\b(mst_\w+)\s*\(")
 TYPE = re.compile(r"typedef struct \w+")
+# What a header has for C++ and, in its place, for C.
+BRANCHES = re.compile(
+    r"#ifdef __cplusplus\n(?:(?!#endif|#else).*\n)*#else\n((?:(?!#endif).*\n)*)#endif\n"
+)
 
 
 def macro_of(item):
@@ -27,8 +31,6 @@ class Header:
 
     def __init__(self, file):
         self.parts, self.file, self.seen, self.run = [], file, set(), None
-        # The words before a condition, which are those of what it is about.
-        self.waiting = []
 
     def part(self):
         return self.parts[-1]
@@ -74,10 +76,7 @@ class Header:
             else:
                 words = block_lines(comment)
         if item.head.startswith("#if"):
-            self.waiting = words or self.waiting
             return
-        if item.head.startswith("#define"):
-            words, self.waiting = words or self.waiting, []
         if not item.head:
             self.run = None
             if words:
@@ -106,6 +105,6 @@ def parts(path):
         text = file.read()
     header = Header(os.path.basename(path))
     header.begin(f"`{header.file}`", [])
-    for item in items(text):
+    for item in items(BRANCHES.sub(r"\1", text)):
         header.take(item)
     return [it for it in header.parts if it.names or it.words]

@@ -58,6 +58,7 @@ def _signatures() -> Dict[str, Tuple[Any, ...]]:
         "mst_free_rows": (hand, pointer(ctypes.c_uint32)),
         "mst_made": (hand, pointer(ctypes.c_uint64)),
         **{f"mst_{tries}{name}": types for tries in ("", "try_") for name, types in writes.items()},
+        **{f"mst_{name}_within": (*types, ctypes.c_uint64) for name, types in writes.items()},
         "mst_pin": (hand,),
         "mst_unpin": (hand,),
     }

@@ -45,6 +45,12 @@ def _word(number: int) -> int:
     return number if 0 <= number < 2**32 else 2**32 - 1
 
 
+def _microseconds(seconds: float) -> int:
+    # Below 0 it is none, and what a word has no room for is without end. NaN raises ValueError.
+    longest = max(seconds * 1e6, 0)
+    return 2**64 - 1 if longest >= 2**64 else int(longest)
+
+
 def _edit(key: Octets, value: Optional[Octets]) -> bytes:
     name, kind = _octets(key), 2 if value is None else 1
     held = b"" if value is None else _octets(value)
@@ -256,29 +262,54 @@ class Pass:
         """As try_migrate, but waits for the turn."""
         return self._migrate(_lib.mst_migrate, to)
 
-    def _put(self, call: Callable[..., int], key: Octets, value: Octets) -> Optional[bytes]:
+    def put_within(self, key: Octets, value: Octets, seconds: float) -> Optional[bytes]:
+        """As put, but waits for no longer than this, in whole microseconds: then it raises Busy,
+        and nothing is written. It tries at least once, and with 0 exactly once, as try_put does.
+
+        A thread that has this pass in another call is waited for all the same.
+        """
+        return self._put(_lib.mst_put_within, key, value, _microseconds(seconds))
+
+    def remove_within(self, key: Octets, seconds: float) -> Optional[bytes]:
+        """As remove, but waits for no longer than this, as put_within does."""
+        return self._remove(_lib.mst_remove_within, key, _microseconds(seconds))
+
+    def apply_within(self, edits: Iterable[Edit], seconds: float) -> None:
+        """As apply, but waits for no longer than this, as put_within does."""
+        self._apply(_lib.mst_apply_within, edits, _microseconds(seconds))
+
+    def migrate_within(self, to: int, seconds: float) -> Format:
+        """As migrate, but waits for no longer than this, as put_within does."""
+        return self._migrate(_lib.mst_migrate_within, to, _microseconds(seconds))
+
+    # Each of these is by a call that tries, by the one that waits, or by the one that waits for no
+    # longer than a time, which stands last.
+    def _put(
+        self, call: Callable[..., int], key: Octets, value: Octets, *longest: int
+    ) -> Optional[bytes]:
         key, value = _octets(key), _octets(value)
         with self._lock:
-            return self._value(
-                call(self._hand, key, len(key), value, len(value), self._room, VALUE_LONGEST))
+            return self._value(call(
+                self._hand, key, len(key), value, len(value), self._room, VALUE_LONGEST, *longest))
 
-    def _remove(self, call: Callable[..., int], key: Octets) -> Optional[bytes]:
+    def _remove(self, call: Callable[..., int], key: Octets, *longest: int) -> Optional[bytes]:
         key = _octets(key)
         with self._lock:
-            return self._value(call(self._hand, key, len(key), self._room, VALUE_LONGEST))
+            return self._value(
+                call(self._hand, key, len(key), self._room, VALUE_LONGEST, *longest))
 
-    def _apply(self, call: Callable[..., int], edits: Iterable[Edit]) -> None:
+    def _apply(self, call: Callable[..., int], edits: Iterable[Edit], *longest: int) -> None:
         packed, place = _packed(edits), ctypes.c_size_t()
         with self._lock:
-            code = call(self._hand, packed, len(packed), ctypes.byref(place))
+            code = call(self._hand, packed, len(packed), ctypes.byref(place), *longest)
         if code in (BAD_KEY, BAD_VALUE):
             raise RefusedEdit(code, place.value)
         if code < 0:
             _refuse(code)
 
-    def _migrate(self, call: Callable[..., int], to: int) -> Format:
+    def _migrate(self, call: Callable[..., int], to: int, *longest: int) -> Format:
         with self._lock:
-            return _format(call(self._hand, _word(to)))
+            return _format(call(self._hand, _word(to), *longest))
 
     @contextmanager
     def pinned(self) -> Iterator[Pass]:

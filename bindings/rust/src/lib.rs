@@ -79,6 +79,7 @@ pub use sharded::{open_sharded, Handle, Snapshot};
 use raw::Hand;
 use std::ffi::CStr;
 use std::fmt;
+use std::time::Duration;
 
 /// The most bytes of a key.
 pub const KEY_LONGEST: usize = 32;
@@ -94,6 +95,11 @@ pub fn library_version() -> &'static str {
     // Safety: the library's text ends with a zero byte and stays for ever.
     let text = unsafe { CStr::from_ptr(raw::mst_library_version()) };
     text.to_str().expect("the library's version is digits and dots")
+}
+
+/// A wait of more microseconds than a `u64` has is without end.
+fn microseconds(longest: Duration) -> u64 {
+    u64::try_from(longest.as_micros()).unwrap_or(raw::WAIT)
 }
 
 /// Opens a store of the empty map in format 1, and returns its passes, as many as are asked for.
@@ -147,59 +153,86 @@ impl Pass {
     /// Gives the key the value. Returns the value before, or None if the key is new; `Busy` if
     /// another pass has the turn.
     pub fn try_put(&mut self, key: &[u8], value: &[u8]) -> Result<Option<Vec<u8>>, TryError> {
-        self.put_by(raw::mst_try_put, key, value).map_err(TryError::of)
+        self.put_by(raw::TRY, key, value).map_err(TryError::of)
     }
 
     /// Takes the key out. Returns the value that it had, or None if it was absent; `Busy` if
     /// another pass has the turn.
     pub fn try_remove(&mut self, key: &[u8]) -> Result<Option<Vec<u8>>, TryError> {
-        self.remove_by(raw::mst_try_remove, key).map_err(TryError::of)
+        self.remove_by(raw::TRY, key).map_err(TryError::of)
     }
 
     /// As [`Pass::try_put`], but waits for the turn.
     pub fn put(&mut self, key: &[u8], value: &[u8]) -> Result<Option<Vec<u8>>, Error> {
-        self.put_by(raw::mst_put, key, value).map_err(Error::of)
+        self.put_by(raw::WAIT, key, value).map_err(Error::of)
     }
 
     /// As [`Pass::try_remove`], but waits for the turn.
     pub fn remove(&mut self, key: &[u8]) -> Result<Option<Vec<u8>>, Error> {
-        self.remove_by(raw::mst_remove, key).map_err(Error::of)
+        self.remove_by(raw::WAIT, key).map_err(Error::of)
+    }
+
+    /// As [`Pass::put`], but waits for no longer than this, in whole microseconds: then it returns
+    /// `Busy`, and nothing is written. It tries at least once, and with less than a microsecond
+    /// exactly once, as [`Pass::try_put`] does.
+    pub fn put_within(
+        &mut self,
+        key: &[u8],
+        value: &[u8],
+        longest: Duration,
+    ) -> Result<Option<Vec<u8>>, TryError> {
+        self.put_by(microseconds(longest), key, value).map_err(TryError::of)
+    }
+
+    /// As [`Pass::remove`], but waits for no longer than this, as [`Pass::put_within`] does.
+    pub fn remove_within(
+        &mut self,
+        key: &[u8],
+        longest: Duration,
+    ) -> Result<Option<Vec<u8>>, TryError> {
+        self.remove_by(microseconds(longest), key).map_err(TryError::of)
     }
 
     /// Makes the edits, in their order, as one version: each read sees all of them or none, and of
     /// those of one key the last decides. No edits make a version too. Returns `Busy` if another
     /// pass has the turn.
     pub fn try_apply(&mut self, edits: &[Edit<'_>]) -> Result<(), TryError> {
-        self.apply_by(raw::mst_try_apply, edits)
-            .map_err(|(code, place)| TryError::of(code).at(place))
+        self.apply_by(raw::TRY, edits).map_err(|(code, place)| TryError::of(code).at(place))
     }
 
     /// As [`Pass::try_apply`], but waits for the turn.
     pub fn apply(&mut self, edits: &[Edit<'_>]) -> Result<(), Error> {
-        self.apply_by(raw::mst_apply, edits).map_err(|(code, place)| Error::of(code).at(place))
+        self.apply_by(raw::WAIT, edits).map_err(|(code, place)| Error::of(code).at(place))
+    }
+
+    /// As [`Pass::apply`], but waits for no longer than this, as [`Pass::put_within`] does.
+    pub fn apply_within(&mut self, edits: &[Edit<'_>], longest: Duration) -> Result<(), TryError> {
+        self.apply_by(microseconds(longest), edits)
+            .map_err(|(code, place)| TryError::of(code).at(place))
     }
 
     /// Turns the tree of the map to a format. Returns the format before, or `Busy` if another pass
     /// has the turn. The map stays, and so do the pinned versions, each in its format.
     pub fn try_migrate(&mut self, to: Format) -> Result<Format, TryError> {
-        // Safety: the hand is valid.
-        let code = unsafe { raw::mst_try_migrate(&mut self.hand, to.number()) };
-        Format::told(code).map_err(TryError::of)
+        self.migrate_by(raw::TRY, to).map_err(TryError::of)
     }
 
     /// As [`Pass::try_migrate`], but waits for the turn.
     pub fn migrate(&mut self, to: Format) -> Result<Format, Error> {
-        // Safety: the hand is valid.
-        let code = unsafe { raw::mst_migrate(&mut self.hand, to.number()) };
-        Format::told(code).map_err(Error::of)
+        self.migrate_by(raw::WAIT, to).map_err(Error::of)
     }
 
-    fn put_by(&mut self, put: raw::Put, key: &[u8], value: &[u8]) -> Result<Option<Vec<u8>>, i32> {
+    /// As [`Pass::migrate`], but waits for no longer than this, as [`Pass::put_within`] does.
+    pub fn migrate_within(&mut self, to: Format, longest: Duration) -> Result<Format, TryError> {
+        self.migrate_by(microseconds(longest), to).map_err(TryError::of)
+    }
+
+    fn put_by(&mut self, longest: u64, key: &[u8], value: &[u8]) -> Result<Option<Vec<u8>>, i32> {
         let mut room = [0; VALUE_LONGEST];
         // Safety: each pointer is valid for the length that goes with it, and the room is no
         // other's.
         let code = unsafe {
-            put(
+            raw::mst_put_within(
                 &mut self.hand,
                 key.as_ptr(),
                 key.len(),
@@ -207,29 +240,43 @@ impl Pass {
                 value.len(),
                 room.as_mut_ptr(),
                 room.len(),
+                longest,
             )
         };
         reads::value(code, &room)
     }
 
-    fn remove_by(&mut self, remove: raw::Remove, key: &[u8]) -> Result<Option<Vec<u8>>, i32> {
+    fn remove_by(&mut self, longest: u64, key: &[u8]) -> Result<Option<Vec<u8>>, i32> {
         let mut room = [0; VALUE_LONGEST];
         // Safety: as in put_by.
         let code = unsafe {
-            remove(&mut self.hand, key.as_ptr(), key.len(), room.as_mut_ptr(), room.len())
+            raw::mst_remove_within(
+                &mut self.hand,
+                key.as_ptr(),
+                key.len(),
+                room.as_mut_ptr(),
+                room.len(),
+                longest,
+            )
         };
         reads::value(code, &room)
     }
 
     /// A refusal is a number with the place of the edit, if it is that of one.
-    fn apply_by(&mut self, apply: raw::Apply, edits: &[Edit<'_>]) -> Result<(), (i32, usize)> {
+    fn apply_by(&mut self, longest: u64, edits: &[Edit<'_>]) -> Result<(), (i32, usize)> {
         let packed = edits::packed(edits);
+        let (bytes, length) = (packed.as_ptr(), packed.len());
         let mut place = 0;
         // Safety: the bytes are valid for their length, and so are the other pointers.
-        match unsafe { apply(&mut self.hand, packed.as_ptr(), packed.len(), &mut place) } {
+        match unsafe { raw::mst_apply_within(&mut self.hand, bytes, length, &mut place, longest) } {
             0 => Ok(()),
             code => Err((code, place)),
         }
+    }
+
+    fn migrate_by(&mut self, longest: u64, to: Format) -> Result<Format, i32> {
+        // Safety: the hand is valid.
+        Format::told(unsafe { raw::mst_migrate_within(&mut self.hand, to.number(), longest) })
     }
 
     /// Returns how many rows the current version takes, if no other pass writes and none pins.

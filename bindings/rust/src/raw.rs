@@ -6,7 +6,8 @@ use std::fmt;
 #[repr(C)]
 pub struct Hand {
     at: *mut u8,
-    /// So that no other hand is in its cache lines, which calls write to.
+    /// So that no other hand is in its cache lines, which calls write to. The last word is the
+    /// library's too.
     _padding: [u64; 31],
 }
 
@@ -35,33 +36,10 @@ impl Drop for Hand {
 pub(crate) const ABSENT: i32 = -1;
 pub(crate) const SHORT_ROOM: i32 = -2;
 
-/// mst_put and mst_try_put, which differ in their names alone.
-pub(crate) type Put = unsafe extern "C" fn(
-    pass: *mut Hand,
-    key: *const u8,
-    key_length: usize,
-    value: *const u8,
-    value_length: usize,
-    room: *mut u8,
-    room_length: usize,
-) -> i32;
-
-/// mst_remove and mst_try_remove.
-pub(crate) type Remove = unsafe extern "C" fn(
-    pass: *mut Hand,
-    key: *const u8,
-    key_length: usize,
-    room: *mut u8,
-    room_length: usize,
-) -> i32;
-
-/// mst_apply and mst_try_apply.
-pub(crate) type Apply = unsafe extern "C" fn(
-    pass: *mut Hand,
-    edits: *const u8,
-    length: usize,
-    place: *mut usize,
-) -> i32;
+/// How long a call that writes waits for the turn, in microseconds: not at all, as those that try,
+/// or without end.
+pub(crate) const TRY: u64 = 0;
+pub(crate) const WAIT: u64 = u64::MAX;
 
 /// mst_range and mst_page_after.
 pub(crate) type Range = unsafe extern "C" fn(
@@ -136,7 +114,7 @@ extern "C" {
     pub(crate) fn mst_rows(pass: *mut Hand, rows: *mut u32) -> i32;
     pub(crate) fn mst_free_rows(pass: *mut Hand, rows: *mut u32) -> i32;
     pub(crate) fn mst_made(pass: *mut Hand, version: *mut u64) -> i32;
-    pub(crate) fn mst_try_put(
+    pub(crate) fn mst_put_within(
         pass: *mut Hand,
         key: *const u8,
         key_length: usize,
@@ -144,44 +122,24 @@ extern "C" {
         value_length: usize,
         room: *mut u8,
         room_length: usize,
+        microseconds: u64,
     ) -> i32;
-    pub(crate) fn mst_try_remove(
+    pub(crate) fn mst_remove_within(
         pass: *mut Hand,
         key: *const u8,
         key_length: usize,
         room: *mut u8,
         room_length: usize,
+        microseconds: u64,
     ) -> i32;
-    pub(crate) fn mst_try_apply(
+    pub(crate) fn mst_apply_within(
         pass: *mut Hand,
         edits: *const u8,
         length: usize,
         place: *mut usize,
+        microseconds: u64,
     ) -> i32;
-    pub(crate) fn mst_try_migrate(pass: *mut Hand, format: u32) -> i32;
-    pub(crate) fn mst_put(
-        pass: *mut Hand,
-        key: *const u8,
-        key_length: usize,
-        value: *const u8,
-        value_length: usize,
-        room: *mut u8,
-        room_length: usize,
-    ) -> i32;
-    pub(crate) fn mst_remove(
-        pass: *mut Hand,
-        key: *const u8,
-        key_length: usize,
-        room: *mut u8,
-        room_length: usize,
-    ) -> i32;
-    pub(crate) fn mst_apply(
-        pass: *mut Hand,
-        edits: *const u8,
-        length: usize,
-        place: *mut usize,
-    ) -> i32;
-    pub(crate) fn mst_migrate(pass: *mut Hand, format: u32) -> i32;
+    pub(crate) fn mst_migrate_within(pass: *mut Hand, format: u32, microseconds: u64) -> i32;
     pub(crate) fn mst_pin(pass: *mut Hand) -> i32;
     pub(crate) fn mst_unpin(pass: *mut Hand) -> i32;
 }

@@ -5,7 +5,7 @@ use Rattle.std.proofs.Math.ListN.{get_or-append}
 use mathlib.Core.Logic.{dite}
 use native.Mathlib.Decide.{ℕ_discrete}
 use Rattle.mst_sharded.specs.Opening.{Shards, new_handle, first_handles, new_handles}
-use Rattle.mst_sharded.specs.Sharding.{Sharding}
+use Rattle.mst_shards.specs.Sharding.{Sharding}
 use Rattle.mst_sharded.proofs.Dealing.{length-first_handles}
 
 first_at : (s : Shards) (n k : ℕ) (d : Sharding) → k < n

@@ -2,7 +2,7 @@
 use Rattle.std.specs.Prelude.{◌≡◌, ◌<◌, ◌≤◌, ℕ, ℤ, pos, List, length, Option, Some, None, Result, Ok, Err}
 use Rattle.mst_key.specs.declared.history.Edit.{Edit}
 use Rattle.mst_sharded.specs.Applying.{edits_behind, AppliesAll, RefusesEdits}
-use Rattle.mst_sharded.specs.Sharding.{Sharding}
+use Rattle.mst_shards.specs.Sharding.{Sharding}
 use Rattle.mst_sharded.specs.declared.faults.SpreadFault.TheVariants.{Memory, Shard}
 use Rattle.mst_c.specs.Codes.{absent, closed, wrong_state, memory}
 use Rattle.mst_c.specs.Batches.{edits_in, fault_code, apply_fault_code}

@@ -4,7 +4,7 @@ use Rattle.mst_key.specs.History.{had}
 use Rattle.mst_key.specs.Map.{map_get}
 use Rattle.mst_key.specs.declared.history.Change.{Change}
 use Rattle.mst_store.specs.Passes.{Answers, Wrote, Refuses, made_by}
-use Rattle.mst_sharded.specs.Sharding.{Sharding, Routes, PinsAll, map_of}
+use Rattle.mst_shards.specs.Sharding.{Sharding, Routes, PinsAll, map_of}
 use Rattle.mst_c.specs.declared.pass_box.Unwritten.{Unwritten}
 use Rattle.mst_c.specs.declared.pass_box.Unwritten.TheVariants.{Pins, Store}
 use Rattle.mst_c_sharded.specs.declared.handle_box.Sharing.{Sharing}

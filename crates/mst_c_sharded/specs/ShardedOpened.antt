@@ -3,10 +3,10 @@ use Rattle.std.specs.Prelude.{◌≡◌, ◌<◌, ◌+◌, ℕ, ℤ, List, lengt
 use Rattle.mst_key.specs.declared.format.Format.{Format}
 use Rattle.mst_words.specs.declared.view.Shape.{Shape}
 use Rattle.mst_store.specs.Passes.{IsShape}
-use Rattle.mst_sharded.specs.Sharding.{IsSplits}
+use Rattle.mst_shards.specs.Sharding.{IsSplits}
 use Rattle.mst_sharded.specs.Opening.{Shards, HasShards, new_handle}
-use Rattle.mst_sharded.specs.declared.faults.ShardsFault.{ShardsFault}
-use Rattle.mst_sharded.specs.declared.faults.ShardsFault.TheVariants.{Splits, Shape as BadShape, Memory}
+use Rattle.mst_shards.specs.declared.faults.ShardsFault.{ShardsFault}
+use Rattle.mst_shards.specs.declared.faults.ShardsFault.TheVariants.{Splits, Shape as BadShape, Memory}
 use Rattle.mst_c.specs.Codes.{memory, bad_shape, bad_splits}
 use Rattle.mst_c_sharded.specs.declared.handle_box.Sharing.TheVariants.{Handle}
 use Rattle.mst_c_sharded.specs.declared.hand.PaddedShardedHand.{PaddedShardedHand}

@@ -7,7 +7,8 @@ use Rattle.mst_c.specs.Codes.{short_room, bad_key, closed, wrong_state, memory, 
 use Rattle.mst_sharded_proof.specs.Frame.{sharded_proof}
 use Rattle.mst_sharded_proof.specs.Shards.{directory}
 use Rattle.mst_sharded_proof.specs.Theorem.{HasShardedRoot}
-use Rattle.mst_sharded.specs.Directory.{LacksDirectory, OfClean}
+use Rattle.mst_sharded.specs.Directory.{LacksDirectory}
+use Rattle.mst_shards.specs.Directory.{OfClean}
 use Rattle.mst_sharded.specs.declared.faults.DirectoryFault.TheVariants.{Mixed, Stray, VersionsSpent, Memory}
 use Rattle.mst_c_sharded.specs.declared.handle_box.Sharing.{Sharing}
 use Rattle.mst_c_sharded.specs.declared.handle_box.Sharing.TheVariants.{Away, Handle, Snapshot}

@@ -2,8 +2,8 @@
 use Rattle.std.specs.Prelude.{◌≡◌, ℕ, ℤ, pos, List, length, option_map, slice_get, Option, Some, None, Result, Ok, Err}
 use Rattle.mst_key.specs.Map.{Pair, map_next, map_range}
 use Rattle.mst_key.specs.declared.format.Format.{Format}
-use Rattle.mst_sharded.specs.Directory.{AllIn}
-use Rattle.mst_sharded.specs.Sharding.{map_of}
+use Rattle.mst_shards.specs.Directory.{AllIn}
+use Rattle.mst_shards.specs.Sharding.{map_of}
 use Rattle.mst_c.specs.Codes.{absent, bad_key, closed, wrong_state, memory, mixed_formats}
 use Rattle.mst_c_sharded.specs.declared.handle_box.Sharing.{Sharing}
 use Rattle.mst_c_sharded.specs.declared.handle_box.Sharing.TheVariants.{Away, Handle, Snapshot}

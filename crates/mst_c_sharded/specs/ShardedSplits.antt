@@ -1,7 +1,7 @@
 -- The splits of a sharded map in a buffer: each is a byte for its length, and then its bytes. They
 -- stand one after the other, with no byte left over.
 use Rattle.std.specs.Prelude.{◌≡◌, ℕ, List, [], ◌∷◌, ◌++◌, length}
-use Rattle.mst_sharded.specs.Sharding.{IsSplits}
+use Rattle.mst_shards.specs.Sharding.{IsSplits}
 
 -- keys, each behind its length
 abbrev pub splits_bytes : List (List ℕ) → List ℕ

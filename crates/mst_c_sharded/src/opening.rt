@@ -1,7 +1,7 @@
 //! Opening a sharded map for C.
 ghost use Rattle.std.specs.Prelude.{◌≡◌, ◌≢◌, ◌↔◌, ◌⊎◌, ◌<◌, ◌≤◌, ℕ, List, true, pos, length, get_or, vec_len, Some, None, IsSome, IfOk, OnOk, IsErrOf};
 ghost use Rattle.mst_store.specs.Passes.{IsShape};
-ghost use Rattle.mst_sharded.specs.Sharding.{Sharding, IsSplits};
+ghost use Rattle.mst_shards.specs.Sharding.{Sharding, IsSplits};
 ghost use Rattle.mst_sharded.specs.Opening.{Shards, HasShards, new_handles, seats_of};
 ghost use Rattle.mst_c.specs.Codes.{unknown_format, memory, bad_shape, bad_splits};
 ghost use Rattle.mst_c_sharded.specs.declared.handle_box.Sharing.TheVariants.{Handle};

@@ -3,7 +3,7 @@ use Rattle.std.proofs.Common.{◌≡◌, ℕ, ◌≤◌, List, length, ap, subst
 use Rattle.std.proofs.lemmas.List.{length-map}
 use Rattle.mst_words.specs.declared.view.Shape.{Shape}
 use Rattle.mst_lines.specs.Runs.{Stopped}
-use Rattle.mst_sharded.specs.Sharding.{Sharding}
+use Rattle.mst_shards.specs.Sharding.{Sharding}
 use Rattle.mst_sharded.specs.Opening.{Shards, new_handles}
 use Rattle.mst_sharded.proofs.Dealing.{length-first_handles}
 use Rattle.mst_sharded_script.specs.States.{State, Free, are_free}

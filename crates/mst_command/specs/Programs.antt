@@ -24,7 +24,7 @@ use Rattle.mst_command.specs.Loading.{IsLoadSize, RanLoad, BrokeLoad}
 use Rattle.mst_command.specs.Reading.{piece}
 use Rattle.mst_command.specs.Recalling.{Recalls}
 use Rattle.mst_command.specs.Splits.{splits_of}
-use Rattle.mst_sharded.specs.Sharding.{IsSplits}
+use Rattle.mst_shards.specs.Sharding.{IsSplits}
 use Rattle.mst_sharded.specs.Opening.{Shards, HasShards, new_handles}
 use Rattle.mst_sharded_script.specs.States.{State, are_free}
 use Rattle.mst_sharded_script.specs.Serving.{Serves}

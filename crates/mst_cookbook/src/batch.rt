@@ -1,4 +1,4 @@
-//! A block of changes as one version.
+//! A batch of changes as one version.
 use crate::sharing::{one_pass, pair};
 use anyhow::Result;
 use mst_key::{Edit, Format, Key};

@@ -14,7 +14,8 @@ const MAP_ROWS: u32 = KEYS * 17 / 16;
 /// How many versions are pinned at a time. While they last, each may keep as many rows as the map.
 const PINNED: u32 = 1;
 
-/// The rows of the longest path, all of which a put writes anew.
+/// Rows for two writes: (1 + S) × W. A put writes a whole path anew, here at most W = 200 rows, and
+/// S = 1 read may keep the path before it.
 const PATH_ROWS: u32 = 400;
 
 const SHAPE: Shape = Shape {

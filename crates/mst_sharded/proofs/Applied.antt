@@ -8,9 +8,11 @@ use Rattle.mst_versions.specs.Applying.{RefusesBatch}
 use Rattle.mst_versions.specs.Migrating.{RefusesMigration}
 use Rattle.mst_versions.specs.declared.faults.ApplyFault.{ApplyFault}
 use Rattle.mst_versions.specs.declared.faults.MigrateFault.{MigrateFault}
-use Rattle.mst_sharded.specs.Sharding.{sharding, place, AllStep, SeesMore}
-use Rattle.mst_sharded.specs.Applying.{edits_at, picked, AppliesPart, Migrates, StepsFrom, StopsAt, AppliesAll, StopsApplying, MigratesAll}
-use Rattle.mst_sharded.proofs.Spreading.{picked_is, steps_weaker, all_see_more, parts_see, refused_sees, stopped_sees, migrated_sees, stays_sees}
+use Rattle.mst_shards.specs.Sharding.{sharding, place, AllStep, SeesMore, StepsFrom}
+use Rattle.mst_shards.specs.Parts.{edits_at, picked}
+use Rattle.mst_sharded.specs.Applying.{AppliesPart, Migrates, StopsAt, AppliesAll, StopsApplying, MigratesAll}
+use Rattle.mst_shards.proofs.Parted.{picked_is}
+use Rattle.mst_sharded.proofs.Spreading.{steps_weaker, all_see_more, parts_see, refused_sees, stopped_sees, migrated_sees, stays_sees}
 
 part_is : (splits : List (List ℕ)) (edits : List Edit) (places : List ℕ) (i : ℕ)
     → places ≡ map (λ e. place splits (key_of e)) edits

@@ -4,36 +4,16 @@ use Rattle.std.proofs.Math.ListN.{drop_of_length-le}
 use Rattle.std.proofs.lemmas.List.{drop_more, take_more, take_more_set, set-get_or, map-append}
 use Rattle.mst_key.specs.declared.history.Edit.{Edit}
 use Rattle.mst_store.specs.Passes.{Known}
-use Rattle.mst_sharded_proof.specs.Shards.{Shard, least, shards_from, shards as shards_at}
-use Rattle.mst_sharded.specs.Sharding.{maps_of, sharding}
-use Rattle.mst_sharded.specs.Directory.{KeepWithin, LacksDirectory}
+use Rattle.mst_sharded_proof.specs.Shards.{Shard, least, shards as shards_at}
+use Rattle.mst_shards.specs.Sharding.{sharding}
+use Rattle.mst_sharded.specs.Directory.{LacksDirectory}
 use Rattle.mst_sharded.specs.declared.faults.DirectoryFault.{DirectoryFault}
 use Rattle.mst_sharded.specs.declared.faults.DirectoryFault.TheVariants as fault
-use Rattle.mst_sharded.specs.Entries.{shard_from_at, shard_at, KeepsTo, IsFaultOf, entry_of, is_version, is_current, edit_of, edits_of, NewKeep, nothing_of}
-use Rattle.mst_sharded.proofs.Dealing.{length-shards}
-
--- ---- the shard at a place
-
-pub next_shard : (low s : List ℕ) (splits : List (List ℕ)) (i : ℕ) → shard_from_at s splits i
-    ≡ shard_from_at low (s ∷ splits) (suc i)
-next_shard low s splits zero = refl
-next_shard low s splits (suc i) = refl
-
-pub shard_get : (low : List ℕ) (splits : List (List ℕ)) (i : ℕ) (d : Shard) → i ≤ length splits
-    → get_or (shards_from low splits) i d ≡ shard_from_at low splits i
-shard_get low [] zero d le = refl
-shard_get low [] (suc i) d le = absurd (omega (arith, le))
-shard_get low (s ∷ splits) zero d le = refl
-shard_get low (s ∷ splits) (suc i) d le =
-    shard_get s splits i d (omega (arith, le)) ∙ next_shard low s splits i
-
-drop_shards : (splits : List (List ℕ)) (i : ℕ) → i ≤ length splits
-    → drop i (shards_at splits) ≡ shard_at splits i ∷ drop (i + 1) (shards_at splits)
-drop_shards splits i le =
-    let count = length-shards least splits in
-    drop_more (shards_at splits) i (shard_at splits i) (omega (arith, le, count))
-    ∙ ap (λ (s : Shard). s ∷ drop (i + 1) (shards_at splits))
-    (shard_get least splits i (shard_at splits i) le)
+use Rattle.mst_shards.specs.Entries.{shard_at, KeepsTo, entry_of}
+use Rattle.mst_sharded.specs.Entries.{IsFaultOf, is_version, is_current, edit_of, edits_of, NewKeep, nothing_of}
+use Rattle.mst_shards.proofs.Intervals.{length-shards}
+use Rattle.mst_shards.proofs.Intervals.{drop_shards}
+use Rattle.mst_shards.proofs.Intervals.{shard_keeps}
 
 module _ {X : Type 0} where
   drop_here : (xs : List X) (i : ℕ) (x : X) → i < length xs → x ≡ get_or xs i x
@@ -146,28 +126,6 @@ pub keep_end : (splits : List (List ℕ)) (vs : List (Option ℕ)) (ps qs : List
 keep_end splits vs ps qs es i count was last =
     let none = nothing_left splits ps i count last in
     was.keep (subst (λ (x : List Shard). NewKeep x (drop i vs) (drop i ps)) (sym none) tt)
-
--- ---- a shard of those that keep within
-
-keep_at : (shards : List Shard) (ps : List Known) (i : ℕ) (d : Shard) (e : Known)
-    → i < length shards → i < length ps → KeepWithin shards (maps_of ps)
-    → KeepsTo (get_or shards i d) (get_or ps i e)
-keep_at [] ps i d e low low_p keep = absurd (omega (arith, low))
-keep_at (s ∷ shards) [] i d e low low_p keep = absurd (omega (arith, low_p))
-keep_at (s ∷ shards) (p ∷ ps) zero d e low low_p keep = keep.0
-keep_at (s ∷ shards) (p ∷ ps) (suc i) d e low low_p keep =
-    keep_at shards ps i d e (omega (arith, low)) (omega (arith, low_p)) keep.1
-
-pub shard_keeps : (splits : List (List ℕ)) (ps : List Known) (i : ℕ) (p : Known)
-    → length ps ≡ length splits + 1 → i < length ps → p ≡ get_or ps i p
-    → KeepWithin (shards_at splits) (maps_of ps) → KeepsTo (shard_at splits i) p
-shard_keeps splits ps i p count low is keep =
-    let shards = length-shards least splits in
-    subst (λ (q : Known). KeepsTo (shard_at splits i) q) (sym is)
-    (subst (λ (s : Shard). KeepsTo s (get_or ps i p))
-    (shard_get least splits i (shard_at splits i) (omega (arith, count, low)))
-    (keep_at (shards_at splits) ps i (shard_at splits i) p (omega (arith, low, count, shards)) low
-    keep))
 
 -- so there is no directory if there is no edit of a shard
 pub lacks_here : (why : DirectoryFault) (splits : List (List ℕ)) (ps : List Known) (i : ℕ)

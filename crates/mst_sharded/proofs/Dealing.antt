@@ -4,20 +4,13 @@ use Rattle.std.specs.List.{AllByRecursion}
 use Rattle.std.proofs.lemmas.List.{same_lists, map-append, length-map}
 use Rattle.std.proofs.Math.Seq.{get_or-append_seam}
 use Rattle.mst_key.specs.declared.format.Format.{Format}
-use Rattle.mst_words.specs.declared.view.Shape.{Shape}
 use Rattle.mst_store.specs.Passes.{StoreId, Known, HasShape, new_pass, first_passes, new_passes}
-use Rattle.mst_store.proofs.AllPasses.{first_at as at_first}
 use Rattle.mst_sharded_proof.specs.Shards.{Shard, least, shards_from}
-use Rattle.mst_sharded.specs.Sharding.{Sharding, sharding}
+use Rattle.mst_shards.specs.Sharding.{Sharding, sharding}
 use Rattle.mst_sharded.specs.Listing.{AreListed}
 use Rattle.mst_sharded.specs.Opening.{Shards, directory_shape, new_handle, first_handles, Dealt, dealt, dealt_from, dealt_more, IsWhole}
-
--- ---- the passes of a store
-
-first_at : (s : StoreId) (n k : ℕ) (d : Known) → k < n
-    → get_or (first_passes s n) k d ≡ new_pass s (suc k)
-first_at s n k d low =
-    let next : k + 1 ≡ suc k = omega arith in at_first s n k d low ∙ ap (new_pass s) next
+use Rattle.mst_shards.proofs.Dealing.{first_at}
+use Rattle.mst_shards.proofs.Intervals.{length-shards}
 
 -- the only pass of a store of one
 pub only_pass : (s : StoreId) (all rest : List Known) (p : Known) → s.passes ≡ 1
@@ -105,16 +98,6 @@ length-first_handles s (suc n) =
     let before = length-first_handles s n in
     omega (arith, more, before)
 
--- ---- a lot makes a handle
-
-pub length-shards : (low : List ℕ) (splits : List (List ℕ))
-    → length (shards_from low splits) ≡ length splits + 1
-length-shards low [] = refl
-length-shards low (s ∷ splits) =
-    let long = length-shards s splits in
-    let e : suc (length splits + 1) ≡ suc (length splits) + 1 = omega arith in
-    ap suc long ∙ e
-
 none_listed : (d : Known) (shards : List Shard) (stores : List StoreId) (n : ℕ)
     → length stores ≡ length shards
     → AreListed d shards (map (λ store. None) stores) (map (λ store. new_pass store n) stores)
@@ -170,11 +153,3 @@ pub all_handles : (s : Shards) → map (handle_of_lot s.splits) (dealt_from s.st
 all_handles s =
     let e : 0 + length s.directories ≡ length s.directories = omega arith in
     sym (handles_from s s.directories 0) ∙ ap (λ (j : ℕ). first_handles s j) e
-
--- ---- what the stores have by their shapes
-
-pub shapes_passes : (shape : Shape) (n : ℕ) (stores : List StoreId) → shape.passes ≡ n
-    → AllByRecursion (HasShape shape) stores → AllByRecursion (λ s. s.passes ≡ n) stores
-shapes_passes shape n [] is all = tt
-shapes_passes shape n (s ∷ stores) is all =
-    (all.0.1 ∙ is, shapes_passes shape n stores is all.1)

@@ -1,70 +1,19 @@
 -- The parts of edits are all edits.
-use Rattle.std.proofs.Common.{◌≡◌, ◌≢◌, ◌<◌, ◌≤◌, ℕ, Bool, true, false, cond, List, [], ◌∷◌, ◌++◌, Option, refl, sym, ap, ◌∙◌, arith}
+use Rattle.std.proofs.Common.{◌≡◌, ◌<◌, ◌≤◌, ℕ, Bool, true, false, cond, List, [], ◌∷◌, refl, sym, ap, ◌∙◌, arith}
 use Rattle.std.specs.Prelude.{◌==◌, nat_le}
 use Rattle.std.proofs.lemmas.Bool.{cond-true, cond-false}
 use Rattle.std.proofs.lemmas.Bool.Decides.{nat_tests}
-use Rattle.std.proofs.lemmas.List.Elements.{filter-append}
-use mathlib.Core.Logic.{dite}
-use native.Mathlib.Decide.{ℕ_discrete}
 use Rattle.mst_key.specs.declared.history.Edit.{Edit}
 use Rattle.mst_key.specs.declared.history.Change.TheVariants.{Batch}
-use Rattle.mst_key.specs.History.{History, after, key_of, value_after}
+use Rattle.mst_key.specs.History.{History, after, key_of}
 use Rattle.mst_key.specs.Map.{Pair, map_get}
 use Rattle.mst_key.proofs.Batches.{map_get-batched}
-use Rattle.mst_key.proofs.BatchOrder.{value_after-other}
 use Rattle.mst_key.proofs.HistoryLaws.{after-push, IsPrefix-itself}
 use Rattle.mst_store.specs.Passes.{Known, made_by}
-use Rattle.mst_sharded.specs.Sharding.{place}
-use Rattle.mst_sharded.specs.Applying.{edits_at, edits_behind, AppliesPart, HasEdited}
-
-same_test : (m n : ℕ) → m ≡ n → (m == n) ≡ true
-same_test m n is = grind (arith, nat_tests)
-
-other_test : (m n : ℕ) → m ≢ n → (m == n) ≡ false
-other_test m n other = grind (arith, nat_tests)
-
-pub part_mine : (splits : List (List ℕ)) (before behind : List Edit) (e : Edit) (i : ℕ)
-    → place splits (key_of e) ≡ i → edits_at splits (before ++ e ∷ behind) i
-    ≡ edits_at splits before i ++ e ∷ edits_at splits behind i
-part_mine splits before behind e i is =
-    let rest = edits_at splits behind i in
-    filter-append (λ (x : Edit). place splits (key_of x) == i) before (e ∷ behind)
-    ∙ ap (λ (l : List Edit). edits_at splits before i ++ l)
-    (cond-true (place splits (key_of e) == i) (e ∷ rest) rest
-    (same_test (place splits (key_of e)) i is))
-
-pub part_others : (splits : List (List ℕ)) (before behind : List Edit) (e : Edit) (i : ℕ)
-    → place splits (key_of e) ≢ i
-    → edits_at splits (before ++ e ∷ behind) i ≡ edits_at splits (before ++ behind) i
-part_others splits before behind e i other =
-    let test : Edit → Bool = λ x. place splits (key_of x) == i in
-    let rest = edits_at splits behind i in
-    filter-append (λ (x : Edit). place splits (key_of x) == i) before (e ∷ behind)
-    ∙ ap (λ (l : List Edit). edits_at splits before i ++ l)
-    (cond-false (place splits (key_of e) == i) (e ∷ rest) rest
-    (other_test (place splits (key_of e)) i other))
-    ∙ sym (filter-append (λ (x : Edit). place splits (key_of x) == i) before behind)
-
--- the edits of other shards leave the key alone
-part_value : (splits : List (List ℕ)) (edits : List Edit) (k : List ℕ) (old : Option (List ℕ))
-    → value_after (edits_at splits edits (place splits k)) k old ≡ value_after edits k old
-part_value splits [] k old = refl
-part_value splits (e ∷ edits) k old =
-    let i = place splits k in
-    let rest = edits_at splits edits (place splits k) in
-    dite (ℕ_discrete (place splits (key_of e)) (place splits k))
-    (λ (is : place splits (key_of e) ≡ place splits k).
-    ap (λ (l : List Edit). value_after l k old)
-    (cond-true (place splits (key_of e) == place splits k) (e ∷ rest) rest
-    (same_test (place splits (key_of e)) (place splits k) is))
-    ∙ part_value splits edits k _)
-    (λ (other : place splits (key_of e) ≢ place splits k).
-    ap (λ (l : List Edit). value_after l k old)
-    (cond-false (place splits (key_of e) == place splits k) (e ∷ rest) rest
-    (other_test (place splits (key_of e)) (place splits k) other))
-    ∙ part_value splits edits k old
-    ∙ sym (value_after-other e edits k old
-    (λ same. other (ap (λ (x : List ℕ). place splits x) (sym same)))))
+use Rattle.mst_shards.specs.Sharding.{place}
+use Rattle.mst_shards.specs.Parts.{edits_at}
+use Rattle.mst_sharded.specs.Applying.{edits_behind, AppliesPart, HasEdited}
+use Rattle.mst_shards.proofs.Parted.{part_value}
 
 -- ---- the edits of the shards from one on
 

@@ -16,19 +16,9 @@ use Rattle.mst_store.specs.Passes.{Known, format_seen}
 use Rattle.mst_sharded_proof.specs.Shards.{Shard, AreSplits, shards_from, part_of, bound_text}
 use Rattle.mst_sharded_proof.proofs.Shards.{length-root}
 use Rattle.mst_sharded.specs.Listing.{ListsVersion, IsListed, AreListed}
-use Rattle.mst_sharded.specs.Entries.{KeepsTo, entry_of, is_current, edit_of, edits_of, NewKeep, versions_of}
-
--- ---- the lower bounds rise
-
--- from above a bound
-abbrev pub RiseFrom : List ℕ → List Shard → Type 0
-RiseFrom b [] = Unit {0}
-RiseFrom b (s ∷ shards) = (key_cmp b s.low ≡ Less) × RiseFrom s.low shards
-
-pub rise_from : (low : List ℕ) (splits : List (List ℕ)) (b : List ℕ) → AreSplits low splits
-    → key_cmp b low ≡ Less → RiseFrom b (shards_from low splits)
-rise_from low [] b rising less = (less, tt)
-rise_from low (t ∷ splits) b rising less = (less, rise_from t splits low rising.2 rising.0)
+use Rattle.mst_shards.specs.Entries.{KeepsTo, entry_of}
+use Rattle.mst_sharded.specs.Entries.{is_current, edit_of, edits_of, NewKeep, versions_of}
+use Rattle.mst_shards.proofs.Rising.{RiseFrom}
 
 rise_lower : (a b : List ℕ) (shards : List Shard) → key_cmp a b ≡ Less → RiseFrom b shards
     → RiseFrom a shards

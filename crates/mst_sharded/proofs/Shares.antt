@@ -1,8 +1,8 @@
 -- Handles and snapshots beside a share of their map: their passes stay those of its stores.
-use Rattle.std.proofs.Common.{◌≡◌, ℕ, zero, suc, ◌+◌, ◌<◌, ◌≤◌, List, [], ◌∷◌, ◌++◌, inl, inr, Option, Some, None, slice_get, Result, Ok, Err, IfOk, IfErr, OnOk, length, map, take, drop, set, get_or, refl, sym, ap, ◌∙◌, subst, arith, length-append, append_assoc}
+use Rattle.std.proofs.Common.{◌≡◌, ℕ, suc, ◌+◌, ◌<◌, ◌≤◌, List, [], ◌∷◌, ◌++◌, inl, inr, Option, Some, slice_get, Result, Ok, Err, IfOk, IfErr, OnOk, length, map, take, drop, set, get_or, refl, sym, ap, ◌∙◌, subst, arith, length-append, append_assoc}
 use Rattle.std.specs.List.{swap_remove, SwappedAt}
 use Rattle.std.specs.Prelude.{slice_index_or}
-use Rattle.std.proofs.lemmas.List.{length-map, get_or-map, map-set, set-get_or}
+use Rattle.std.proofs.lemmas.List.{length-map}
 use Rattle.std.proofs.lemmas.Bool.{cases_order}
 use Rattle.mst_key.specs.declared.history.Change.{Change}
 use Rattle.mst_versions.specs.Migrating.{RefusesMigration}
@@ -15,46 +15,28 @@ use Rattle.mst_versions.specs.declared.faults.ApplyFault.TheVariants as apply
 use Rattle.mst_sharded.specs.declared.faults.StoppedMigration.{StoppedMigration}
 use Rattle.mst_sharded.specs.declared.faults.SpreadFault.{SpreadFault}
 use Rattle.mst_sharded.specs.declared.faults.SpreadFault.TheVariants as spread
-use Rattle.mst_sharded.specs.Applying.{edits_at, AppliesPart, Migrates, StepsFrom, StopsAt, AppliesAll, RefusesEdits}
+use Rattle.mst_shards.specs.Parts.{edits_at}
+use Rattle.mst_sharded.specs.Applying.{AppliesPart, Migrates, StopsAt, AppliesAll, RefusesEdits}
+use Rattle.mst_shards.specs.Sharding.{StepsFrom, IsSplits, Sharding, place, sharding, IsSharding, HaveFewPairs, Routes, SeesMore}
 use Rattle.mst_key.specs.History.{had, after}
-use Rattle.mst_store.specs.Passes.{StoreId, Known, HasShape, Wrote, Refuses, made_by, new_pass}
+use Rattle.mst_store.specs.Passes.{StoreId, Known, HasShape, Wrote, Refuses, made_by}
 use Rattle.mst_versions.specs.declared.faults.WriteFault.{WriteFault}
 use Rattle.mst_versions.specs.declared.faults.WriteFault.TheVariants.{Busy, VersionsSpent, NoRoom}
 use Rattle.mst_sharded.specs.Listing.{Listing, HasListed}
 use Rattle.std.specs.List.{AllByRecursion}
 use Rattle.mst_key.specs.declared.format.Format.{Format}
 use Rattle.mst_sharded.specs.Opening.{Shards, Dealt, dealt_from, directory_shape}
-use Rattle.mst_sharded.specs.Shared.{AreOf, KeepsPins, IsLotOf, AreLotsOf}
+use Rattle.mst_shards.specs.Laid.{AreOf}
+use Rattle.mst_sharded.specs.Shared.{KeepsPins, IsLotOf, AreLotsOf}
 use Rattle.mst_key.specs.Map.{Pair, IsMap}
 use Rattle.mst_sharded_proof.specs.Shards.{least, shards_from, directory}
-use Rattle.mst_sharded.proofs.Dealing.{all_whole, length-shards}
-use Rattle.mst_sharded.specs.Sharding.{IsSplits, Sharding, place, sharding, IsSharding, HaveFewPairs, Routes, AllStep, PinsNow, SeesMore}
+use Rattle.mst_sharded.proofs.Dealing.{all_whole}
+use Rattle.mst_shards.proofs.Intervals.{length-shards}
 use Rattle.mst_sharded.proofs.Listed.{handle_kept}
-use Rattle.mst_sharded.proofs.Moved.{read_any, put_back, given_back}
-use Rattle.mst_sharded.proofs.HandingOut.{next_at}
-
-abbrev store : Known → StoreId
-store p = p.store
-
-pub as_many : (stores : List StoreId) (ps : List Known) → AreOf stores ps
-    → length stores ≡ length ps
-as_many stores ps own = sym (ap (λ (l : List StoreId). length l) own) ∙ length-map ps store
-
--- ---- one pass
-
-pub own_at : (stores : List StoreId) (ps : List Known) (i : ℕ) (p : Known) (s : StoreId)
-    → AreOf stores ps → i < length ps → p ≡ get_or ps i p → s ≡ get_or stores i s → p.store ≡ s
-own_at stores ps i p s own low is there =
-    ap store is ∙ sym (get_or-map store ps i p s low)
-    ∙ ap (λ (l : List StoreId). get_or l i s) own ∙ sym there
-
-pub own_set : (stores : List StoreId) (ps : List Known) (i : ℕ) (p q : Known) → AreOf stores ps
-    → i < length ps → p ≡ get_or ps i p → q.store ≡ p.store → AreOf stores (set ps i q)
-own_set stores ps i p q own low is same =
-    map-set store ps i q
-    ∙ ap (λ (s : StoreId). set (map store ps) i s)
-    (same ∙ ap store is ∙ sym (get_or-map store ps i p p.store low))
-    ∙ set-get_or (map store ps) i p.store ∙ own
+use Rattle.mst_shards.proofs.Moved.{read_any, put_back, given_back}
+use Rattle.mst_shards.proofs.Owned.{own_set}
+use Rattle.mst_shards.proofs.Owned.{new_own}
+use Rattle.mst_shards.proofs.Owned.{store}
 
 -- the passes of a share, after the pass at a place has made a step and was put back
 pub record Returned (splits : List (List ℕ)) (stores : List StoreId) (l : Listing)
@@ -103,14 +85,6 @@ routed splits k S ps ys zs i n p q is within at here left count again back step 
           (now ∙ ap (λ (j : ℕ). set ps j q) at);
     }
 
--- a pinned pass that was put back as it was
-pub stayed : (ps ys zs : List Known) (i n : ℕ) (p q : Known) → i < length ps
-    → p ≡ get_or ps i p → ys ≡ swap_remove ps i p → n + 1 ≡ length ps → length zs ≡ n + 1
-    → SwappedAt (ys ++ q ∷ []) zs i n → q ≡ p → zs ≡ ps
-stayed ps ys zs i n p q low here left count again back same =
-    put_back ps ys zs i n p q (sym count) again (omega (arith, low, count)) left back
-    ∙ ap (λ (x : Known). set ps i x) (same ∙ here) ∙ set-get_or ps i p
-
 -- ---- which store a pass is of stays
 
 pub wrote_own : (r : Result (Option (List ℕ)) WriteFault) (change : Change) (p q : Known)
@@ -120,48 +94,6 @@ wrote_own (Ok old) change p q ok err = ok.same.0
 wrote_own (Err Busy) change p q ok err = ap store err.0
 wrote_own (Err VersionsSpent) change p q ok err = err.0.same.0
 wrote_own (Err NoRoom) change p q ok err = err.0.same.0
-
-pub pins_own : (stores : List StoreId) (ps qs : List Known) → AllStep PinsNow ps qs
-    → AreOf stores ps → AreOf stores qs
-pins_own stores ps qs pins own = stays ps qs pins ∙ own
-  where
-    stays : (ps qs : List Known) → AllStep PinsNow ps qs → map store qs ≡ map store ps
-    stays [] [] pins = refl
-    stays [] (q ∷ qs) pins = absurd pins
-    stays (p ∷ ps) [] pins = absurd pins
-    stays (p ∷ ps) (q ∷ qs) pins =
-        ap (λ (s : StoreId). s ∷ map store qs) pins.0.0.same.0
-        ∙ ap (λ (l : List StoreId). p.store ∷ l) (stays ps qs pins.1)
-
--- ---- all passes, one after the other
-
--- there is a store for the one that comes next
-pub next_low : (stores : List StoreId) (all done left rest : List Known) (p : Known) (i : ℕ)
-    → AreOf stores all → all ≡ done ++ left → left ≡ p ∷ rest → i ≡ length done
-    → i < length stores
-next_low stores all done left rest p i own is next at =
-    let long = length-append done (p ∷ rest) in
-    let same : length all ≡ length (done ++ p ∷ rest) = ap (λ (l : List Known). length l)
-    (is ∙ ap (λ (l : List Known). done ++ l) next) in
-    let many = as_many stores all own in
-    omega (arith, long, same, many, at)
-
--- and it is of that store
-pub next_own : (stores : List StoreId) (all done left rest : List Known) (p : Known) (i : ℕ)
-    (s : StoreId) → AreOf stores all → all ≡ done ++ left → left ≡ p ∷ rest → i ≡ length done
-    → s ≡ get_or stores i s → p.store ≡ s
-next_own stores all done left rest p i s own is next at there =
-    let many = as_many stores all own in
-    let low = next_low stores all done left rest p i own is next at in
-    own_at stores all i p s own (omega (arith, low, many))
-    (sym (next_at all done rest p i p (is ∙ ap (λ (l : List Known). done ++ l) next) (sym at)))
-    there
-
--- ---- what is dealt
-
-new_own : (stores : List StoreId) (n : ℕ) → AreOf stores (map (λ s. new_pass s n) stores)
-new_own [] n = refl
-new_own (s ∷ stores) n = ap (λ (l : List StoreId). s ∷ l) (new_own stores n)
 
 seam : (front ds : List StoreId) (d : StoreId) → slice_get (front ++ d ∷ ds) (length front) ≡ Some d
 seam [] ds d = refl
@@ -210,19 +142,6 @@ lot_own s all front left rest d i own is next at =
     (lot_next s 0 front rest d
     (subst (λ (l : List Dealt). AreLotsOf s 0 l) (is ∙ ap (λ (l : List Dealt). front ++ l) next)
     own))
-
--- ---- a list at a place
-
-pub there_at : (ps : List Known) (i : ℕ) (p : Known) → i < length ps → p ≡ get_or ps i p
-    → slice_get ps i ≡ Some p
-there_at [] i p low is = absurd (omega (arith, low))
-there_at (x ∷ ps) zero p low is = ap Some (sym is)
-there_at (x ∷ ps) (suc i) p low is = there_at ps i p (omega (arith, low)) is
-
-pub none_at : (ps : List Known) (i : ℕ) → length ps ≤ i → slice_get ps i ≡ None
-none_at [] i past = refl
-none_at (x ∷ ps) zero past = absurd (omega (arith, past))
-none_at (x ∷ ps) (suc i) past = none_at ps i (omega (arith, past))
 
 -- ---- steps of all shards
 

@@ -1,6 +1,5 @@
 -- Shards that make their step one after the other, and the edits of each.
-use Rattle.std.proofs.Common.{◌≡◌, ◌≢◌, inl, inr, ℕ, zero, suc, ◌+◌, ◌<◌, ◌≤◌, Bool, true, false, cond, List, [], ◌∷◌, ◌++◌, map, filter, length, take, get_or, set, refl, sym, ap, ◌∙◌, subst, arith}
-use Rattle.std.specs.Prelude.{◌==◌, if◌then◌else◌}
+use Rattle.std.proofs.Common.{◌≡◌, ◌≢◌, inl, inr, ℕ, zero, suc, ◌+◌, ◌<◌, ◌≤◌, List, [], ◌∷◌, length, get_or, set, refl, sym, ap, subst, arith}
 use Rattle.std.proofs.lemmas.Bool.{cases_order}
 use Rattle.mst_key.specs.declared.history.Edit.{Edit}
 use Rattle.mst_key.proofs.HistoryLaws.{IsPrefix-itself}
@@ -12,50 +11,9 @@ use Rattle.mst_versions.specs.declared.faults.ApplyFault.{ApplyFault}
 use Rattle.mst_versions.specs.declared.faults.ApplyFault.TheVariants as apply
 use Rattle.mst_versions.specs.declared.faults.MigrateFault.{MigrateFault}
 use Rattle.mst_versions.specs.declared.faults.MigrateFault.TheVariants as move
-use Rattle.mst_sharded.specs.Sharding.{AllStep, SeesMore}
-use Rattle.mst_sharded.specs.Applying.{picked, AppliesPart, Migrates, StepsFrom, StopsAt}
+use Rattle.mst_shards.specs.Sharding.{AllStep, SeesMore, StepsFrom}
+use Rattle.mst_sharded.specs.Applying.{AppliesPart, Migrates, StopsAt}
 use Rattle.mst_sharded.proofs.Listed.{wrote_more}
-
--- ---- the edits of a place
-
-pub picked_is : (at : Edit → ℕ) (edits : List Edit) (i : ℕ)
-    → picked (map at edits) edits i ≡ filter (λ e. at e == i) edits
-picked_is at [] i = refl
-picked_is at (e ∷ edits) i =
-    ap (λ (rest : List Edit). if at e == i then e ∷ rest else rest) (picked_is at edits i)
-
-picked_next : (places : List ℕ) (edits : List Edit) (n i : ℕ) (p : ℕ) (e : Edit)
-    → n < length places → n < length edits → get_or places n 0 ≡ p → e ≡ get_or edits n e
-    → picked (take (suc n) places) (take (suc n) edits) i
-    ≡ picked (take n places) (take n edits) i ++ cond (p == i) (e ∷ []) []
-picked_next [] edits n i p e low high there is = absurd (omega (arith, low))
-picked_next (q ∷ places) [] n i p e low high there is = absurd (omega (arith, high))
-picked_next (q ∷ places) (x ∷ edits) zero i p e low high there is =
-    ap (λ (j : ℕ). cond (j == i) (x ∷ []) []) there
-    ∙ ap (λ (y : Edit). cond (p == i) (y ∷ []) []) (sym is)
-picked_next (q ∷ places) (x ∷ edits) (suc n) i p e low high there is =
-    go (q == i)
-    (picked_next places edits n i p e (omega (arith, low)) (omega (arith, high)) there is)
-  where
-    go : (b : Bool) → picked (take (suc n) places) (take (suc n) edits) i
-        ≡ picked (take n places) (take n edits) i ++ cond (p == i) (e ∷ []) []
-        → cond b (x ∷ picked (take (suc n) places) (take (suc n) edits) i)
-        (picked (take (suc n) places) (take (suc n) edits) i)
-        ≡ cond b (x ∷ picked (take n places) (take n edits) i)
-        (picked (take n places) (take n edits) i) ++ cond (p == i) (e ∷ []) []
-    go true more = ap (λ (l : List Edit). x ∷ l) more
-    go false more = more
-
--- one edit more
-pub picked_more : (places : List ℕ) (edits : List Edit) (n i : ℕ) (p : ℕ) (e : Edit)
-    → n < length places → n < length edits → get_or places n 0 ≡ p → e ≡ get_or edits n e
-    → picked (take (n + 1) places) (take (n + 1) edits) i
-    ≡ picked (take n places) (take n edits) i ++ cond (p == i) (e ∷ []) []
-picked_more places edits n i p e low high there is =
-    let same : suc n ≡ n + 1 = omega arith in
-    subst (λ (m : ℕ). picked (take m places) (take m edits) i
-    ≡ picked (take n places) (take n edits) i ++ cond (p == i) (e ∷ []) []) same
-    (picked_next places edits n i p e low high there is)
 
 -- ---- steps, one shard after the other
 
@@ -86,13 +44,6 @@ steps_within S T from end (p ∷ ps) (q ∷ qs) most weaker steps = (
   weaker from p q (omega (arith, most)) steps.0,
   steps_within S T (suc from) end ps qs (omega (arith, most)) weaker steps.1,
 )
-
-pub steps_length : (S : ℕ → Known → Known → Type 0) (from : ℕ) (ps qs : List Known)
-    → StepsFrom S from ps qs → length qs ≡ length ps
-steps_length S from [] [] steps = refl
-steps_length S from [] (q ∷ qs) steps = absurd steps
-steps_length S from (p ∷ ps) [] steps = absurd steps
-steps_length S from (p ∷ ps) (q ∷ qs) steps = ap suc (steps_length S (suc from) ps qs steps.1)
 
 -- none has made its step yet
 pub none_done : (S : ℕ → Known → Known → Type 0) (from : ℕ) (ps : List Known)

@@ -5,8 +5,8 @@ use Rattle.std.specs.List.{AllByRecursion}
 use Rattle.mst_key.specs.Map.{Pair, key_cmp, from_on, below, map_range}
 use Rattle.mst_key.proofs.Alls.{alls-both, alls-weaker, alls-passes, filter-whole, filter-nothing}
 use Rattle.mst_sharded_proof.specs.Shards.{Shard, is_in, part_of}
-use Rattle.mst_sharded.specs.Entries.{low_at, shard_at}
-use Rattle.mst_sharded.proofs.Unions.{and_left, and_right, not_false}
+use Rattle.mst_shards.specs.Entries.{low_at, shard_at}
+use Rattle.mst_shards.proofs.Unions.{and_left, and_right, not_false}
 
 -- ---- the first that passes a test
 

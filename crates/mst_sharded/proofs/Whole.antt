@@ -14,13 +14,15 @@ use Rattle.mst_node.specs.Text.{root as root_of}
 use Rattle.mst_store.specs.Passes.{Known, StoreId, format_seen}
 use Rattle.mst_sharded_proof.specs.Shards.{Shard, least, shards as shards_at, bound_text, listing, directory}
 use Rattle.mst_sharded_proof.proofs.Shards.{directory_map}
-use Rattle.mst_sharded.specs.Sharding.{IsSplits, sharding, maps_of, map_of}
-use Rattle.mst_sharded.specs.Directory.{AllIn, KeepWithin}
+use Rattle.mst_shards.specs.Sharding.{IsSplits, sharding, maps_of, map_of}
+use Rattle.mst_shards.specs.Directory.{AllIn, KeepWithin}
 use Rattle.mst_sharded.specs.Listing.{Listing, AreListed, HasListed}
 use Rattle.mst_sharded.specs.Entries.{edits_of, NewKeep, versions_of, Becomes, HasRowsBeside, ListsAll}
-use Rattle.mst_sharded.proofs.Dealing.{length-shards}
-use Rattle.mst_sharded.proofs.ShardParts.{HasParts, parts}
-use Rattle.mst_sharded.proofs.Relisting.{RiseFrom, rise_from, lists_last, relist, lows, keys_relisted, small_edits}
+use Rattle.mst_shards.proofs.Intervals.{length-shards}
+use Rattle.mst_shards.proofs.ShardParts.{HasParts, parts}
+use Rattle.mst_shards.proofs.Rising.{RiseFrom}
+use Rattle.mst_sharded.proofs.Relisting.{lists_last, relist, lows, keys_relisted, small_edits}
+use Rattle.mst_shards.proofs.Rising.{all_rise}
 
 -- ---- how many keys there are
 
@@ -73,9 +75,6 @@ few_keys b (s ∷ shards) (p ∷ m) rise ascending has =
     let rest = few_keys s.low shards (p ∷ m) rise.1 ascending
     (without_first s shards (p ∷ m) above has) in
     omega (arith, rest))
-
-pub all_rise : (splits : List (List ℕ)) → IsSplits splits → RiseFrom [] (shards_at splits)
-all_rise splits is = rise_from least splits [] is.rising refl
 
 few_of : (splits : List (List ℕ)) (m : List Pair) → IsSplits splits → IsMap m
     → HasLows m (shards_at splits) → length m ≤ length splits + 1

@@ -1,5 +1,5 @@
 -- A batch of edits of a sharded map, and a migration: one shard after the other.
-use Rattle.std.specs.Prelude.{◌≡◌, ◌<◌, ◌==◌, ℕ, suc, nat_le, if◌then◌else◌, List, [], ◌∷◌, filter, length}
+use Rattle.std.specs.Prelude.{◌≡◌, ◌<◌, ℕ, nat_le, List, [], ◌∷◌, filter, length}
 use Rattle.mst_key.specs.declared.format.Format.{Format}
 use Rattle.mst_key.specs.declared.history.Change.TheVariants.{Batch, Migrate}
 use Rattle.mst_key.specs.declared.history.Edit.{Edit}
@@ -10,24 +10,15 @@ use Rattle.mst_versions.specs.Applying.{RefusesBatch}
 use Rattle.mst_versions.specs.Migrating.{RefusesMigration}
 use Rattle.mst_versions.specs.declared.faults.ApplyFault.{ApplyFault}
 use Rattle.mst_versions.specs.declared.faults.MigrateFault.{MigrateFault}
-use Rattle.mst_sharded.specs.Sharding.{Sharding, place}
+use Rattle.mst_shards.specs.Sharding.{Sharding, place}
 use Rattle.mst_sharded.specs.declared.faults.SpreadFault.{SpreadFault}
 use Rattle.mst_sharded.specs.declared.faults.SpreadFault.TheVariants.{Memory, Shard}
-
--- the edits of one shard, in their order
-abbrev pub edits_at : List (List ℕ) → List Edit → ℕ → List Edit
-edits_at splits edits i = filter (λ e. place splits (key_of e) == i) edits
+use Rattle.mst_shards.specs.Parts.{edits_at}
+use Rattle.mst_shards.specs.Sharding.{StepsFrom}
 
 -- the edits of the shards from this one on, in their order
 abbrev pub edits_behind : List (List ℕ) → List Edit → ℕ → List Edit
 edits_behind splits edits from = filter (λ e. nat_le from (place splits (key_of e))) edits
-
--- of edits, each with a place, those whose place is this one, in their order
-abbrev pub picked : List ℕ → List Edit → ℕ → List Edit
-picked [] edits i = []
-picked (at ∷ places) [] i = []
-picked (at ∷ places) (e ∷ edits) i =
-    if at == i then e ∷ picked places edits i else picked places edits i
 
 -- the pass of a shard made these edits as one batch; for no edits it made no step
 abbrev pub AppliesPart : List Edit → Known → Known → Type 0
@@ -37,13 +28,6 @@ AppliesPart (e ∷ edits) p q = Wrote (made_by p (Batch (e ∷ edits))) p done q
 -- the pass of a shard migrated it
 abbrev pub Migrates : Format → Known → Known → Type 0
 Migrates to p q = (format : Format) × Wrote (made_by p (Migrate to)) p (was format) q
-
--- the passes of the shards from a place on made the step of their shard
-abbrev pub StepsFrom : (ℕ → Known → Known → Type 0) → ℕ → List Known → List Known → Type 0
-StepsFrom Steps i [] [] = Unit {0}
-StepsFrom Steps i [] (q ∷ qs) = ⊥
-StepsFrom Steps i (p ∷ ps) [] = ⊥
-StepsFrom Steps i (p ∷ ps) (q ∷ qs) = Steps i p q × StepsFrom Steps (suc i) ps qs
 
 -- Of the shards those before a place made their step, that of the place was refused it, and those
 -- behind it made none

@@ -5,7 +5,7 @@ use Rattle.mst_key.specs.declared.format.Format.{Format}
 use Rattle.mst_words.specs.declared.view.Shape.{Shape}
 use Rattle.mst_store.specs.Passes.{Known, StoreId, HasShape, new_pass}
 use Rattle.mst_sharded.specs.Listing.{Listing, HasListed}
-use Rattle.mst_sharded.specs.Sharding.{Sharding, sharding}
+use Rattle.mst_shards.specs.Sharding.{Sharding, sharding}
 
 -- the splits of a sharded map, the store of each shard, and of each handle the store of its
 -- directory

@@ -1,6 +1,6 @@
 -- Handles with a share of their map: of which stores their passes are.
 use Rattle.std.specs.Prelude.{◌≡◌, ℕ, suc, List, [], ◌∷◌, Some, map, slice_get}
-use Rattle.mst_store.specs.Passes.{Known, StoreId}
+use Rattle.mst_store.specs.Passes.{Known}
 use Rattle.std.specs.List.{AllByRecursion}
 use Rattle.mst_key.specs.declared.format.Format.{Format}
 use Rattle.mst_key.specs.History.{after}
@@ -8,13 +8,10 @@ use Rattle.mst_key.specs.Map.{IsMap}
 use Rattle.mst_sharded.specs.Applying.{StopsMigrating}
 use Rattle.mst_sharded.specs.Opening.{Shards, Dealt, IsWhole}
 use Rattle.mst_sharded.specs.Listing.{Listing, HasListed}
-use Rattle.mst_sharded.specs.Sharding.{Sharding, sharding, IsSharding, HaveFewPairs}
+use Rattle.mst_shards.specs.Sharding.{Sharding, sharding, IsSharding, HaveFewPairs}
 use Rattle.mst_sharded.specs.declared.faults.MoveFault.{MoveFault}
 use Rattle.mst_sharded.specs.declared.faults.MoveFault.TheVariants.{Memory, Shard}
-
--- the passes are of these stores, one after the other
-abbrev pub AreOf : List StoreId → List Known → Type 0
-AreOf stores ps = map (λ p. p.store) ps ≡ stores
+use Rattle.mst_shards.specs.Laid.{AreOf}
 
 -- What a snapshot with a share of a map keeps, of the handle with this number: its pins are those
 -- of a sharding, of maps that are no larger than a store, and of the stores of the map; and its

@@ -4,43 +4,16 @@ ghost use Rattle.mst_key.specs.History.{key_of};
 ghost use Rattle.mst_versions.specs.Applying.{RefusesBatch};
 ghost use Rattle.mst_versions.specs.Migrating.{RefusesMigration};
 ghost use Rattle.mst_sharded_proof.specs.Shards.{least, AreSplits};
-ghost use Rattle.mst_sharded.specs.Sharding.{sharding, AllStep, SeesMore, place as place_in};
-ghost use Rattle.mst_sharded.specs.Applying.{edits_behind, picked, AppliesPart, Migrates, StepsFrom, StopsAt, AppliesAll, RefusesEdits, MigratesAll, StopsMigrating};
+ghost use Rattle.mst_shards.specs.Sharding.{sharding, AllStep, SeesMore, place as place_in, StepsFrom};
+ghost use Rattle.mst_sharded.specs.Applying.{edits_behind, AppliesPart, Migrates, StopsAt, AppliesAll, RefusesEdits, MigratesAll, StopsMigrating};
+ghost use Rattle.mst_shards.specs.Parts.{picked};
 
 use crate::faults::{SpreadFault, StoppedMigration};
 use crate::handle::Handle;
-use crate::place::place_of;
-use crate::rooms::list_with_room;
 use mst_key::{Edit, Format, Key, Memory};
+use mst_shards::{copied, list_with_room, place_of, places_of};
 use mst_store::{ApplyFault, Pass};
 use std::alloc::Allocator;
-
-// A copy of an edit. It takes no memory.
-fn copied(edit: &Edit) -> Edit
-    ensures same { result ≡ edit.now }
-{
-    match edit {
-        Edit::Put(key, value) => Edit::Put(key.copy(), value.copy()),
-        Edit::Remove(key) => Edit::Remove(key.copy()),
-    }
-}
-
-// The place of each edit's shard.
-fn places_of<C: Allocator>(
-    alloc: C,
-    splits: &[Key],
-    edits: &[Edit],
-) -> Result<Vec<usize, C>, Memory>
-    requires rising { AreSplits least splits.now }
-    ensures places { IfOk result
-        (λ places. places.items ≡ map (λ e. place_in splits.now (key_of e)) edits.now) }
-{
-    let mut places = Vec::with_capacity(alloc, edits.len())?;
-    for edit in edits {
-        places.push_reserved(place_of(splits, edit.key()));
-    }
-    Ok(places)
-}
 
 // Adds a copy of an edit to those that are left, if its place is this one or one behind it.
 fn keep_one<C: Allocator>(left: &mut Vec<Edit, C>, edit: &Edit, place: usize, from: usize)

@@ -2,14 +2,14 @@
 ghost use Rattle.std.specs.Prelude.{◌≡◌, ◌<◌, ◌+◌, ◌++◌, ◌∷◌, ℕ, [], None, map, length, get_or, slice_index_or, vec_len, IfOk, OnOk};
 ghost use Rattle.std.specs.List.{AllByRecursion};
 ghost use Rattle.mst_store.specs.Passes.{Known, new_passes};
-ghost use Rattle.mst_sharded.specs.Sharding.{sharding, IsSplits};
+ghost use Rattle.mst_shards.specs.Sharding.{sharding, IsSplits};
 ghost use Rattle.mst_sharded.specs.Opening.{Dealt, dealt, dealt_from, dealt_more, IsWhole, seats_of, new_handles};
 
 use crate::directory::Directory;
 use crate::handle::Handle;
-use crate::rooms::list_with_room;
 use crate::sharded::{AllSeats, Sharded};
 use mst_key::{Key, Memory};
+use mst_shards::list_with_room;
 use mst_store::{Pass, Seats, Store};
 use std::alloc::Allocator;
 use std::marker::Model;

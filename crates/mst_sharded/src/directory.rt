@@ -2,8 +2,9 @@
 ghost use Rattle.std.specs.Prelude.{◌≡◌, ◌+◌, true, length, IfOk, IfErr, OnOk, OnErr};
 ghost use Rattle.mst_key.specs.History.{after, batched};
 ghost use Rattle.mst_store.specs.Passes.{format_seen};
-ghost use Rattle.mst_sharded.specs.Sharding.{Sharding, sharding, IsSplits};
-ghost use Rattle.mst_sharded.specs.Directory.{AllIn, LacksDirectory};
+ghost use Rattle.mst_shards.specs.Sharding.{Sharding, sharding, IsSplits};
+ghost use Rattle.mst_shards.specs.Directory.{AllIn};
+ghost use Rattle.mst_sharded.specs.Directory.{LacksDirectory};
 ghost use Rattle.mst_sharded.specs.Entries.{versions_of, nothing_of, Stays, Becomes, HasRowsBeside, KeepsListing, ListsAll};
 ghost use Rattle.mst_sharded.specs.Listing.{IsOnly, HasListed};
 

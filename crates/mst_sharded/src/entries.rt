@@ -7,13 +7,15 @@ ghost use Rattle.mst_key.specs.History.{after};
 ghost use Rattle.mst_key.specs.Map.{from_on, below};
 ghost use Rattle.mst_store.specs.Passes.{format_seen};
 ghost use Rattle.mst_sharded_proof.specs.Shards.{shards, bound_text};
-ghost use Rattle.mst_sharded.specs.Sharding.{sharding};
+ghost use Rattle.mst_shards.specs.Sharding.{sharding};
 ghost use Rattle.mst_sharded.specs.Directory.{LacksDirectory};
-ghost use Rattle.mst_sharded.specs.Entries.{low_at, shard_at, KeepsTo, entry_of, is_current, is_version, edit_of, edits_of, NewKeep, IsFaultOf};
+ghost use Rattle.mst_shards.specs.Entries.{low_at, shard_at, KeepsTo, entry_of};
+ghost use Rattle.mst_sharded.specs.Entries.{is_current, is_version, edit_of, edits_of, NewKeep, IsFaultOf};
 
 use crate::faults::DirectoryFault;
 use arrayvec::ArrayVec;
 use mst_key::{Edit, Format, Key, Memory, Value};
+use mst_shards::{high_key, listing, low_key};
 use mst_store::Pinned;
 use std::alloc::Allocator;
 
@@ -49,43 +51,6 @@ pub(crate) fn one_format<A: Allocator + Copy>(pinned: &mut [Pinned<'_, A>]) -> O
     } else {
         None
     }
-}
-
-/// The lower bound of the shard at a place.
-pub(crate) fn low_key(splits: &[Key], place: usize) -> Key
-    requires within { place ≤ length splits.now }
-    ensures low { result ≡ low_at splits.now place }
-{
-    if place == 0 {
-        let Ok(least) = Key::new(&[0]) else {
-            unreachable!()
-        };
-        return least;
-    }
-    splits[place - 1].copy()
-}
-
-// The upper bound of the shard at a place, if it has one.
-fn high_key(splits: &[Key], place: usize) -> Option<&Key>
-    ensures high { option_copied result ≡ slice_get splits.now place }
-{
-    splits.get(place)
-}
-
-// What the directory holds of a shard.
-fn listing(digest: &[u8; 32], high: Option<&Key>) -> Value
-    ensures listing { result ≡ digest.now ++ bound_text (option_copied high.entry) }
-{
-    let mut bytes = ArrayVec::<u8, 64>::new();
-    // there is room for a digest and a key
-    let _ = bytes.try_extend_from_slice(digest);
-    if let Some(key) = high {
-        let _ = bytes.try_extend_from_slice(key.bytes());
-    }
-    let Ok(value) = Value::new(bytes.as_slice()) else {
-        unreachable!()
-    };
-    value
 }
 
 // Whether no key of the version is below the bound.

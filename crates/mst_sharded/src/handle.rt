@@ -5,11 +5,11 @@ ghost use Rattle.mst_key.specs.History.{had};
 ghost use Rattle.mst_key.specs.Map.{map_get};
 ghost use Rattle.mst_store.specs.Passes.{Answers, made_by, Wrote, Refuses};
 ghost use Rattle.mst_store.specs.Waiting.{WroteAfter, RefusesAfter};
-ghost use Rattle.mst_sharded.specs.Sharding.{Routes};
+ghost use Rattle.mst_shards.specs.Sharding.{Routes};
 
 use crate::directory::Directory;
-use crate::place::place_of;
 use mst_key::{Key, Value};
+use mst_shards::place_of;
 use mst_store::{ChangeFault, Pass, Pinned, WriteFault};
 use std::alloc::Allocator;
 use std::marker::Model;
@@ -30,7 +30,7 @@ pub struct Handle<'a, A: Allocator + Copy, B: Allocator> {
 impl<'a, A: Allocator + Copy, B: Allocator> Model for Handle<'a, A, B> {
     ghost use Rattle.std.specs.Prelude.{◌≡◌, ◌≤◌, [], vec_len, vec_capacity};
     ghost use Rattle.mst_sharded.specs.Listing.{HasListed};
-    ghost use Rattle.mst_sharded.specs.Sharding.{Sharding, sharding, IsSharding};
+    ghost use Rattle.mst_shards.specs.Sharding.{Sharding, sharding, IsSharding};
 
     ghost Value = { Sharding };
 

@@ -4,8 +4,9 @@ ghost use Rattle.std.specs.Prelude.{◌≡◌, ◌≢◌, ◌<◌, ◌≤◌, �
 ghost use Rattle.mst_key.specs.declared.history.Edit.{Edit};
 ghost use Rattle.mst_key.specs.History.{key_of};
 ghost use Rattle.mst_store.specs.Passes.{Known};
-ghost use Rattle.mst_sharded.specs.Sharding.{place};
-ghost use Rattle.mst_sharded.specs.Applying.{edits_at, edits_behind, AppliesPart, HasEdited};
+ghost use Rattle.mst_shards.specs.Sharding.{place};
+ghost use Rattle.mst_shards.specs.Parts.{edits_at};
+ghost use Rattle.mst_sharded.specs.Applying.{edits_behind, AppliesPart, HasEdited};
 
 /// The parts of edits are all edits: each stands in the part of its key's shard, at its turn, and
 /// in no other part. A shard that made its part has at each of its keys what all edits leave there.

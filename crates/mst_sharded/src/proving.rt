@@ -8,19 +8,20 @@ ghost use Rattle.mst_store.specs.Passes.{format_seen};
 ghost use Rattle.mst_sharded_proof.specs.Frame.{framing, sharded_proof};
 ghost use Rattle.mst_sharded_proof.specs.Shards.{directory};
 ghost use Rattle.mst_sharded_proof.specs.Theorem.{HasShardedRoot};
-ghost use Rattle.mst_sharded.specs.Sharding.{sharding, IsSplits, HaveFewPairs};
+ghost use Rattle.mst_shards.specs.Sharding.{sharding, IsSplits, HaveFewPairs};
 ghost use Rattle.mst_key.specs.declared.format.Format.{Format};
-ghost use Rattle.mst_sharded.specs.Directory.{AllIn, LacksDirectory, OfClean};
+ghost use Rattle.mst_shards.specs.Directory.{AllIn, OfClean};
+ghost use Rattle.mst_sharded.specs.Directory.{LacksDirectory};
 ghost use Rattle.mst_sharded.specs.Entries.{Stays};
 ghost use Rattle.mst_sharded.specs.Listing.{IsOnly, HasListed};
 
 use crate::directory::Directory;
-use crate::entries::{low_key, one_format};
+use crate::entries::one_format;
 use crate::faults::DirectoryFault;
-use crate::place::place_of;
 use crate::snapshot::Snapshot;
 use mst_key::{Format, Key, Memory, Value};
 use mst_sharded_proof::join;
+use mst_shards::{low_key, place_of};
 use mst_store::{Pass, Pinned};
 use std::alloc::Allocator;
 

@@ -4,12 +4,12 @@ ghost use Rattle.std.specs.List.{AllByRecursion};
 ghost use Rattle.std.specs.Option.{option_copied};
 ghost use Rattle.mst_key.specs.History.{after as after_events};
 ghost use Rattle.mst_key.specs.Map.{above, from_on, below, map_next, map_range, IsMap};
-ghost use Rattle.mst_sharded.specs.Sharding.{sharding, IsSharding, IsSplits, map_of};
-ghost use Rattle.mst_sharded.specs.Ranging.{greater, lesser, split_before, first_place, last_place, union_from};
+ghost use Rattle.mst_shards.specs.Sharding.{sharding, IsSharding, IsSplits, map_of};
+ghost use Rattle.mst_shards.specs.Ranging.{greater, lesser, split_before, first_place, last_place, union_from};
 
-use crate::place::place_of;
 use crate::snapshot::Snapshot;
 use mst_key::{Key, Memory, Value};
+use mst_shards::place_of;
 use mst_store::Pinned;
 use std::alloc::Allocator;
 
@@ -114,7 +114,7 @@ fn below_end(found: Option<(Key, Value)>, end: Option<&Key>) -> Option<(Key, Val
 }
 
 // The first pair of a version from a key on.
-#[tactic(auto, using(crate::proofs::Spans::found_at, crate::proofs::Spans::found_above))]
+#[tactic(auto, using(mst_shards::proofs::Spans::found_at, mst_shards::proofs::Spans::found_above))]
 fn first_from<A: Allocator + Copy>(pinned: &mut Pinned<'_, A>, low: &Key) -> Option<(Key, Value)>
     ensures found { result
         ≡ find (λ p. from_on (Some low.now) p.0) (after_events pinned.old.seen) }

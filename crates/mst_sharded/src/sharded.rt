@@ -6,18 +6,15 @@ ghost use Rattle.mst_key.specs.Bytes.{IsKey};
 ghost use Rattle.mst_key.specs.Map.{key_cmp};
 ghost use Rattle.mst_store.specs.Passes.{StoreId, IsShape, HasShape};
 ghost use Rattle.mst_sharded_proof.specs.Shards.{AreSplits};
-ghost use Rattle.mst_sharded.specs.Sharding.{IsSplits};
+ghost use Rattle.mst_shards.specs.Sharding.{IsSplits};
 ghost use Rattle.mst_sharded.specs.Opening.{directory_shape as shape_of_directory, HasShards, seats_of};
 
-use crate::faults::ShardsFault;
 use mst_key::{Format, Key, Memory};
+use mst_shards::{ShardsFault, are_splits, open_all};
 use mst_store::{OpenFault, Seats, Shape, Store, is_shape};
 use std::alloc::Allocator;
 use std::cmp::Ordering;
 use std::marker::Model;
-
-/// The most splits of a sharded map.
-const MOST_SPLITS: usize = 1023;
 
 /// Rows of a directory's store for each shard: two that list it before a change, and two after it.
 const ROWS_OF_SHARD: u32 = 4;
@@ -37,7 +34,7 @@ pub struct Sharded<A: Allocator + Copy> {
 
 /// Contracts see the splits, and which stores they are.
 impl<A: Allocator + Copy> Model for Sharded<A> {
-    ghost use Rattle.mst_sharded.specs.Sharding.{IsSplits};
+    ghost use Rattle.mst_shards.specs.Sharding.{IsSplits};
     ghost use Rattle.mst_sharded.specs.Opening.{Shards, HasShards};
 
     ghost Value = { Shards };
@@ -71,52 +68,6 @@ impl<A: Allocator + Copy> Model for AllSeats<A> {
     ghost view = { λ s. record { stores = s.stores.items; directories = s.directories.items } };
 }
 
-// Whether splits rise strictly, from above a key.
-fn rise(low: &Key, splits: &[Key]) -> bool
-    ensures rise { result ≡ true ↔ AreSplits low.now splits.now }
-{
-    match splits {
-        [] => true,
-        [first, rest @ ..] => is_above(first, low) && rise(first, rest),
-    }
-}
-
-// Says that a key is within its limits, as all are by their type.
-fn within_limits(key: &Key)
-    ensures key { IsKey key.now }
-{
-    let _bytes = key.bytes();
-}
-
-// Whether a key comes before another.
-fn precedes(one: &Key, other: &Key) -> bool
-    ensures less { result ≡ true ↔ (key_cmp one.now other.now ≡ Less) }
-{
-    match one.cmp(other) {
-        Ordering::Less => true,
-        Ordering::Equal | Ordering::Greater => false,
-    }
-}
-
-// Whether a key, which is within its limits, is above another.
-fn is_above(key: &Key, low: &Key) -> bool
-    ensures above { result ≡ true ↔ (key_cmp low.now key.now ≡ Less) × IsKey key.now }
-{
-    within_limits(key);
-    precedes(low, key)
-}
-
-// Whether a sharded map may have these splits.
-fn are_splits(splits: &[Key]) -> bool
-    ensures splits { result ≡ true ↔ IsSplits splits.now }
-{
-    // a key has at least one byte
-    let Ok(least) = Key::new(&[0]) else {
-        unreachable!()
-    };
-    splits.len() <= MOST_SPLITS && rise(&least, splits)
-}
-
 // The shape of the store of a directory of this many shards.
 fn directory_shape(shards: usize, format: Format) -> Shape
     requires few { shards ≤ 1024 }
@@ -128,47 +79,6 @@ fn directory_shape(shards: usize, format: Format) -> Shape
         passes: 1,
         format,
     }
-}
-
-// Opens a store, and adds it to those before.
-fn open_one<A: Allocator + Copy>(
-    alloc: A,
-    shape: Shape,
-    stores: &mut Vec<Store<A>, A>,
-    seats: &mut Vec<Seats<A>, A>,
-) -> Result<(), Memory>
-    requires shape { IsShape shape }
-    ensures added { OnOk result ((s : StoreId) × HasShape shape s
-        × (stores.new.items ≡ stores.old.items ++ s ∷ [])
-        × (seats.new.items ≡ seats.old.items ++ s ∷ [])) }
-{
-    let (store, its_seats) = match Store::open(alloc, shape) {
-        Ok(opened) => opened,
-        Err(OpenFault::Shape) => unreachable!(),
-        Err(OpenFault::Memory(refused)) => return Err(refused),
-    };
-    stores.push(store)?;
-    seats.push(its_seats)?;
-    Ok(())
-}
-
-// Opens this many stores of a shape.
-fn open_all<A: Allocator + Copy>(
-    alloc: A,
-    count: usize,
-    shape: Shape,
-) -> Result<(Vec<Store<A>, A>, Vec<Seats<A>, A>), Memory>
-    requires shape { IsShape shape }
-    ensures count { IfOk result (λ opened. length opened.0.items ≡ count) }
-    ensures stores { IfOk result (λ opened. AllByRecursion (HasShape shape) opened.0.items) }
-    ensures seats { IfOk result (λ opened. opened.1.items ≡ opened.0.items) }
-{
-    let mut stores = Vec::new(alloc);
-    let mut seats = Vec::new(alloc);
-    for _ in 0..count {
-        open_one(alloc, shape, &mut stores, &mut seats)?;
-    }
-    Ok((stores, seats))
 }
 
 // Opens the stores of a sharded map.

@@ -2,16 +2,16 @@
 //! one: between calls each pass is laid down.
 ghost use Rattle.std.specs.Prelude.{◌≡◌, ◌≤◌, [], Some, slice_get, vec_len, vec_capacity, IfOk, OnOk};
 ghost use Rattle.std.specs.Arc.{arc_value};
-ghost use Rattle.mst_sharded.specs.Sharding.{sharding, IsSplits};
-ghost use Rattle.mst_sharded.specs.Shared.{AreOf, IsLotOf, AreLotsOf, handles_in};
+ghost use Rattle.mst_shards.specs.Sharding.{sharding, IsSplits};
+ghost use Rattle.mst_shards.specs.Laid.{AreOf};
+ghost use Rattle.mst_sharded.specs.Shared.{IsLotOf, AreLotsOf, handles_in};
 ghost use Rattle.mst_sharded.specs.Opening.{seats_of, new_handles};
 
 use crate::deal::{Lot, all_lots};
 use crate::directory::Directory;
-use crate::moving::lay_all;
-use crate::rooms::list_with_room;
 use crate::sharded::{AllSeats, Sharded};
 use mst_key::Memory;
+use mst_shards::{lay_all, list_with_room};
 use mst_store::{Laid, LaidPinned, Store};
 use std::alloc::Allocator;
 use std::marker::Model;
@@ -76,8 +76,8 @@ impl<A: Allocator + Copy> Model for SharedHandle<A> {
     ghost use Rattle.std.specs.Prelude.{◌≡◌, ◌≤◌, [], Some, slice_get, vec_len, vec_capacity};
     ghost use Rattle.std.specs.Arc.{arc_value};
     ghost use Rattle.mst_sharded.specs.Listing.{HasListed};
-    ghost use Rattle.mst_sharded.specs.Shared.{AreOf};
-    ghost use Rattle.mst_sharded.specs.Sharding.{Sharding, sharding, IsSharding};
+    ghost use Rattle.mst_shards.specs.Laid.{AreOf};
+    ghost use Rattle.mst_shards.specs.Sharding.{Sharding, sharding, IsSharding};
 
     ghost Value = { Sharding };
 
@@ -108,7 +108,7 @@ impl<A: Allocator + Copy> Model for SharedSnapshot<A> {
     ghost use Rattle.std.specs.Prelude.{◌≡◌, ◌≤◌, [], vec_len, vec_capacity};
     ghost use Rattle.std.specs.Arc.{arc_value};
     ghost use Rattle.mst_sharded.specs.Shared.{KeepsPins};
-    ghost use Rattle.mst_sharded.specs.Sharding.{Sharding, sharding};
+    ghost use Rattle.mst_shards.specs.Sharding.{Sharding, sharding};
 
     ghost Value = { Sharding };
 

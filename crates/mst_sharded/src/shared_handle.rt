@@ -4,17 +4,15 @@ ghost use Rattle.mst_key.specs.declared.history.Change.TheVariants.{Put, Remove}
 ghost use Rattle.mst_key.specs.History.{had};
 ghost use Rattle.mst_key.specs.Map.{map_get};
 ghost use Rattle.mst_store.specs.Passes.{Answers, made_by, Wrote, Refuses};
-ghost use Rattle.mst_sharded.specs.Sharding.{Routes, PinsAll};
+ghost use Rattle.mst_shards.specs.Sharding.{Routes, PinsAll};
 ghost use Rattle.mst_sharded.specs.Applying.{edits_behind, AppliesAll, RefusesEdits, MigratesAll};
 ghost use Rattle.mst_sharded.specs.Shared.{RefusesMoves};
 
 use crate::applying::{left_from, migrate_all, spread};
 use crate::faults::{MoveFault, SpreadFault};
-use crate::moving::{lay_all, lay_at, lift_all, lift_at, pin_laid};
-use crate::place::place_of;
-use crate::rooms::list_with_room;
 use crate::shared::{SharedHandle, SharedSnapshot};
 use mst_key::{Edit, Format, Key, Value};
+use mst_shards::{lay_all, lay_at, lift_all, lift_at, list_with_room, pin_laid, place_of};
 use mst_store::WriteFault;
 use std::alloc::Allocator;
 use std::mem::replace;

@@ -6,18 +6,19 @@ ghost use Rattle.mst_key.specs.Map.{map_get, map_next, map_range};
 ghost use Rattle.mst_sharded_proof.specs.Frame.{sharded_proof};
 ghost use Rattle.mst_sharded_proof.specs.Shards.{directory as directory_of};
 ghost use Rattle.mst_sharded_proof.specs.Theorem.{HasShardedRoot};
-ghost use Rattle.mst_sharded.specs.Directory.{AllIn, LacksDirectory, OfClean};
-ghost use Rattle.mst_sharded.specs.Sharding.{map_of};
+ghost use Rattle.mst_shards.specs.Directory.{AllIn, OfClean};
+ghost use Rattle.mst_sharded.specs.Directory.{LacksDirectory};
+ghost use Rattle.mst_shards.specs.Sharding.{map_of};
 
 use crate::entries::one_format;
 use crate::faults::DirectoryFault;
-use crate::moving::{lay_pin_at, lay_pins, lift_pin_at, lift_pins, unpin_laid};
-use crate::place::place_of;
 use crate::proving::{pairs_in, proof_in, root_in};
 use crate::ranging::{next_among, range_among};
-use crate::rooms::list_with_room;
 use crate::shared::{LaidDirectory, SharedHandle, SharedSnapshot};
 use mst_key::{Format, Key, Memory, Value};
+use mst_shards::{
+    lay_pin_at, lay_pins, lift_pin_at, lift_pins, list_with_room, place_of, unpin_laid,
+};
 use std::alloc::Allocator;
 use std::mem::replace;
 

@@ -3,12 +3,12 @@ ghost use Rattle.std.specs.Prelude.{◌≡◌, ◌<◌, ◌≤◌, [], length, o
 ghost use Rattle.std.specs.List.{AllByRecursion};
 ghost use Rattle.mst_key.specs.History.{after};
 ghost use Rattle.mst_key.specs.Map.{map_get, IsMap};
-ghost use Rattle.mst_sharded.specs.Sharding.{AllStep, PinsNow, PinsAll, HaveFewPairs, map_of};
+ghost use Rattle.mst_shards.specs.Sharding.{AllStep, PinsNow, PinsAll, HaveFewPairs, map_of};
 
 use crate::directory::Directory;
 use crate::handle::Handle;
-use crate::place::place_of;
 use mst_key::{Key, Value};
+use mst_shards::place_of;
 use mst_store::{Pass, Pinned};
 use std::alloc::Allocator;
 use std::collections::VecDeque;
@@ -32,7 +32,7 @@ impl<'a, A: Allocator + Copy, B: Allocator> Model for Snapshot<'a, A, B> {
     ghost use Rattle.mst_key.specs.History.{after};
     ghost use Rattle.mst_key.specs.Map.{IsMap};
     ghost use Rattle.mst_sharded.specs.Listing.{HasListed};
-    ghost use Rattle.mst_sharded.specs.Sharding.{Sharding, sharding, IsSharding, HaveFewPairs};
+    ghost use Rattle.mst_shards.specs.Sharding.{Sharding, sharding, IsSharding, HaveFewPairs};
 
     ghost Value = { Sharding };
 

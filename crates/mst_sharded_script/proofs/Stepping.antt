@@ -11,9 +11,9 @@ use Rattle.mst_requests.specs.declared.request.Command.TheVariants.{Put, Remove,
 use Rattle.mst_requests.specs.declared.request.Command.TheVariants as ask
 use Rattle.mst_requests.specs.Texts.{line_of}
 use Rattle.mst_sharded.specs.declared.faults.SpreadFault.TheVariants as spread
-use Rattle.mst_sharded.specs.Directory.{AllIn}
-use Rattle.mst_sharded.specs.Sharding.{Sharding, PinsAll}
-use Rattle.mst_sharded.proofs.Moved.{read_any, put_back}
+use Rattle.mst_shards.specs.Directory.{AllIn}
+use Rattle.mst_shards.specs.Sharding.{Sharding, PinsAll}
+use Rattle.mst_shards.proofs.Moved.{read_any, put_back}
 use Rattle.mst_sharded_script.specs.States.{State, Free, Pinned}
 use Rattle.mst_sharded_script.specs.Serving.{Applies, WereIn, Finds, Acts, Recalls, FreeStep, PinnedStep, Step, StepsAt, is_pin, is_unpin, is_look}
 

@@ -25,9 +25,10 @@ use Rattle.mst_sharded_proof.specs.Theorem.{HasShardedRoot}
 use Rattle.mst_sharded.specs.declared.faults.DirectoryFault.{DirectoryFault}
 use Rattle.mst_sharded.specs.declared.faults.SpreadFault.{SpreadFault}
 use Rattle.mst_sharded.specs.declared.faults.StoppedMigration.{StoppedMigration}
-use Rattle.mst_sharded.specs.Sharding.{Sharding, Routes, PinsAll, map_of}
+use Rattle.mst_shards.specs.Sharding.{Sharding, Routes, PinsAll, map_of}
 use Rattle.mst_sharded.specs.Applying.{AppliesAll, RefusesEdits, MigratesAll, StopsMigrating}
-use Rattle.mst_sharded.specs.Directory.{AllIn, OfClean, LacksDirectory}
+use Rattle.mst_shards.specs.Directory.{AllIn, OfClean}
+use Rattle.mst_sharded.specs.Directory.{LacksDirectory}
 use Rattle.mst_sharded_script.specs.States.{State, Free, Pinned}
 use Rattle.mst_sharded_script.specs.Answers.{write_words, batch_words, migration_words, format_or_mixed, directory_words}
 

@@ -1,6 +1,6 @@
 -- A handle of a sharded map while it serves a script.
 use Rattle.std.specs.Prelude.{List, map}
-use Rattle.mst_sharded.specs.Sharding.{Sharding}
+use Rattle.mst_shards.specs.Sharding.{Sharding}
 use Rattle.mst_sharded_script.specs.declared.state.Holding.{Holding}
 use Rattle.mst_sharded_script.specs.declared.state.Holding.TheVariants as holds
 

@@ -1,7 +1,7 @@
 //! What a handle is asked for that has pinned nothing.
 ghost use Rattle.std.specs.Prelude.{◌≡◌, false, true};
 ghost use Rattle.mst_key.specs.declared.history.Change.TheVariants as change;
-ghost use Rattle.mst_sharded.specs.Sharding.{PinsAll};
+ghost use Rattle.mst_shards.specs.Sharding.{PinsAll};
 ghost use Rattle.mst_requests.specs.Texts.{line_of};
 ghost use Rattle.mst_sharded_script.specs.Answers.{text_of, write_words, batch_words, migration_words, apply_stop as stop_of_batch, migrate_stop as stop_of_migration, left_words};
 ghost use Rattle.mst_sharded_script.specs.Serving.{Writes, Gets, Applies, WereIn, Moves, Finds, Acts, is_pin, is_look};

@@ -38,7 +38,7 @@ mod store;
 mod waiting;
 
 pub use faults::{BatchFault, ChangeFault, OpenFault};
-pub use laid::{Laid, LaidPinned};
+pub use laid::{Laid, LaidPinned, LaidPrepared};
 pub use laws::{event_laws, free_rows_laws, meeting_laws, preparing_laws, room_laws};
 pub use mst_arena::MOST_ROWS;
 pub use mst_key::{Format, Memory};

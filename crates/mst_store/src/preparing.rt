@@ -21,11 +21,11 @@ use std::marker::Model;
 /// good.
 #[derive(Drop)]
 pub struct Prepared<'a, A: Allocator + Copy, B: Allocator> {
-    seat: PassSeat<'a, A>,
-    prepared: Preparation<A>,
-    parameters: PassParameters,
-    made: Option<u64>,
-    edits: Vec<Edit, B>,
+    pub(crate) seat: PassSeat<'a, A>,
+    pub(crate) prepared: Preparation<A>,
+    pub(crate) parameters: PassParameters,
+    pub(crate) made: Option<u64>,
+    pub(crate) edits: Vec<Edit, B>,
 }
 
 /// Contracts see what the pass knows since it took the turn, and the edits.

@@ -1,8 +1,8 @@
 use Rattle.std.proofs.Common.{rules, ◌≡◌, refl, sym, subst}
 use Rattle.std.specs.Prelude.{Option, Some, None, Ok, IfSome, IfNone}
 use Rattle.mst_key.specs.declared.format.Format.{Format}
-use Rattle.mst_sharded.specs.Directory.{AllIn}
-use Rattle.mst_sharded.specs.Sharding.{Sharding}
+use Rattle.mst_shards.specs.Directory.{AllIn}
+use Rattle.mst_shards.specs.Sharding.{Sharding}
 use Rattle.mst_c_sharded.specs.declared.handle_box.Sharing.{Sharing}
 use Rattle.mst_c_sharded.specs.declared.handle_box.Sharing.TheVariants.{Snapshot}
 use Rattle.mst_c_sharded.specs.ShardedReading.{HasFormat}

@@ -1,6 +1,6 @@
 use Rattle.std.specs.Prelude.{◌≡◌, ℕ, ◌+◌, ◌<◌, ◌≤◌, true, length, Some, None, get_or, vec_len}
 use Rattle.std.specs.Vec.Iter.{into_iter_items, into_iter_len}
-use Rattle.mst_sharded.specs.Sharding.{Sharding}
+use Rattle.mst_shards.specs.Sharding.{Sharding}
 use Rattle.mst_c_sharded.specs.declared.handle_box.Sharing.TheVariants.{Handle}
 use Rattle.mst_c_sharded.specs.declared.hand.PaddedShardedHand.{PaddedShardedHand}
 use Rattle.mst_c_sharded.proofs.opening.hand_all.Given as goal

@@ -1,5 +1,5 @@
 use Rattle.std.proofs.Common.{rules, ◌≡◌, ◌≤◌, List, ℕ, length, subst, sym, ◌∙◌, pos, negsuc, SFits, w32, to_z-of_z}
-use Rattle.mst_sharded.specs.Sharding.{IsSplits}
+use Rattle.mst_shards.specs.Sharding.{IsSplits}
 use Rattle.mst_c_sharded.specs.ShardedSplits.{splits_bytes}
 use Rattle.mst_c_sharded.specs.ShardedOpened.{HandsOpened}
 use Rattle.mst_c_sharded.proofs.ShardedPacking.{one_packing}

@@ -1,6 +1,6 @@
 use Rattle.std.proofs.Common.{rules, arith, ◌≡◌, length, sym, ap, ◌∙◌, pos, SFits, w32, to_z-of_z}
 use Rattle.std.specs.Prelude.{vec_len, Some}
-use Rattle.mst_sharded.specs.Sharding.{Sharding}
+use Rattle.mst_shards.specs.Sharding.{Sharding}
 use Rattle.mst_sharded.specs.Opening.{new_handle, new_handles}
 use Rattle.mst_c_sharded.specs.declared.handle_box.Sharing.TheVariants.{Handle}
 use Rattle.mst_c_sharded.proofs.ShardedDealt.{dealt_length, dealt_at}

@@ -1,8 +1,10 @@
 use Rattle.std.proofs.Common.{◌∙◌, ◌<◌, List, length, vec_items, subst, arith}
 use Rattle.mst_key.specs.declared.history.Edit.{Edit}
 use Rattle.mst_versions.specs.Applying.{RefusesBatch}
-use Rattle.mst_sharded.specs.Applying.{picked, AppliesPart}
-use Rattle.mst_sharded.proofs.Spreading.{Done, none_done, one_done, one_stops, all_done, steps_length}
+use Rattle.mst_shards.specs.Parts.{picked}
+use Rattle.mst_sharded.specs.Applying.{AppliesPart}
+use Rattle.mst_sharded.proofs.Spreading.{Done, none_done, one_done, one_stops, all_done}
+use Rattle.mst_shards.proofs.Stepping.{steps_length}
 use Rattle.mst_sharded.proofs.Applied.{parts_see_more, stopped_see_more}
 use Rattle.mst_sharded.proofs.applying.apply_parts.Goals as goal
 

@@ -1,5 +1,7 @@
 use Rattle.std.specs.Prelude.{◌≤◌, length, vec_capacity, vec_items}
-use Rattle.mst_sharded.specs.Applying.{picked, AppliesPart, StepsFrom}
+use Rattle.mst_shards.specs.Parts.{picked}
+use Rattle.mst_sharded.specs.Applying.{AppliesPart}
+use Rattle.mst_shards.specs.Sharding.{StepsFrom}
 use Rattle.mst_sharded.proofs.Spreading.{Done}
 use Rattle.mst_sharded.proofs.applying.apply_parts.Given as goal
 

@@ -4,7 +4,7 @@ use Rattle.std.proofs.lemmas.List.Elements.{filter_more}
 use Rattle.mst_key.specs.History.{key_of}
 use Rattle.mst_key.specs.declared.history.Edit.{Edit}
 use Rattle.mst_sharded.specs.Applying.{edits_behind}
-use Rattle.mst_sharded.specs.Sharding.{place}
+use Rattle.mst_shards.specs.Sharding.{place}
 use Rattle.mst_sharded.proofs.applying.left_from.Goals as goal
 
 pub loop-edit-preserved : goal.loop-edit-preserved

@@ -1,7 +1,8 @@
 use Rattle.std.proofs.Common.{vec_items, arith}
 use Rattle.mst_versions.specs.Migrating.{RefusesMigration}
 use Rattle.mst_sharded.specs.Applying.{Migrates}
-use Rattle.mst_sharded.proofs.Spreading.{Done, none_done, one_done, one_stops, all_done, steps_length}
+use Rattle.mst_sharded.proofs.Spreading.{Done, none_done, one_done, one_stops, all_done}
+use Rattle.mst_shards.proofs.Stepping.{steps_length}
 use Rattle.mst_sharded.proofs.Applied.{migrations_see_more, stay_see_more}
 use Rattle.mst_sharded.proofs.applying.migrate_all.Goals as goal
 

@@ -1,5 +1,6 @@
 use Rattle.std.specs.Prelude.{vec_items}
-use Rattle.mst_sharded.specs.Applying.{Migrates, StepsFrom}
+use Rattle.mst_sharded.specs.Applying.{Migrates}
+use Rattle.mst_shards.specs.Sharding.{StepsFrom}
 use Rattle.mst_sharded.proofs.Spreading.{Done}
 use Rattle.mst_sharded.proofs.applying.migrate_all.Given as goal
 

@@ -1,7 +1,7 @@
 use Rattle.std.proofs.Common.{◌∙◌, ◌++◌, ◌∷◌, ◌<◌, [], ℕ, List, cond, length, get_or, ap, sym, refl, arith}
 use Rattle.std.specs.Prelude.{◌==◌}
 use Rattle.mst_key.specs.declared.history.Edit.{Edit}
-use Rattle.mst_sharded.proofs.Spreading.{picked_more}
+use Rattle.mst_shards.proofs.Parted.{picked_more}
 use Rattle.mst_sharded.proofs.applying.pick.Goals as goal
 
 pub loop-i-preserved : goal.loop-i-preserved

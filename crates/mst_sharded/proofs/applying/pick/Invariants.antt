@@ -1,5 +1,5 @@
 use Rattle.std.specs.Prelude.{◌≡◌, ◌≤◌, take, vec_len, vec_capacity, vec_items}
-use Rattle.mst_sharded.specs.Applying.{picked}
+use Rattle.mst_shards.specs.Parts.{picked}
 use Rattle.mst_sharded.proofs.applying.pick.Given as goal
 
 abbrev pub invariant-loop-i : goal.invariant-loop-i

@@ -2,8 +2,8 @@ use Rattle.std.proofs.Common.{◌∙◌, ℕ, List, length, vec_items, ap}
 use Rattle.std.proofs.lemmas.List.{length-map}
 use Rattle.mst_key.specs.History.{key_of}
 use Rattle.mst_key.specs.declared.history.Edit.{Edit}
-use Rattle.mst_sharded.specs.Sharding.{place}
-use Rattle.mst_sharded.proofs.Listed.{all_see_again}
+use Rattle.mst_shards.specs.Sharding.{place}
+use Rattle.mst_shards.proofs.Stepping.{all_see_again}
 use Rattle.mst_sharded.proofs.Applied.{applies_all, stops_applying}
 use Rattle.mst_sharded.proofs.applying.spread.Goals as goal
 

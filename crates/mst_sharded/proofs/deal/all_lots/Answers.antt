@@ -2,7 +2,7 @@ use Rattle.std.proofs.Common.{◌≡◌, ◌∷◌, ◌++◌, [], List, length, 
 use Rattle.std.specs.Vec.Iter.{into_iter_items, into_iter_len}
 use Rattle.mst_store.specs.Passes.{StoreId}
 use Rattle.mst_sharded.specs.Opening.{Dealt, dealt_from}
-use Rattle.mst_sharded.proofs.HandingOut.{goes_on, own_next, holds_own, taken}
+use Rattle.mst_shards.proofs.HandingOut.{goes_on, own_next, holds_own, taken}
 use Rattle.mst_sharded.proofs.Dealing.{lots_grow, length-dealt}
 use Rattle.mst_sharded.proofs.deal.all_lots.Goals as goal
 

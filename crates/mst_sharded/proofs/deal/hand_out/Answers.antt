@@ -2,7 +2,8 @@ use Rattle.std.proofs.Common.{◌≡◌, ℕ, ◌<◌, ◌∷◌, ◌++◌, [], 
 use Rattle.std.specs.Vec.Iter.{into_iter_items}
 use Rattle.mst_store.specs.Passes.{Known}
 use Rattle.mst_sharded.specs.Opening.{Dealt, dealt_more}
-use Rattle.mst_sharded.proofs.HandingOut.{goes_on, next_at, lot_more, lots_done, lots_left}
+use Rattle.mst_shards.proofs.HandingOut.{goes_on, next_at}
+use Rattle.mst_sharded.proofs.HandingOut.{lot_more, lots_done, lots_left}
 use Rattle.mst_sharded.proofs.deal.hand_out.Goals as goal
 
 pub loop-pass-preserved : goal.loop-pass-preserved

@@ -1,9 +1,9 @@
 use Rattle.std.proofs.Common.{◌≡◌, ◌+◌, ◌∷◌, ◌++◌, [], List, map, vec_items, rules, arith, refl, sym, ap, ◌∙◌, length-append}
 use Rattle.std.specs.Vec.Iter.{into_iter_items, into_iter_len}
 use Rattle.std.proofs.lemmas.List.{map-append}
-use Rattle.mst_sharded.specs.Sharding.{Sharding}
+use Rattle.mst_shards.specs.Sharding.{Sharding}
 use Rattle.mst_sharded.specs.Opening.{Dealt, IsWhole}
-use Rattle.mst_sharded.proofs.HandingOut.{goes_on, holds_own, taken}
+use Rattle.mst_shards.proofs.HandingOut.{goes_on, holds_own, taken}
 use Rattle.mst_sharded.proofs.Dealing.{handle_of_lot}
 use Rattle.mst_sharded.proofs.deal.handles_of.Goals as goal
 

@@ -1,6 +1,6 @@
 use Rattle.std.specs.Prelude.{◌≡◌, ◌+◌, ◌++◌, List, map, length, vec_items}
 use Rattle.std.specs.Vec.Iter.{into_iter_items, into_iter_len}
-use Rattle.mst_sharded.specs.Sharding.{sharding}
+use Rattle.mst_shards.specs.Sharding.{sharding}
 use Rattle.mst_sharded.specs.Opening.{Dealt}
 use Rattle.mst_sharded.proofs.deal.handles_of.Given as goal
 

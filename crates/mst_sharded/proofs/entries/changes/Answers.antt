@@ -1,8 +1,9 @@
 use Rattle.std.proofs.Common.{rules, ◌<◌, ℕ, Option, None, length, get_or}
 use Rattle.std.proofs.lemmas.Result.{IfErr-weaker}
-use Rattle.mst_sharded.specs.Sharding.{sharding}
+use Rattle.mst_shards.specs.Sharding.{sharding}
 use Rattle.mst_sharded.specs.Directory.{LacksDirectory}
-use Rattle.mst_sharded.specs.Entries.{shard_at, IsFaultOf}
+use Rattle.mst_shards.specs.Entries.{shard_at}
+use Rattle.mst_sharded.specs.Entries.{IsFaultOf}
 use Rattle.mst_sharded.proofs.Changing.{edits_next, edits_end, keep_end, lacks_next, read_same}
 use Rattle.mst_sharded.proofs.entries.changes.Goals as goal
 

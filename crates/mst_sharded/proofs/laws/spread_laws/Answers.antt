@@ -1,8 +1,9 @@
 use Rattle.std.proofs.Common.{refl}
 use Rattle.mst_key.specs.History.{key_of}
-use Rattle.mst_sharded.specs.Sharding.{place}
-use Rattle.mst_sharded.proofs.Places.{place_within}
-use Rattle.mst_sharded.proofs.Parted.{part_mine, part_others, shard_value, part_before, part_behind, all_behind}
+use Rattle.mst_shards.specs.Sharding.{place}
+use Rattle.mst_shards.proofs.Places.{place_within}
+use Rattle.mst_shards.proofs.Parted.{part_mine, part_others}
+use Rattle.mst_sharded.proofs.Parted.{shard_value, part_before, part_behind, all_behind}
 use Rattle.mst_sharded.proofs.laws.spread_laws.Goals as goal
 
 pub returns-clause-there : goal.returns-clause-there

@@ -1,8 +1,8 @@
 use Rattle.std.proofs.Common.{◌≡◌, sym, subst, ap, ◌∙◌}
 use Rattle.std.specs.Prelude.{IfOk}
 use Rattle.mst_sharded_proof.specs.Frame.{sharded_proof}
-use Rattle.mst_sharded.specs.Sharding.{sharding}
-use Rattle.mst_sharded.specs.Directory.{OfClean}
+use Rattle.mst_shards.specs.Sharding.{sharding}
+use Rattle.mst_shards.specs.Directory.{OfClean}
 use Rattle.mst_sharded.specs.Entries.{ListsAll}
 use Rattle.mst_sharded.specs.Listing.{Listing, HasListed}
 use Rattle.mst_sharded.proofs.Rooted.{proof_at}

@@ -1,8 +1,8 @@
 use Rattle.std.proofs.Common.{◌+◌, ◌<◌, ◌≤◌, ℕ, List, length, get_or, slice_get, rules, arith, ap, ◌∙◌, subst}
 use Rattle.std.specs.Option.{option_copied}
 use Rattle.mst_store.specs.Passes.{Known}
-use Rattle.mst_sharded.specs.Ranging.{union_from}
-use Rattle.mst_sharded.proofs.Steps.{kept_at, first_some, first_none, first_end}
+use Rattle.mst_shards.specs.Ranging.{union_from}
+use Rattle.mst_shards.proofs.Steps.{kept_at, first_some, first_none, first_end}
 use Rattle.mst_sharded.proofs.ranging.first_behind.Goals as goal
 
 pub returns-in-Some-clause-found : goal.returns-in-Some-clause-found

@@ -1,5 +1,5 @@
 use Rattle.std.proofs.Common.{◌≡◌, ◌+◌, ◌-◌, ◌<◌, length, slice_get}
-use Rattle.mst_sharded.specs.Ranging.{union_from}
+use Rattle.mst_shards.specs.Ranging.{union_from}
 use Rattle.mst_sharded.proofs.ranging.first_behind.Given as goal
 
 -- the passes are as they were, and the shards before this one have no pair

@@ -1,5 +1,5 @@
 use Rattle.std.specs.Option.{option_copied}
-use Rattle.mst_sharded.proofs.Spans.{cut_above}
+use Rattle.mst_shards.proofs.Spans.{cut_above}
 use Rattle.mst_sharded.proofs.ranging.next_within.Goals as goal
 
 pub returns-clause-found : goal.returns-clause-found

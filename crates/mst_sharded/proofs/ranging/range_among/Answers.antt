@@ -1,7 +1,7 @@
 use Rattle.std.proofs.Common.{◌≡◌, ◌+◌, ◌<◌, ◌≤◌, ℕ, List, length, get_or, rules, arith, refl, sym, ap, ◌∙◌, subst}
 use Rattle.std.specs.Option.{option_copied}
 use Rattle.mst_store.specs.Passes.{Known}
-use Rattle.mst_sharded.proofs.Steps.{kept_at, ranged_none, ranged_more, ranged_done}
+use Rattle.mst_shards.proofs.Steps.{kept_at, ranged_none, ranged_more, ranged_done}
 use Rattle.mst_sharded.proofs.ranging.range_among.Goals as goal
 
 pub loop-place-init : goal.loop-place-init

@@ -1,6 +1,6 @@
 use Rattle.std.proofs.Common.{◌≡◌, ◌+◌, ◌-◌, vec_items}
 use Rattle.std.specs.Option.{option_copied}
-use Rattle.mst_sharded.proofs.Steps.{RangedTo}
+use Rattle.mst_shards.proofs.Steps.{RangedTo}
 use Rattle.mst_sharded.proofs.ranging.range_among.Given as goal
 
 -- the passes are as they were, and the pairs are those of the shards before this one

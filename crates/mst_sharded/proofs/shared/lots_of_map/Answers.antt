@@ -6,7 +6,7 @@ use Rattle.std.specs.List.{AllByRecursion}
 use Rattle.mst_sharded.specs.Opening.{Shards, Dealt, dealt_from, new_handles}
 use Rattle.mst_sharded.specs.Shared.{AreLotsOf, handles_in}
 use Rattle.mst_sharded.proofs.Dealing.{all_handles}
-use Rattle.mst_sharded.specs.Sharding.{IsSplits}
+use Rattle.mst_shards.specs.Sharding.{IsSplits}
 use Rattle.mst_sharded.proofs.Shares.{lots_are, on_ok_weaker_from}
 use Rattle.mst_sharded.proofs.shared.lots_of_map.Goals as goal
 

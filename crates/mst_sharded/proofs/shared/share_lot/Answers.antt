@@ -3,8 +3,8 @@ use Rattle.std.specs.Arc.{arc_value}
 use Rattle.mst_store.specs.Passes.{Known}
 use Rattle.mst_sharded.specs.Listing.{Listing, HasListed}
 use Rattle.mst_sharded.specs.Opening.{Shards}
-use Rattle.mst_sharded.specs.Shared.{AreOf}
-use Rattle.mst_sharded.specs.Sharding.{IsSplits}
+use Rattle.mst_shards.specs.Laid.{AreOf}
+use Rattle.mst_shards.specs.Sharding.{IsSplits}
 use Rattle.mst_sharded.proofs.shared.share_lot.Goals as goal
 
 pub invariant_of-result : goal.invariant_of-result

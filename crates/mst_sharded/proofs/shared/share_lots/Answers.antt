@@ -2,10 +2,10 @@ use Rattle.std.proofs.Common.{◌≡◌, ◌+◌, ◌∷◌, ◌++◌, [], ℕ, 
 use Rattle.std.specs.Arc.{arc_value}
 use Rattle.std.specs.Vec.Iter.{into_iter_items, into_iter_len}
 use Rattle.std.proofs.lemmas.List.{map-append}
-use Rattle.mst_sharded.specs.Sharding.{Sharding}
+use Rattle.mst_shards.specs.Sharding.{Sharding}
 use Rattle.mst_sharded.specs.Opening.{Dealt}
 use Rattle.mst_sharded.specs.Shared.{handles_in}
-use Rattle.mst_sharded.proofs.HandingOut.{goes_on, taken}
+use Rattle.mst_shards.proofs.HandingOut.{goes_on, taken}
 use Rattle.mst_sharded.proofs.Dealing.{handle_of_lot}
 use Rattle.mst_sharded.proofs.Shares.{lot_own}
 use Rattle.mst_sharded.proofs.shared.share_lots.Goals as goal

@@ -5,9 +5,9 @@ use Rattle.mst_key.specs.History.{after}
 use Rattle.mst_key.specs.Map.{IsMap}
 use Rattle.mst_key.proofs.Alls.{alls-append}
 use Rattle.mst_store.specs.Passes.{Known, most_rows}
-use Rattle.mst_sharded.specs.Sharding.{AllStep, PinsNow, HaveFewPairs}
-use Rattle.mst_sharded.proofs.HandingOut.{goes_on}
-use Rattle.mst_sharded.proofs.PinningAll.{all_step_more}
+use Rattle.mst_shards.specs.Sharding.{AllStep, PinsNow, HaveFewPairs}
+use Rattle.mst_shards.proofs.HandingOut.{goes_on}
+use Rattle.mst_shards.proofs.PinningAll.{all_step_more}
 use Rattle.mst_sharded.proofs.snapshot.pin_all.Goals as goal
 
 pub loop-pass-preserved : goal.loop-pass-preserved

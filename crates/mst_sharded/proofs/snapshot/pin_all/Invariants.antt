@@ -4,7 +4,7 @@ use Rattle.std.specs.List.{AllByRecursion}
 use Rattle.mst_key.specs.History.{after}
 use Rattle.mst_key.specs.Map.{IsMap}
 use Rattle.mst_store.specs.Passes.{Known}
-use Rattle.mst_sharded.specs.Sharding.{AllStep, PinsNow, HaveFewPairs}
+use Rattle.mst_shards.specs.Sharding.{AllStep, PinsNow, HaveFewPairs}
 use Rattle.mst_sharded.proofs.snapshot.pin_all.Given as goal
 
 -- the first passes are pinned

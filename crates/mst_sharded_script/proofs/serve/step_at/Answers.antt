@@ -1,6 +1,6 @@
 use Rattle.std.proofs.Common.{◌≡◌, ◌++◌, ◌∷◌, [], ◌∙◌, ℕ, List, length, length-append, drop, vec_items, sym, ap, subst, arith}
 use Rattle.std.specs.List.{SwappedAt}
-use Rattle.mst_sharded.proofs.Moved.{written_whole}
+use Rattle.mst_shards.proofs.Moved.{written_whole}
 use Rattle.mst_sharded_script.specs.States.{State}
 use Rattle.mst_sharded_script.specs.Serving.{StepsAt}
 use Rattle.mst_sharded_script.specs.Answers.{text_of}

@@ -1,8 +1,8 @@
 use Rattle.std.proofs.Common.{◌≡◌, ◌+◌, ◌∷◌, ◌++◌, [], List, vec_items, vec_len, rules, arith, sym, ap, ◌∙◌, length-append}
 use Rattle.std.specs.Vec.Iter.{into_iter_items, into_iter_len}
 use Rattle.std.proofs.lemmas.List.{map-append}
-use Rattle.mst_sharded.specs.Sharding.{Sharding}
-use Rattle.mst_sharded.proofs.HandingOut.{goes_on, taken}
+use Rattle.mst_shards.specs.Sharding.{Sharding}
+use Rattle.mst_shards.proofs.HandingOut.{goes_on, taken}
 use Rattle.mst_sharded_script.specs.States.{State, Free, are_free}
 use Rattle.mst_sharded_script.proofs.state.states_of.Goals as goal
 

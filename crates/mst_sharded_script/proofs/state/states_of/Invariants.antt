@@ -1,6 +1,6 @@
 use Rattle.std.specs.Prelude.{◌≡◌, ◌+◌, ◌++◌, List, length, vec_items}
 use Rattle.std.specs.Vec.Iter.{into_iter_items, into_iter_len}
-use Rattle.mst_sharded.specs.Sharding.{Sharding}
+use Rattle.mst_shards.specs.Sharding.{Sharding}
 use Rattle.mst_sharded_script.specs.States.{are_free}
 use Rattle.mst_sharded_script.proofs.state.states_of.Given as goal
 

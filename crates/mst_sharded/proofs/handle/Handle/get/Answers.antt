@@ -2,8 +2,9 @@ use Rattle.std.proofs.Common.{◌≡◌, ℕ, List, slice_index_or, subst, rules
 use Rattle.mst_key.specs.declared.format.Format.{Format}
 use Rattle.mst_key.specs.Map.{Pair, map_get}
 use Rattle.mst_store.specs.Passes.{Known}
-use Rattle.mst_sharded.specs.Sharding.{Sharding, place}
-use Rattle.mst_sharded.proofs.Listed.{answers_more, handle_kept, found_here}
+use Rattle.mst_shards.specs.Sharding.{Sharding, place}
+use Rattle.mst_sharded.proofs.Listed.{answers_more, handle_kept}
+use Rattle.mst_shards.proofs.Stepping.{found_here}
 use Rattle.mst_sharded.proofs.handle.Handle.get.Goals as goal
 
 pub invariant_of-self : goal.invariant_of-self

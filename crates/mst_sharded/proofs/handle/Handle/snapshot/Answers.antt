@@ -1,8 +1,8 @@
 use Rattle.std.proofs.Common.{List, ◌∙◌}
 use Rattle.mst_store.specs.Passes.{Known}
-use Rattle.mst_sharded.specs.Sharding.{PinsNow}
+use Rattle.mst_shards.specs.Sharding.{PinsNow}
 use Rattle.mst_sharded.proofs.Listed.{listed_later}
-use Rattle.mst_sharded.proofs.PinningAll.{all_step_length, pins_more}
+use Rattle.mst_shards.proofs.PinningAll.{all_step_length, pins_more}
 use Rattle.mst_sharded.proofs.handle.Handle.snapshot.Goals as goal
 
 pub invariant_of-result : goal.invariant_of-result

@@ -1,8 +1,8 @@
 use Rattle.std.proofs.Common.{◌∙◌, List, vec_items, subst, arith}
 use Rattle.mst_store.specs.Passes.{Known}
 use Rattle.std.proofs.lemmas.Result.{on_ok_weaker}
-use Rattle.mst_sharded.specs.Sharding.{Sharding, sharding}
-use Rattle.mst_sharded.specs.Applying.{Migrates, MigratesAll, StepsFrom}
+use Rattle.mst_shards.specs.Sharding.{Sharding, sharding, StepsFrom}
+use Rattle.mst_sharded.specs.Applying.{Migrates, MigratesAll}
 use Rattle.mst_sharded.proofs.Listed.{listed_later}
 use Rattle.mst_sharded.proofs.Applied.{migrates_all}
 use Rattle.mst_sharded.proofs.Spreading.{more_length}

@@ -3,8 +3,8 @@ use Rattle.std.specs.Arc.{arc_value}
 use Rattle.mst_key.specs.declared.format.Format.{Format}
 use Rattle.mst_key.specs.Map.{Pair, map_get}
 use Rattle.mst_store.specs.Passes.{Known, Answers, StoreId}
-use Rattle.mst_sharded.specs.Shared.{AreOf}
-use Rattle.mst_sharded.specs.Sharding.{Sharding, sharding, place, Routes}
+use Rattle.mst_shards.specs.Laid.{AreOf}
+use Rattle.mst_shards.specs.Sharding.{Sharding, sharding, place, Routes}
 use Rattle.mst_sharded.proofs.Listed.{answers_more}
 use Rattle.mst_sharded.proofs.Shares.{returned, routed}
 use Rattle.mst_sharded.proofs.shared.SharedHandle.get.Given.{Over}

@@ -1,11 +1,11 @@
 use Rattle.std.proofs.Common.{◌∙◌, List, vec_items, ◌≡◌, rules, sym, subst}
 use Rattle.std.specs.Arc.{arc_value}
 use Rattle.mst_store.specs.Passes.{Known, StoreId}
-use Rattle.mst_sharded.specs.Shared.{AreOf}
-use Rattle.mst_sharded.specs.Sharding.{PinsNow}
+use Rattle.mst_shards.specs.Laid.{AreOf}
+use Rattle.mst_shards.specs.Sharding.{PinsNow}
 use Rattle.mst_sharded.proofs.Listed.{listed_later}
-use Rattle.mst_sharded.proofs.PinningAll.{all_step_length, pins_more}
-use Rattle.mst_sharded.proofs.Shares.{pins_own}
+use Rattle.mst_shards.proofs.PinningAll.{all_step_length, pins_more}
+use Rattle.mst_shards.proofs.Owned.{pins_own}
 use Rattle.mst_sharded.proofs.shared.SharedHandle.snapshot.Goals as goal
 
 pub invariant_of-result : goal.invariant_of-result

@@ -1,8 +1,8 @@
 use Rattle.std.proofs.Common.{◌≡◌, ◌∙◌, ℕ, List, vec_items, rules, arith, sym, subst}
 use Rattle.std.specs.Arc.{arc_value}
 use Rattle.mst_store.specs.Passes.{Known, StoreId}
-use Rattle.mst_sharded.specs.Sharding.{AllStep, SeesMore}
-use Rattle.mst_sharded.specs.Shared.{AreOf}
+use Rattle.mst_shards.specs.Sharding.{AllStep, SeesMore}
+use Rattle.mst_shards.specs.Laid.{AreOf}
 use Rattle.mst_sharded.proofs.Listed.{listed_later}
 use Rattle.mst_sharded.proofs.Shares.{applied_own}
 use Rattle.mst_sharded.proofs.Spreading.{more_length}

@@ -2,9 +2,9 @@ use Rattle.std.proofs.Common.{◌≡◌, ◌∙◌, ℕ, List, vec_items, rules,
 use Rattle.std.specs.Arc.{arc_value}
 use Rattle.std.specs.Prelude.{OnOk}
 use Rattle.mst_store.specs.Passes.{Known, StoreId}
-use Rattle.mst_sharded.specs.Sharding.{sharding, AllStep, SeesMore}
+use Rattle.mst_shards.specs.Sharding.{sharding, AllStep, SeesMore}
 use Rattle.mst_sharded.specs.Applying.{MigratesAll}
-use Rattle.mst_sharded.specs.Shared.{AreOf}
+use Rattle.mst_shards.specs.Laid.{AreOf}
 use Rattle.mst_sharded.proofs.Applied.{migrates_all}
 use Rattle.mst_sharded.proofs.Listed.{listed_later}
 use Rattle.mst_sharded.proofs.Shares.{moved_own, renamed}

@@ -4,8 +4,8 @@ use Rattle.std.proofs.lemmas.Result.{IfOk-weaker, IfErr-weaker}
 use Rattle.mst_key.specs.declared.history.Change.TheVariants.{Put}
 use Rattle.mst_key.specs.History.{had}
 use Rattle.mst_store.specs.Passes.{Known, Wrote, Refuses, made_by, StoreId}
-use Rattle.mst_sharded.specs.Shared.{AreOf}
-use Rattle.mst_sharded.specs.Sharding.{Sharding, sharding, place, Routes}
+use Rattle.mst_shards.specs.Laid.{AreOf}
+use Rattle.mst_shards.specs.Sharding.{Sharding, sharding, place, Routes}
 use Rattle.mst_sharded.proofs.Listed.{tried_more}
 use Rattle.mst_sharded.proofs.Shares.{returned, routed, wrote_own}
 use Rattle.mst_sharded.proofs.shared.SharedHandle.try_put.Given.{Over}

@@ -5,9 +5,10 @@ use Rattle.std.specs.Prelude.{IfOk, IfErr}
 use Rattle.mst_store.specs.Passes.{Known, StoreId}
 use Rattle.mst_sharded_proof.specs.Shards.{directory}
 use Rattle.std.proofs.lemmas.Option.{same_Some}
-use Rattle.mst_sharded.specs.Shared.{AreOf}
-use Rattle.mst_sharded.specs.Directory.{LacksDirectory, OfClean}
-use Rattle.mst_sharded.specs.Sharding.{Sharding, sharding}
+use Rattle.mst_shards.specs.Laid.{AreOf}
+use Rattle.mst_sharded.specs.Directory.{LacksDirectory}
+use Rattle.mst_shards.specs.Directory.{OfClean}
+use Rattle.mst_shards.specs.Sharding.{Sharding, sharding}
 use Rattle.mst_sharded.proofs.Shares.{few_listed, found_as, laid_back, lent_kept, updated}
 use Rattle.mst_sharded.proofs.shared.SharedSnapshot.directory.Given.{Over}
 use Rattle.mst_sharded.proofs.shared.SharedSnapshot.directory.Goals as goal

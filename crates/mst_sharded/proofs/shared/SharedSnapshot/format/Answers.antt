@@ -4,9 +4,10 @@ use Rattle.std.specs.List.{AllByRecursion}
 use Rattle.std.specs.Prelude.{IfNone}
 use Rattle.mst_key.specs.declared.format.Format.{Format}
 use Rattle.mst_store.specs.Passes.{Known, format_seen, StoreId}
-use Rattle.mst_sharded.specs.Directory.{AllIn}
-use Rattle.mst_sharded.specs.Shared.{KeepsPins, AreOf}
-use Rattle.mst_sharded.specs.Sharding.{Sharding, sharding}
+use Rattle.mst_shards.specs.Directory.{AllIn}
+use Rattle.mst_sharded.specs.Shared.{KeepsPins}
+use Rattle.mst_shards.specs.Laid.{AreOf}
+use Rattle.mst_shards.specs.Sharding.{Sharding, sharding}
 use Rattle.mst_sharded.proofs.Shares.{laid_back}
 use Rattle.mst_sharded.proofs.shared.SharedSnapshot.format.Given.{Over}
 use Rattle.mst_sharded.proofs.shared.SharedSnapshot.format.Goals as goal

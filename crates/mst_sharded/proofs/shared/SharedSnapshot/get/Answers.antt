@@ -2,10 +2,11 @@ use Rattle.std.proofs.Common.{◌≡◌, ◌≤◌, ◌<◌, ◌∙◌, ℕ, Lis
 use Rattle.std.specs.Arc.{arc_value}
 use Rattle.mst_key.specs.Map.{map_get}
 use Rattle.mst_store.specs.Passes.{Known, StoreId}
-use Rattle.mst_sharded.specs.Shared.{KeepsPins, AreOf}
-use Rattle.mst_sharded.specs.Sharding.{Sharding, sharding, place, map_of}
-use Rattle.mst_sharded.proofs.Nexts.{routed_get, map_here}
-use Rattle.mst_sharded.proofs.Shares.{stayed}
+use Rattle.mst_sharded.specs.Shared.{KeepsPins}
+use Rattle.mst_shards.specs.Laid.{AreOf}
+use Rattle.mst_shards.specs.Sharding.{Sharding, sharding, place, map_of}
+use Rattle.mst_shards.proofs.Nexts.{routed_get, map_here}
+use Rattle.mst_shards.proofs.Owned.{stayed}
 use Rattle.mst_sharded.proofs.shared.SharedSnapshot.get.Given.{Over}
 use Rattle.mst_sharded.proofs.shared.SharedSnapshot.get.Goals as goal
 

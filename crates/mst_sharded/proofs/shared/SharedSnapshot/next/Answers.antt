@@ -3,8 +3,9 @@ use Rattle.std.specs.Arc.{arc_value}
 use Rattle.std.specs.Option.{option_copied}
 use Rattle.mst_key.specs.Map.{map_next}
 use Rattle.mst_store.specs.Passes.{Known, StoreId}
-use Rattle.mst_sharded.specs.Shared.{KeepsPins, AreOf}
-use Rattle.mst_sharded.specs.Sharding.{Sharding, sharding, map_of}
+use Rattle.mst_sharded.specs.Shared.{KeepsPins}
+use Rattle.mst_shards.specs.Laid.{AreOf}
+use Rattle.mst_shards.specs.Sharding.{Sharding, sharding, map_of}
 use Rattle.mst_sharded.proofs.Shares.{found_as, laid_back, lent_kept}
 use Rattle.mst_sharded.proofs.shared.SharedSnapshot.next.Given.{Over}
 use Rattle.mst_sharded.proofs.shared.SharedSnapshot.next.Goals as goal

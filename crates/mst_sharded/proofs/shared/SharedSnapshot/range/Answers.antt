@@ -4,8 +4,9 @@ use Rattle.std.specs.Option.{option_copied}
 use Rattle.std.specs.Prelude.{IfOk}
 use Rattle.mst_key.specs.Map.{map_range}
 use Rattle.mst_store.specs.Passes.{Known, StoreId}
-use Rattle.mst_sharded.specs.Shared.{KeepsPins, AreOf}
-use Rattle.mst_sharded.specs.Sharding.{Sharding, sharding, map_of}
+use Rattle.mst_sharded.specs.Shared.{KeepsPins}
+use Rattle.mst_shards.specs.Laid.{AreOf}
+use Rattle.mst_shards.specs.Sharding.{Sharding, sharding, map_of}
 use Rattle.mst_sharded.proofs.Shares.{found_as, laid_back, lent_kept}
 use Rattle.mst_sharded.proofs.shared.SharedSnapshot.range.Given.{Over}
 use Rattle.mst_sharded.proofs.shared.SharedSnapshot.range.Goals as goal

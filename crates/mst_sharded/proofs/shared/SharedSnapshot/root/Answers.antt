@@ -4,9 +4,10 @@ use Rattle.std.specs.Prelude.{IfOk, IfErr}
 use Rattle.mst_store.specs.Passes.{Known, StoreId}
 use Rattle.mst_sharded_proof.specs.Theorem.{HasShardedRoot}
 use Rattle.std.proofs.lemmas.Option.{same_Some}
-use Rattle.mst_sharded.specs.Shared.{AreOf}
-use Rattle.mst_sharded.specs.Directory.{LacksDirectory, OfClean}
-use Rattle.mst_sharded.specs.Sharding.{Sharding, sharding}
+use Rattle.mst_shards.specs.Laid.{AreOf}
+use Rattle.mst_sharded.specs.Directory.{LacksDirectory}
+use Rattle.mst_shards.specs.Directory.{OfClean}
+use Rattle.mst_shards.specs.Sharding.{Sharding, sharding}
 use Rattle.mst_sharded.proofs.Shares.{found_as, laid_back, lent_kept, updated}
 use Rattle.mst_sharded.proofs.shared.SharedSnapshot.root.Given.{Over}
 use Rattle.mst_sharded.proofs.shared.SharedSnapshot.root.Goals as goal

@@ -3,9 +3,10 @@ use Rattle.std.specs.Arc.{arc_value}
 use Rattle.std.specs.Option.{option_map}
 use Rattle.std.specs.Prelude.{Option, Some, slice_get}
 use Rattle.mst_store.specs.Passes.{Known, StoreId}
-use Rattle.mst_sharded.specs.Shared.{KeepsPins, AreOf}
-use Rattle.mst_sharded.specs.Sharding.{Sharding, sharding}
-use Rattle.mst_sharded.proofs.Shares.{stayed, there_at, none_at}
+use Rattle.mst_sharded.specs.Shared.{KeepsPins}
+use Rattle.mst_shards.specs.Laid.{AreOf}
+use Rattle.mst_shards.specs.Sharding.{Sharding, sharding}
+use Rattle.mst_shards.proofs.Owned.{stayed, there_at, none_at}
 use Rattle.mst_sharded.proofs.shared.SharedSnapshot.version_at.Given.{Over}
 use Rattle.mst_sharded.proofs.shared.SharedSnapshot.version_at.Goals as goal
 

@@ -3,8 +3,8 @@ use Rattle.std.specs.Prelude.{IfNone}
 use Rattle.std.specs.List.{AllByRecursion}
 use Rattle.mst_key.specs.declared.format.Format.{Format}
 use Rattle.mst_store.specs.Passes.{Known, format_seen}
-use Rattle.mst_sharded.specs.Sharding.{Sharding}
-use Rattle.mst_sharded.specs.Directory.{AllIn}
+use Rattle.mst_shards.specs.Sharding.{Sharding}
+use Rattle.mst_shards.specs.Directory.{AllIn}
 use Rattle.mst_sharded.proofs.snapshot.Snapshot.format.Goals as goal
 
 pub returns-clause-none : goal.returns-clause-none

@@ -1,7 +1,7 @@
 use Rattle.std.proofs.Common.{rules, ap, ◌∙◌}
 use Rattle.mst_key.specs.Map.{map_get}
-use Rattle.mst_sharded.specs.Sharding.{Sharding, map_of}
-use Rattle.mst_sharded.proofs.Nexts.{routed_get, map_here}
+use Rattle.mst_shards.specs.Sharding.{Sharding, map_of}
+use Rattle.mst_shards.proofs.Nexts.{routed_get, map_here}
 use Rattle.mst_sharded.proofs.snapshot.Snapshot.get.Goals as goal
 
 pub returns-clause-found : goal.returns-clause-found

@@ -2,10 +2,9 @@ use Rattle.std.proofs.Common.{◌≡◌, ◌∙◌, ℕ, List, vec_items, vec_le
 use Rattle.std.specs.Prelude.{IfOk}
 use Rattle.std.specs.Option.{option_copied}
 use Rattle.mst_key.specs.Map.{map_range}
-use Rattle.mst_sharded.specs.Sharding.{map_of}
+use Rattle.mst_shards.specs.Sharding.{map_of, Sharding, sharding}
 use Rattle.mst_store.specs.Passes.{Known}
-use Rattle.mst_sharded.specs.Sharding.{Sharding, sharding}
-use Rattle.mst_sharded.proofs.Moved.{given_back}
+use Rattle.mst_shards.proofs.Moved.{given_back}
 use Rattle.mst_sharded.proofs.Shares.{found_as}
 use Rattle.mst_sharded.proofs.snapshot.Snapshot.range.Goals as goal
 

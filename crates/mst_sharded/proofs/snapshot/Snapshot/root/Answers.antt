@@ -1,10 +1,11 @@
 use Rattle.std.proofs.Common.{◌∙◌, ℕ, List, vec_items, vec_len, refl, ap}
 use Rattle.std.specs.Prelude.{IfOk, IfErr}
 use Rattle.mst_sharded_proof.specs.Theorem.{HasShardedRoot}
-use Rattle.mst_sharded.specs.Directory.{LacksDirectory, OfClean}
+use Rattle.mst_sharded.specs.Directory.{LacksDirectory}
+use Rattle.mst_shards.specs.Directory.{OfClean}
 use Rattle.mst_store.specs.Passes.{Known}
-use Rattle.mst_sharded.specs.Sharding.{Sharding, sharding}
-use Rattle.mst_sharded.proofs.Moved.{given_back}
+use Rattle.mst_shards.specs.Sharding.{Sharding, sharding}
+use Rattle.mst_shards.proofs.Moved.{given_back}
 use Rattle.mst_sharded.proofs.Shares.{found_as, lent}
 use Rattle.mst_sharded.proofs.snapshot.Snapshot.root.Goals as goal
 

@@ -1,0 +1,9 @@
+pub mod Begun
+pub mod Blocked
+pub mod Chained
+pub mod Committing
+pub mod Growing
+pub mod Kept
+pub mod Ordered
+pub mod PartsDealt
+pub mod Relisted

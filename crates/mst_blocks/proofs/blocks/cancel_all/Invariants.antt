@@ -1,0 +1,13 @@
+use Rattle.std.proofs.Common.{◌≡◌, ◌+◌, ◌≤◌, ◌++◌, map, vec_len, vec_capacity, vec_items}
+use Rattle.std.specs.VecDeque.{deque_items, deque_len}
+use Rattle.mst_blocks.specs.Staging.{canceled_stage}
+use Rattle.mst_blocks.proofs.blocks.cancel_all.Given as goal
+
+abbrev pub invariant-loop-stage : goal.invariant-loop-stage
+invariant-loop-stage g l =
+    (vec_len l.passes + deque_len l.left ≤ vec_capacity l.passes)
+    × (map canceled_stage (vec_items l.fn.stages) ≡ vec_items l.passes ++ map canceled_stage
+    (deque_items l.left))
+
+abbrev pub decreases-loop-stage : goal.decreases-loop-stage
+decreases-loop-stage g l = deque_len l.left

@@ -1,0 +1,18 @@
+-- The lower bounds of shards rise.
+use Rattle.std.proofs.Common.{◌≡◌, ℕ, List, [], ◌∷◌, refl, Less}
+use Rattle.mst_key.specs.Map.{key_cmp}
+use Rattle.mst_sharded_proof.specs.Shards.{Shard, AreSplits, shards_from, least, shards as shards_at}
+use Rattle.mst_shards.specs.Sharding.{IsSplits}
+
+-- from above a bound
+abbrev pub RiseFrom : List ℕ → List Shard → Type 0
+RiseFrom b [] = Unit {0}
+RiseFrom b (s ∷ shards) = (key_cmp b s.low ≡ Less) × RiseFrom s.low shards
+
+pub rise_from : (low : List ℕ) (splits : List (List ℕ)) (b : List ℕ) → AreSplits low splits
+    → key_cmp b low ≡ Less → RiseFrom b (shards_from low splits)
+rise_from low [] b rising less = (less, tt)
+rise_from low (t ∷ splits) b rising less = (less, rise_from t splits low rising.2 rising.0)
+
+pub all_rise : (splits : List (List ℕ)) → IsSplits splits → RiseFrom [] (shards_at splits)
+all_rise splits is = rise_from least splits [] is.rising refl

@@ -1,0 +1,10 @@
+use Rattle.std.specs.Prelude.{◌≡◌, length, vec_items}
+use Rattle.std.specs.List.{AllByRecursion}
+use Rattle.mst_store.specs.Passes.{HasShape}
+use Rattle.mst_shards.proofs.opening.open_all.Given as goal
+
+abbrev pub invariant-loop : goal.invariant-loop
+invariant-loop g l =
+    (length (vec_items l.stores) ≡ l.counter)
+    × AllByRecursion (HasShape l.fn.shape) (vec_items l.stores)
+    × (vec_items l.seats ≡ vec_items l.stores)

@@ -1,0 +1,9 @@
+pub mod Clean
+pub mod Kept
+pub mod Later
+pub mod Matching
+pub mod Numbered
+pub mod Routed
+pub mod Shown
+pub mod Staying
+pub mod Tried

@@ -1,0 +1,29 @@
+use Rattle.std.proofs.Common.{◌≡◌, Option, ap, sym, subst, ◌∙◌}
+use Rattle.std.specs.Prelude.{IsSome, unwrap_or}
+use Rattle.mst_key.specs.History.{after}
+use Rattle.mst_node.specs.Text.{root as root_of}
+use Rattle.mst_store.specs.Passes.{format_seen}
+use Rattle.mst_store.specs.Passes.{Known}
+use Rattle.mst_snapshots.specs.Reading.{no_pass}
+use Rattle.mst_snapshots.proofs.directory_pin.DirectoryPin.root.Goals as goal
+
+pub lifted-pinned-requires-clause-there : goal.lifted-pinned-requires-clause-there
+lifted-pinned-requires-clause-there g c =
+    subst (λ (o : Option Known). IsSome o) (sym c.take.ensures.value) c.self.invariant
+
+pub lifted-pinned-requires-clause-own : goal.lifted-pinned-requires-clause-own
+lifted-pinned-requires-clause-own g c =
+    ap (λ (o : Option Known). (unwrap_or o no_pass).store) c.take.ensures.value
+    ∙ ap (λ (p : Known). p.store) c.self.view_is ∙ c.requires.own
+
+pub returns-clause-found : goal.returns-clause-found
+returns-clause-found g c =
+    subst (λ (p : Known). c.root-digest.result ≡ root_of (format_seen p) (after p.seen))
+    (c.lifted-pinned.ensures.same
+    ∙ ap (λ (o : Option Known). unwrap_or o no_pass) c.take.ensures.value ∙ c.self.view_is)
+    c.root-digest.ensures.found
+
+pub returns-clause-same : goal.returns-clause-same
+returns-clause-same g c =
+    c.lay.ensures.same ∙ c.root-digest.ensures.same ∙ c.lifted-pinned.ensures.same
+    ∙ ap (λ (o : Option Known). unwrap_or o no_pass) c.take.ensures.value ∙ c.self.view_is

@@ -1,0 +1,10 @@
+use Rattle.std.proofs.Common.{Option, ap, sym, ◌∙◌}
+use Rattle.std.specs.Prelude.{unwrap_or}
+use Rattle.mst_store.specs.Passes.{Known}
+use Rattle.mst_snapshots.specs.Reading.{no_pass}
+use Rattle.mst_snapshots.proofs.directory_pin.lifted.Goals as goal
+
+pub lift_pinned-requires : goal.lift_pinned-requires
+lift_pinned-requires g c = record {
+  own = ap (λ (o : Option Known). (unwrap_or o no_pass).store) (sym c.in-Some.is) ∙ c.requires.own;
+}

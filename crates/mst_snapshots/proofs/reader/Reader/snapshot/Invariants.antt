@@ -1,0 +1,8 @@
+use Rattle.mst_snapshots.specs.Reading.{SeesOn}
+use Rattle.mst_snapshots.proofs.reader.Reader.snapshot.Given as goal
+
+-- each try so far has seen more
+abbrev pub invariant-loop : goal.invariant-loop
+invariant-loop g l =
+    (goal.iterator-loop g).can_next l.iterator' × (goal.iterator-loop g).is_finite l.iterator'
+    × SeesOn l.fn.self l.reader

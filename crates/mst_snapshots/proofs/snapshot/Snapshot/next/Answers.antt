@@ -1,0 +1,59 @@
+use Rattle.std.proofs.Common.{◌≡◌, List, ℕ, vec_items, rules, sym, ap, subst, arith, ◌∙◌}
+use Rattle.std.specs.Arc.{arc_value}
+use Rattle.std.specs.Option.{option_copied}
+use Rattle.mst_key.specs.Map.{map_next}
+use Rattle.mst_store.specs.Passes.{Known, StoreId}
+use Rattle.mst_shards.specs.BlockHistory.{Whole, whole}
+use Rattle.mst_shards.specs.Laid.{AreOf}
+use Rattle.mst_shards.specs.Sharding.{sharding, IsSharding, map_of}
+use Rattle.mst_snapshots.specs.Reading.{IsSnapshot}
+use Rattle.mst_snapshots.proofs.Staying.{as_long}
+use Rattle.mst_snapshots.proofs.snapshot.Snapshot.next.Goals as goal
+
+pub next_among-requires-clause-sharding : goal.next_among-requires-clause-sharding
+next_among-requires-clause-sharding g c =
+    let are : c.splits.result.now ≡ (arc_value c.self.inside.map).splits = search rules in
+    subst (λ (x : List (List ℕ)). IsSharding (sharding x (vec_items c.self.inside.pins))) (sym are)
+    c.self.invariant.0.one.sharding_is
+
+pub next_among-requires-clause-maps : goal.next_among-requires-clause-maps
+next_among-requires-clause-maps g c = c.self.invariant.0.one.maps
+
+pub next_among-requires-clause-own : goal.next_among-requires-clause-own
+next_among-requires-clause-own g c =
+    let are : c.stores.result.now ≡ (arc_value c.self.inside.map).stores = search rules in
+    subst (λ (l : List StoreId). AreOf l (vec_items c.self.inside.pins)) (sym are)
+    c.self.invariant.0.own
+
+pub invariant_of-self : goal.invariant_of-self
+invariant_of-self g c =
+    let was = c.self.invariant in
+    let same = as_long _ _ (vec_items c.self.inside.pins) (vec_items c.next_among.new.pins)
+    c.self.inside.pins.ok.0 c.next_among.new.pins.ok.0 c.next_among.ensures.same in
+    let room = was.2 in
+    let versions = was.3 in
+    let found = was.4 in (
+      subst (λ (x : List Known). IsSnapshot (arc_value c.self.inside.map)
+          (vec_items c.self.inside.checks.versions) c.self.inside.checks.number
+          (whole (arc_value c.self.inside.map).splits x c.self.inside.directory))
+          (sym c.next_among.ensures.same) was.0,
+      was.1,
+      omega (arith, same, room),
+      omega (arith, same, versions),
+      omega (arith, same, found),
+    )
+
+pub returns-clause-found : goal.returns-clause-found
+returns-clause-found g c =
+    let are : c.splits.result.now ≡ (arc_value c.self.inside.map).splits = search rules in
+    subst (λ (w : Whole). c.next_among.result
+    ≡ map_next (map_of w.sharding) (option_copied c.args.after)) c.self.view_is
+    (subst (λ (x : List (List ℕ)). c.next_among.result
+    ≡ map_next (map_of (sharding x (vec_items c.self.inside.pins))) (option_copied c.args.after))
+    are
+    c.next_among.ensures.found)
+
+pub returns-clause-same : goal.returns-clause-same
+returns-clause-same g c =
+    ap (λ (x : List Known). whole (arc_value c.self.inside.map).splits x c.self.inside.directory)
+    c.next_among.ensures.same ∙ c.self.view_is

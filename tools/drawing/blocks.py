@@ -1,0 +1,97 @@
+"""A batch of two shards and a block of both, and what a snapshot has that is taken meanwhile."""
+from .canvas import Canvas, in_lines
+
+LEFTS, NAMES, END = (24, 624), 108, 552
+FIRST, APART, HIGH = 102, 74, 46
+# For each half: its title; for each lane its name, what it has before and after, and where it
+# changes; and the snapshots: where each is, what it is called, and whether it is of one map.
+BATCH = (
+    "a batch over shards, by a handle", [
+        ("shard 1", "version 4", "version 5", 256),
+        ("shard 2", "version 8", "version 9", 400),
+    ],
+    [(228, "before", True), (374, "half of it", False), (520, "all of it", True)],
+)
+BLOCK = (
+    "a block, by the writer of the map", [
+        ("shard 1", "version 4", "version 5", 250),
+        ("shard 2", "version 8", "version 9", 278),
+        ("directory", "block 6", "block 7", 406),
+    ],
+    [(224, "block 6", True), (384, "the try fails", False), (520, "block 7", True)],
+)
+LOWER = FIRST + 3 * APART
+SAYS = [
+    "Each shard makes its part and publishes it, one shard after the other. A snapshot pins one"
+    " shard after the other. One that is taken meanwhile has shard 1 with the batch and shard 2"
+    " without it, and its root digest is of a map that nobody wrote.",
+    "Both shards and the directory make and hash their parts first, in free rows. Then one step"
+    " publishes each, the directory last. A snapshot pins the directory first. If a shard has"
+    " another root digest than the directory lists, the try fails: snapshot tries again,"
+    " try_snapshot returns the reader.",
+]
+LEGEND = [
+    ("thin", "the version before: what a snapshot pins there until the next one is published"),
+    ("thick", "the version with the edits: published by one atomic step at its left end"),
+]
+# The looks of snapshots: the style of the line, its marks and theirs, and what it is.
+SNAPSHOTS = [
+    ("dashed", "disc", "thin", "a snapshot of one map: where it pins shards and directory"),
+    ("warm", "square", "warm", "one in between: of a batch it is torn; of a block the try fails"),
+]
+NOTES = [
+    "Time goes from left to right. Blocks are in Rattle alone (mst_blocks, mst_snapshots). A"
+    " snapshot is of exactly one block, unless two different texts have one SHA-256.",
+]
+
+
+def draw_lane(canvas, left, top, lane):
+    """A shard or the directory: its version before and after."""
+    name, before, after, at = lane
+    canvas.text(left, top + HIGH / 2 + 6, name, 16, bold=True, within=NAMES - 6)
+    for begin, end, text, style in ((NAMES, at, before, "thin"), (at, END, after, "thick")):
+        canvas.box(left + begin, top, end - begin, HIGH, style)
+        canvas.text(left + begin + 8, top + HIGH - 9, text, 16, within=end - begin - 10)
+
+
+def draw_snapshots(canvas, left, lanes, snapshots):
+    """The snapshots, each a line over all lanes with a mark in each."""
+    lower = FIRST + (lanes - 1) * APART + HIGH
+    for at, text, is_whole in snapshots:
+        style = "thin" if is_whole else "warm"
+        x = left + at
+        canvas.line([(x, FIRST - 18), (x, lower + 16)], "dashed" if is_whole else "warm")
+        for lane in range(lanes):
+            mark = "disc" if is_whole else "square"
+            canvas.mark(x, FIRST + lane * APART + 12, mark, 6, style)
+        canvas.text(x, FIRST - 26, text, 16, "middle", bold=not is_whole)
+
+
+def says_below(canvas, left, text):
+    """A text below a half, in its width."""
+    for number, line in enumerate(in_lines(text, 16, END + 16)):
+        canvas.text(left, LOWER + 34 + 24 * number, line, 16)
+
+
+def draw_legend(canvas, left, top):
+    """What boxes and lines mean, one below the other. Returns the next height."""
+    y = canvas.legend(left, top, LEGEND)
+    for line, mark, style, text in SNAPSHOTS:
+        canvas.line([(left, y - 6), (left + 52, y - 6)], line)
+        canvas.mark(left + 26, y - 6, mark, 6, style)
+        canvas.text(left + 68, y, text, 17)
+        y += 36
+    return y
+
+
+def picture():
+    title = "A snapshot taken while edits of two shards are being published"
+    canvas = Canvas("blocks", title, LOWER + 400)
+    for left, (name, lanes, snapshots), says in zip(LEFTS, (BATCH, BLOCK), SAYS):
+        canvas.text(left, 34, name, 17, bold=True)
+        for place, lane in enumerate(lanes):
+            draw_lane(canvas, left, FIRST + place * APART, lane)
+        draw_snapshots(canvas, left, len(lanes), snapshots)
+        says_below(canvas, left, says)
+    canvas.lines(24, draw_legend(canvas, 24, LOWER + 200) + 4, NOTES)
+    return canvas

@@ -1,0 +1,109 @@
+"""How many rows a shard needs, part by part: the worked example of docs/OPERATING.md."""
+import os
+import re
+import sys
+
+from .canvas import DARK_GREY, INK, LIGHT_GREY, TINT, Canvas
+from .figures import whole
+from .maps import TOP
+
+PAGE = os.path.join(TOP, "docs", "OPERATING.md")
+# The rows of the page's table that are drawn, by how they begin.
+MAP, WRITE, ROWS = "M, ", "W = ", "**rows = "
+LONG, SHORT = 3, 1  # L and S of the example
+LEFT, RIGHT, UPPER, HIGH, APART = 150, 1130, 60, 54, 104
+MOST, STEP = 65_535, 10_000
+# The parts of a bar, from left to right: what each is, and its fill.
+PARTS = [
+    ("M: the rows of the map", INK),
+    ("L × M: three versions that stay pinned, each with its own rows at worst", TINT),
+    ("W: the rows of the write that is being made", DARK_GREY),
+    ("S × W: the version before, which a short read still has", LIGHT_GREY),
+]
+USED = "in use at most, measured in one store with the mean keys of a shard"
+TITLE = "(1 + L) × M + (1 + S) × W: what the rows of a shard are for"
+CAPTION = [
+    "A map of 200,000 random keys in format 1; batches of 500 edits; L = 3, S = 1. Each bar is of"
+    " the fullest shard. The line at its right end: the rows with which the shard is opened.",
+]
+
+
+def cells_of(page, first):
+    """The numbers of a row of the table: of each cell the first that is written bold, or the only
+    one."""
+    for line in page.split("\n"):
+        name, *cells = [it.strip() for it in line.strip("|").split("|")]
+        if line.startswith("|") and name.startswith(first):
+            bold = [re.search(r"\*\*([\d,]+)\*\*, so ([\d,]+)", it) for it in cells]
+            if all(bold):
+                return [(whole(it[1]), whole(it[2])) for it in bold]
+            return [whole(re.match(r"[\d,]+", it)[0]) for it in cells]
+    sys.exit(f"docs/OPERATING.md has no row '{first}' in its worked example")
+
+
+def used_at_most(page, shards, opened):
+    """The rows in use at most, by the table of measurements."""
+    found = re.search(rf"\n\| {shards} \| {opened:,} \| ([\d,]+) \|", page)
+    if not found:
+        sys.exit(f"docs/OPERATING.md has no measurement of {shards} shards of {opened:,} rows")
+    return whole(found[1])
+
+
+def example():
+    """Of each number of shards: the rows of the map and of a write, of all, and of the store."""
+    with open(PAGE, encoding="utf-8") as file:
+        _, found, page = file.read().partition("\n### A worked example\n")
+    if not found:
+        sys.exit("docs/OPERATING.md has no worked example")
+    heads = re.search(r"\n\| \|((?: \d+ shards \|)+)\n", page)[1]
+    shards = [whole(it) for it in re.findall(r"(\d+) shards", heads)]
+    for number, rows, write, (all_rows, opened) in zip(
+        shards, cells_of(page, MAP), cells_of(page, WRITE), cells_of(page, ROWS)
+    ):
+        if (1 + LONG) * rows + (1 + SHORT) * write != all_rows:
+            sys.exit(f"docs/OPERATING.md: the rows of {number} shards are not 4 M + 2 W")
+        yield number, rows, write, all_rows, opened, used_at_most(page, number, opened)
+
+
+def across(rows):
+    return LEFT + (RIGHT - LEFT) * rows / MOST
+
+
+def draw_scale(canvas, lower):
+    for rows in [*range(0, MOST, STEP), MOST]:
+        x = across(rows)
+        canvas.line([(x, UPPER - 14), (x, lower)], "thin" if rows in (0, MOST) else "faint")
+        if rows != MOST:
+            canvas.text(x, lower + 24, f"{rows:,}", 16, "middle")
+    canvas.text(RIGHT, UPPER - 24, "65,535: the most of a store", 16, "end")
+    canvas.text(LEFT, UPPER - 24, "rows of the fullest shard", 17, bold=True)
+
+
+def draw_bar(canvas, y, number, rows, write, all_rows, opened, used):
+    canvas.text(LEFT - 14, y + HIGH / 2 + 6, f"{number} shards", 17, "end", bold=True)
+    place = 0
+    for wide, (_, fill) in zip((rows, LONG * rows, write, SHORT * write), PARTS):
+        canvas.box(across(place), y, across(place + wide) - across(place), HIGH, "thin", fill)
+        place += wide
+    canvas.line([(across(opened), y - 8), (across(opened), y + HIGH + 8)], "bold")
+    canvas.text(across(opened) + 8, y + HIGH / 2 + 6, f"{all_rows:,}, so {opened:,}", 16, halo=True)
+    canvas.line([(across(used), y - 6), (across(used), y + HIGH + 8)], "warm")
+    canvas.text(across(used), y + HIGH + 26, f"{used:,}", 16, "middle", halo=True)
+
+
+def picture():
+    bars = list(example())
+    lower = UPPER + len(bars) * APART
+    canvas = Canvas("sizes", TITLE, lower + 262)
+    draw_scale(canvas, lower)
+    for place, bar in enumerate(bars):
+        draw_bar(canvas, UPPER + 10 + place * APART, *bar)
+    y = lower + 66
+    for name, fill in PARTS:
+        canvas.box(20, y - 15, 26, 18, "thin", fill)
+        canvas.text(58, y, name, 16)
+        y += 28
+    canvas.line([(33, y - 17), (33, y + 5)], "warm")
+    canvas.text(58, y, USED, 16)
+    canvas.lines(20, y + 36, CAPTION)
+    return canvas
