@@ -8,8 +8,24 @@
  */
 #define GONE 50000
 
+/* The bytes of a cache line. */
+#define CACHE_LINE 64
+
+_Static_assert(sizeof(struct line) == CACHE_LINE, "places begin at a cache line");
+_Static_assert(sizeof(struct place) == CACHE_LINE, "so does each next one");
+
+/* Room for a line that begins at a cache line, and the next one free of what others write. */
+static struct line *line_alloc(size_t count) {
+    char *block = malloc(sizeof(struct line) + count * sizeof(struct place) + CACHE_LINE - 1);
+    if (block == NULL)
+        return NULL;
+    struct line *line = (void *)(block + (CACHE_LINE - (uintptr_t)block % CACHE_LINE) % CACHE_LINE);
+    line->block = block;
+    return line;
+}
+
 int line_open(mst_pass *passes, size_t count) {
-    struct line *line = malloc(sizeof *line + count * sizeof *line->places);
+    struct line *line = line_alloc(count);
     if (line == NULL)
         return 0;
     atomic_init(&line->standing, 0);
@@ -31,7 +47,7 @@ void line_close(mst_pass *pass) {
         return;
     line_leave(place);
     if (atomic_fetch_sub_explicit(&place->line->passes, 1, memory_order_acq_rel) == 1)
-        free(place->line);
+        free(place->line->block);
 }
 
 void line_stand(struct place *place, uint64_t since, uint64_t now) {

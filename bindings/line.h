@@ -17,11 +17,13 @@ struct place {
     uint64_t padding[5];
 };
 
+/* It begins at a cache line, and so does each place: it and they have 64 bytes. */
 struct line {
-    uint64_t padding[8];  /* keeps what others write before it out of the next cache line */
     atomic_uint standing; /* how many places have a `since` */
     atomic_uint passes;   /* how many passes have not been closed */
     size_t count;
+    void *block; /* what was allocated */
+    uint64_t padding[5];
     struct place places[];
 };
 

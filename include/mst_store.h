@@ -90,9 +90,9 @@ extern "C" {
  * hands of threads that stand side by side are then in cache lines of their own.
  */
 typedef struct mst_pass {
-    void *at; /* the library's alone */
-    uint64_t padding[30];
+    void *at;    /* the library's alone */
     void *place; /* the library's alone: the pass's place in the line of those that wait */
+    uint64_t padding[30];
 } mst_pass;
 
 /* A hand that holds nothing. */

@@ -6,8 +6,8 @@ use std::fmt;
 #[repr(C)]
 pub struct Hand {
     at: *mut u8,
-    /// So that no other hand is in its cache lines, which calls write to. The last word is the
-    /// library's too.
+    /// So that no other hand is in the cache line of its first two words, which calls write to and
+    /// read. The second is the library's too.
     _padding: [u64; 31],
 }
 
