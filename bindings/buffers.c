@@ -1,4 +1,5 @@
 /* The pairs, edits and splits that stand in a caller's buffer. */
+#include "buffers.h"
 #include "mst_store.h"
 #include <string.h>
 
@@ -6,6 +7,9 @@ enum { PUT = 1, REMOVE = 2 };
 
 /* The most that a length in two bytes tells, which is out of the limits of keys and values. */
 enum { LENGTH_MOST = 0xFFFF };
+
+/* The bytes of an edit before its key: its kind and two lengths. */
+enum { HEAD = 5 };
 
 static size_t length_at(const uint8_t *bytes) {
     return (size_t)bytes[0] << 8 | bytes[1];
@@ -40,10 +44,10 @@ static size_t edit_at(uint8_t *room, size_t at, uint8_t kind, const uint8_t *key
     put_length(bytes + 1, keys);
     put_length(bytes + 3, values);
     if (keys > MST_KEY_LONGEST || values > MST_VALUE_LONGEST)
-        return at + 5;
-    copy(bytes + 5, key, keys);
-    copy(bytes + 5 + keys, value, values);
-    return at + 5 + keys + values;
+        return at + HEAD;
+    copy(bytes + HEAD, key, keys);
+    copy(bytes + HEAD + keys, value, values);
+    return at + HEAD + keys + values;
 }
 
 size_t mst_edit_put(uint8_t *room, size_t at, const uint8_t *key, size_t key_length,
@@ -53,6 +57,24 @@ size_t mst_edit_put(uint8_t *room, size_t at, const uint8_t *key, size_t key_len
 
 size_t mst_edit_remove(uint8_t *room, size_t at, const uint8_t *key, size_t key_length) {
     return edit_at(room, at, REMOVE, key, key_length, NULL, 0);
+}
+
+/* Whether these five bytes begin an edit of a known kind, whose lengths are within their limits. */
+static int begins_edit(const uint8_t *bytes) {
+    size_t keys = length_at(bytes + 1), values = length_at(bytes + 3);
+    return keys > 0 && keys <= MST_KEY_LONGEST && values <= MST_VALUE_LONGEST
+        && (bytes[0] == PUT || (bytes[0] == REMOVE && values == 0));
+}
+
+int is_batch(const uint8_t *edits, size_t length) {
+    size_t at = 0;
+    while (length - at >= HEAD && begins_edit(edits + at)) {
+        size_t bytes = HEAD + length_at(edits + at + 1) + length_at(edits + at + 3);
+        if (length - at < bytes)
+            return 0;
+        at += bytes;
+    }
+    return at == length;
 }
 
 /* Of a key that is too long it writes a length alone that no split has. */

@@ -70,6 +70,8 @@ static const char *of_store(int32_t told) {
     case MST_BAD_SPLITS: return "the bytes are no splits of a sharded map";
     case MST_MIXED_FORMATS: return "the shards are in different formats";
     case MST_STRAY_KEY: return "a shard has a key of another";
+    case MST_OVERTAKEN: return "another than the writer of blocks has written";
+    case MST_MOVING: return "a block is just being published";
     default: return NULL;
     }
 }

@@ -1,9 +1,10 @@
 /*
- * The writes that wait for the turn. Between two tries a call first spins for a moment, each time
- * for twice as long; then it gives the processor up a few times; then it sleeps, from a microsecond
- * up to a millisecond. So a short wait ends at once, and a long one takes no processor from the
- * pass that has the turn. A sleep is an eighth longer than the one before, and so a small part of
- * the wait so far: one that waits does not fall far behind those that do not.
+ * The writes that wait for the turn, and snapshots that wait for a block to be published. Between
+ * two tries a call first spins for a moment, each time for twice as long; then it gives the
+ * processor up a few times; then it sleeps, from a microsecond up to a millisecond. So a short wait
+ * ends at once, and a long one takes no processor from the pass that has the turn. A sleep is an
+ * eighth longer than the one before, and so a small part of the wait so far: one that waits does
+ * not fall far behind those that do not.
  *
  * That alone serves whoever comes by while the turn is free: mostly the one that had it last. So a
  * call that has waited long stands in the line of its store, and before each try the others look
@@ -260,6 +261,15 @@ int32_t mst_sharded_migrate(mst_handle *handle, uint32_t format, size_t *stopped
     struct waited waited = {0, 0};
     int32_t told;
     while ((told = mst_sharded_try_migrate(handle, format, stopped)) == MST_BUSY)
+        wait_more(&waited);
+    return told;
+}
+
+/* A block is published within moments: the directory goes last, and then a try finds all of it. */
+int32_t mst_blocks_snapshot(mst_blocks_handle *reader) {
+    struct waited waited = {0, 0};
+    int32_t told;
+    while ((told = mst_blocks_try_snapshot(reader)) == MST_MOVING)
         wait_more(&waited);
     return told;
 }

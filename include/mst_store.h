@@ -143,20 +143,21 @@ typedef struct mst_pass {
 /* A value has 0 to 64 bytes. */
 #define MST_BAD_VALUE (-6)
 
-/* The hand holds no pass; of a sharded map it holds no handle and no snapshot. */
+/* The hand holds no pass; of a sharded map it holds no handle, writer, reader or snapshot. */
 #define MST_CLOSED (-7)
 
 /*
  * A pinned pass neither writes, migrates, pins nor counts rows; a free one does not unpin. Of a
  * sharded map a snapshot neither writes, migrates nor takes a snapshot; a handle does nothing that
- * is a snapshot's alone.
+ * is a snapshot's alone. With blocks, the writer alone makes them, and only a reader takes a
+ * snapshot.
  */
 #define MST_WRONG_STATE (-8)
 
 /*
- * A growth of memory was refused. In this store nothing has changed, but that mst_open and
- * mst_sharded_open have closed what their hands held; of a sharded batch or migration see those
- * calls.
+ * A growth of memory was refused. In this store nothing has changed, but that mst_open,
+ * mst_sharded_open and mst_blocks_open have closed what their hands held; of a sharded batch or
+ * migration see those calls.
  */
 #define MST_MEMORY (-9)
 
@@ -198,6 +199,15 @@ typedef struct mst_pass {
 
 /* A shard has a key outside of its interval. No call makes one so. */
 #define MST_STRAY_KEY (-28)
+
+/*
+ * Of a block: a shard or the directory has a version that is not the writer's last, so another has
+ * written. No call makes one so. Nothing has changed.
+ */
+#define MST_OVERTAKEN (-29)
+
+/* A block is just being published, so there is no snapshot of one block: try again. */
+#define MST_MOVING (-30)
 
 /* ---- the library itself ---- */
 
@@ -721,6 +731,229 @@ int32_t mst_sharded_apply(mst_handle *handle, const uint8_t *edits, size_t lengt
 
 /* As mst_sharded_try_migrate, but waits for the turn of each shard as mst_put does. */
 int32_t mst_sharded_migrate(mst_handle *handle, uint32_t format, size_t *stopped);
+
+/* ---- blocks of a sharded map ---- */
+
+/*
+ * A block is a batch of edits of all shards that is one version of the whole map, with one number
+ * and one root digest, made whole or not at all. A sharded map that is opened with blocks has one
+ * writer, which alone makes them, and readers, which take snapshots. A snapshot shows exactly one
+ * block, unless SHA-256 collides on the nodes of its trees; block 0 is the empty map. The map keeps
+ * its format.
+ *
+ *     mst_blocks_handle hands[2] = {MST_BLOCKS_HANDLE_CLOSED, MST_BLOCKS_HANDLE_CLOSED};
+ *     mst_blocks_handle *writer = &hands[0], *reader = &hands[1];
+ *     uint8_t splits[MST_SPLIT_LONGEST], edits[2 * MST_EDIT_LONGEST], root[MST_ROOT_LENGTH];
+ *     size_t length = mst_split(splits, 0, (const uint8_t *)"m", 1), place, shard;
+ *     uint64_t number;
+ *     if (mst_blocks_open(1, 1000, splits, length, hands, 2) != MST_OK)       // two shards
+ *         give_up();
+ *     length = mst_edit_put(edits, 0, (const uint8_t *)"apple", 5, (const uint8_t *)"30", 2);
+ *     length = mst_edit_remove(edits, length, (const uint8_t *)"pear", 4);
+ *     mst_blocks_apply(writer, edits, length, &place, &shard, &number);       // block 1
+ *     mst_blocks_snapshot(reader);                          // in another thread, say
+ *     mst_blocks_number(reader, &number);                   // 1
+ *     mst_blocks_root(reader, root, sizeof root);           // that of block 1, as the writer's
+ *     mst_blocks_release(reader);
+ *     mst_blocks_close(writer);
+ *     mst_blocks_close(reader);                             // the map is gone
+ *
+ * What is owed for the hands of passes is owed for these too.
+ */
+
+/*
+ * A hand of a sharded map with blocks: what holds the writer, a reader or a snapshot for its
+ * thread, or nothing. It has 256 bytes, as that of a pass. It is no mst_handle, and neither is
+ * given to the calls of the other.
+ */
+typedef struct mst_blocks_handle {
+    void *at; /* the library's alone */
+    uint64_t padding[31];
+} mst_blocks_handle;
+
+/* A hand that holds nothing. */
+#ifdef __cplusplus
+#define MST_BLOCKS_HANDLE_CLOSED {}
+#else
+#define MST_BLOCKS_HANDLE_CLOSED {0}
+#endif
+
+/*
+ * As mst_sharded_open, but the writer goes into the first of the `count` hands, and a reader into
+ * each of the others. Each shard is a store with `rows` rows and `count` passes. Block 0, the empty
+ * map, is made. Returns what mst_sharded_open returns.
+ */
+int32_t mst_blocks_open(uint32_t format, uint32_t rows, const uint8_t *splits,
+                        size_t splits_length, mst_blocks_handle *handles, size_t count);
+
+/*
+ * Closes the writer, the reader or the snapshot, whose pins end first. Returns MST_OK, and then the
+ * hand is empty, or MST_CLOSED. The map is freed with the last hand that is closed. Once the writer
+ * is closed, no more blocks are made, and readers go on.
+ */
+int32_t mst_blocks_close(mst_blocks_handle *handle);
+
+/* Returns how many shards the map has, 1 to 1,024; or MST_CLOSED. */
+int32_t mst_blocks_shards(mst_blocks_handle *handle);
+
+/*
+ * Makes the next block of edits of all shards, in the form of mst_try_apply. Readers see none of
+ * them before all are made and hashed. A shard with no edits gets no version.
+ *
+ * Returns MST_OK, and *number is the number of the block: one more than that of the block before.
+ * Otherwise nothing has changed in any shard, and *number is as it was. Returns MST_CLOSED; if an
+ * edit is none, then for the first such one MST_BAD_KEY, MST_BAD_VALUE or MST_BAD_BATCH, and *place
+ * is the number of that edit, from 0; MST_WRONG_STATE for a reader or a snapshot. Then returns
+ * MST_BUSY, MST_VERSIONS_SPENT, MST_MEMORY, MST_NO_FREE_ROWS or MST_OVERTAKEN if a shard refused
+ * its edits: *shard is the number of this shard, from 0. If it was the directory, or there is no
+ * memory for the lists of the edits (MST_MEMORY), then *shard is the number of the shards.
+ *
+ * Where no edit is refused, *place is as it was; where no block is refused, *shard is.
+ */
+int32_t mst_blocks_apply(mst_blocks_handle *writer, const uint8_t *edits, size_t length,
+                         size_t *place, size_t *shard, uint64_t *number);
+
+/*
+ * Sets *number to the number of the writer's last block, or of the snapshot's block: how many
+ * blocks led to this map. Two snapshots with one number show one map, unless SHA-256 collides.
+ * Returns MST_OK; MST_CLOSED; MST_WRONG_STATE for a reader.
+ */
+int32_t mst_blocks_number(mst_blocks_handle *handle, uint64_t *number);
+
+/*
+ * Turns the reader into a snapshot of one block: until mst_blocks_release each read is of it.
+ * Returns MST_OK; MST_CLOSED; MST_WRONG_STATE for the writer or a snapshot; MST_MOVING while a
+ * block is just being published: the hand still holds the reader, so try again. It takes no memory.
+ *
+ * If no block was made since the reader's last snapshot, this compares numbers alone; otherwise the
+ * root digest of each shard with what the directory lists.
+ */
+int32_t mst_blocks_try_snapshot(mst_blocks_handle *reader);
+
+/*
+ * Turns the snapshot into a reader: its pins end. Returns MST_OK, MST_CLOSED, or MST_WRONG_STATE
+ * for the writer or a reader.
+ */
+int32_t mst_blocks_release(mst_blocks_handle *reader);
+
+/*
+ * As mst_get: a snapshot reads its block, a reader the current version of the key's shard. Two such
+ * reads of a reader need not be of one block. Returns what mst_get returns; right after MST_BAD_KEY
+ * comes MST_WRONG_STATE for the writer.
+ */
+int32_t mst_blocks_get(mst_blocks_handle *reader, const uint8_t *key, size_t key_length,
+                       uint8_t *room, size_t room_length);
+
+/*
+ * As mst_next, in the map of a snapshot. Returns what mst_next returns; right after MST_BAD_KEY
+ * comes MST_WRONG_STATE for the writer or a reader. It takes no memory.
+ */
+int32_t mst_blocks_next(mst_blocks_handle *reader, const uint8_t *key, size_t key_length,
+                        uint8_t *key_room, size_t key_room_length, size_t *next_length,
+                        uint8_t *room, size_t room_length);
+
+/*
+ * As mst_range, in the map of a snapshot. Returns what mst_range returns; right after MST_BAD_KEY
+ * comes MST_WRONG_STATE for the writer or a reader.
+ */
+int32_t mst_blocks_range(mst_blocks_handle *reader, const uint8_t *from, size_t from_length,
+                         const uint8_t *to, size_t to_length, uint32_t limit,
+                         uint8_t *room, size_t room_length, size_t *count, size_t *length);
+
+/*
+ * Returns the format of a snapshot, 1 or 2, in which its root digest and its proofs are. Returns
+ * MST_CLOSED; MST_WRONG_STATE for the writer or a reader.
+ */
+int32_t mst_blocks_format(mst_blocks_handle *reader);
+
+/*
+ * Returns 32, the length of the root digest of all shards together, and its bytes stand first in
+ * `root`: that of the writer's last block, or of the snapshot's block. It depends on the content,
+ * the format and the splits alone. Returns MST_CLOSED; MST_WRONG_STATE for a reader; MST_SHORT_ROOM
+ * if root_length is less than 32. It takes no memory.
+ */
+int32_t mst_blocks_root(mst_blocks_handle *handle, uint8_t *root, size_t root_length);
+
+/*
+ * Makes the proof of the key's answer, which mst_verify_sharded judges in the format and by the
+ * root digest of the same snapshot. Returns MST_OK: its bytes stand first in the room, and *length
+ * is their number. Returns MST_CLOSED; MST_BAD_KEY; MST_WRONG_STATE for the writer or a reader;
+ * MST_MEMORY: room and *length are as they were. Returns MST_SHORT_ROOM if the room is too short:
+ * *length is the length of the proof, and the room is as it was.
+ */
+int32_t mst_blocks_prove(mst_blocks_handle *reader, const uint8_t *key, size_t key_length,
+                         uint8_t *room, size_t room_length, size_t *length);
+
+/*
+ * Lists the directory of a snapshot as mst_sharded_directory does. Returns MST_OK or MST_SHORT_ROOM
+ * as mst_range; MST_CLOSED; MST_WRONG_STATE for the writer or a reader; MST_MEMORY: room, *count
+ * and *length are as they were.
+ */
+int32_t mst_blocks_directory(mst_blocks_handle *reader, uint8_t *room, size_t room_length,
+                             size_t *count, size_t *length);
+
+/*
+ * As mst_blocks_try_snapshot, but while a block is being published it tries again, after pauses as
+ * those of mst_put, instead of returning MST_MOVING. It is not promised when a try falls between
+ * two blocks; and if the writer's thread has died within mst_blocks_apply, none may.
+ */
+int32_t mst_blocks_snapshot(mst_blocks_handle *reader);
+
+/* ---- several threads that write blocks ---- */
+
+/*
+ * A group is a writer of blocks for any number of threads (group commit). While one of them makes a
+ * block, the edits of the others wait, and then all that wait are made as one block.
+ *
+ *     mst_blocks_group *group;
+ *     if (mst_blocks_group_open(writer, &group) != MST_OK)      // the writer's hand is empty now
+ *         give_up();
+ *     int32_t told = mst_blocks_group_apply(group, edits, length, &place, &shard, &number);
+ *                                               // in any thread, with edits of its own
+ *     mst_blocks_group_close(group, writer);    // once all threads are done: the hand has it again
+ */
+
+/* A group. The library takes memory for it, and a caller has only its address. */
+typedef struct mst_blocks_group mst_blocks_group;
+
+/*
+ * Makes a group of the writer in the hand, and sets *group to its address. Returns MST_OK, and then
+ * the hand is empty. Otherwise the hand and *group are as they were: returns MST_CLOSED;
+ * MST_WRONG_STATE for a reader or a snapshot; MST_MEMORY.
+ */
+int32_t mst_blocks_group_open(mst_blocks_handle *writer, mst_blocks_group **group);
+
+/*
+ * Makes the edits, in the form of mst_try_apply, in a block of the group's writer. Any number of
+ * threads may be in this call at a time. It returns once the edits are published or refused.
+ *
+ * Returns MST_OK, and *number is the number of the block that has the edits; the numbers that a
+ * thread is told rise. Otherwise none of the edits is made: returns what mst_blocks_apply returns,
+ * without MST_CLOSED and MST_WRONG_STATE, and tells *place, of an edit among these, and *shard as
+ * that does. What is not told is as it was.
+ *
+ * If no block is being made when the call comes, it makes one of its edits at once. Calls that come
+ * meanwhile sleep. Then the first of them makes one block of all that wait, up to 1,048,576 bytes
+ * of edits, and so on. In a block the edits of each call follow those of the calls that came before
+ * it. So a call may make the edits of others with its own, but no further block.
+ *
+ * If a block of several calls is refused, each of them gets a block of its own, in the same order.
+ * So a call is refused only if mst_blocks_apply would refuse its edits alone, after those of the
+ * calls before it. Bad edits go into no block with others. A block of several calls takes memory
+ * for all their edits; if there is none, each call gets a block of its own.
+ *
+ * A thread leaves this call by its return alone. One that is cancelled meanwhile goes on to the end
+ * of the call (pthread_cancel with deferred cancellation). If a thread ends within it, others may
+ * wait without end.
+ */
+int32_t mst_blocks_group_apply(mst_blocks_group *group, const uint8_t *edits, size_t length,
+                               size_t *place, size_t *shard, uint64_t *number);
+
+/*
+ * Ends the group, and puts its writer into the hand. What the hand held before is closed. No other
+ * call may be in the group then, and none may follow. Returns MST_OK.
+ */
+int32_t mst_blocks_group_close(mst_blocks_group *group, mst_blocks_handle *writer);
 
 #ifdef __cplusplus
 }

@@ -6,6 +6,8 @@
  * what the proof shows: the key's value, or that the key is absent, or which test the proof fails.
  * It needs neither the store nor the map. docs/FORMAT.md has the bytes of a proof and the tests. An
  * answer is the map's if the root digest is, unless two texts are found that have one SHA-256.
+ * Whether a root digest is the newest no verifier knows: let its maker sign it together with its
+ * format and a rising number, and check both.
  *
  * mst_verify_sharded does the same for a sharded map: several trees, each for an interval of the
  * keys, and one root digest.

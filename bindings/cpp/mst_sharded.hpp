@@ -26,6 +26,59 @@ inline int require(int code) {
     return code;
 }
 
+// The value that a call has written to the room, or nothing if the key is absent.
+inline std::optional<std::string> told(int code, const std::uint8_t *room) {
+    if (code == MST_ABSENT) return std::nullopt;
+    auto length = static_cast<std::size_t>(require(code));
+    return std::string(reinterpret_cast<const char *>(room), length);
+}
+
+// The pairs that a call lists in a room. Of a snapshot the second room is long enough.
+template <typename Call> std::vector<pair> pairs(Call call) {
+    std::vector<std::uint8_t> room(MST_PAIR_LONGEST * 64);
+    std::size_t count = 0, length = 0;
+    int code = call(room, count, length);
+    if (code == MST_SHORT_ROOM) {
+        room.resize(length);
+        code = call(room, count, length);
+    }
+    require(code);
+    std::vector<pair> found;
+    found.reserve(count);
+    std::size_t at = 0;
+    while (found.size() < count) {
+        mst_pair one;
+        at = mst_pair_at(room.data(), at, &one);
+        found.emplace_back(
+            std::string(reinterpret_cast<const char *>(one.key), one.key_length),
+            std::string(reinterpret_cast<const char *>(one.value), one.value_length));
+    }
+    return found;
+}
+
+// The proof that a call writes to the room, which grows to the longest.
+template <typename Call>
+std::vector<std::uint8_t> proof(std::vector<std::uint8_t> &room, Call call) {
+    if (room.empty()) room.resize(4096);
+    for (;;) {
+        std::size_t length = 0;
+        int code = call(room, length);
+        if (code == MST_OK) return {room.data(), room.data() + length};
+        if (code != MST_SHORT_ROOM) throw refused(code);
+        room.resize(std::max(length, 2 * room.size()));
+    }
+}
+
+// The splits as the calls that open take them.
+inline std::vector<std::uint8_t> packed(const std::vector<std::string> &splits) {
+    std::vector<std::uint8_t> bytes_of(MST_SPLIT_LONGEST * splits.size());
+    std::size_t length = 0;
+    for (const auto &split : splits)
+        length = mst_split(bytes_of.data(), length, bytes(split), split.size());
+    bytes_of.resize(length);
+    return bytes_of;
+}
+
 } // namespace detail
 
 // The reads that a handle and a snapshot both have. The hand lies on the heap, so that a handle may
@@ -44,12 +97,6 @@ protected:
         return &hand->handle;
     }
 
-    static std::optional<std::string> told(int code, const std::uint8_t *room) {
-        if (code == MST_ABSENT) return std::nullopt;
-        auto length = static_cast<std::size_t>(detail::require(code));
-        return std::string(reinterpret_cast<const char *>(room), length);
-    }
-
 public:
     sharded_reader(const sharded_reader &) = delete;
     sharded_reader &operator=(const sharded_reader &) = delete;
@@ -62,7 +109,8 @@ public:
     // Returns the value of the key, or nothing if the key is absent.
     std::optional<std::string> get(std::string_view key) {
         std::uint8_t room[MST_VALUE_LONGEST];
-        return told(mst_sharded_get(at(), detail::bytes(key), key.size(), room, sizeof room), room);
+        return detail::told(
+            mst_sharded_get(at(), detail::bytes(key), key.size(), room, sizeof room), room);
     }
 };
 
@@ -71,28 +119,6 @@ public:
 // handle.
 class [[nodiscard]] snapshot : public sharded_reader {
     friend class handle;
-
-    template <typename Call> static std::vector<pair> pairs(Call call) {
-        std::vector<std::uint8_t> room(MST_PAIR_LONGEST * 64);
-        std::size_t count = 0, length = 0;
-        int code = call(room, count, length);
-        if (code == MST_SHORT_ROOM) {
-            room.resize(length); // a snapshot stays, so this is enough
-            code = call(room, count, length);
-        }
-        detail::require(code);
-        std::vector<pair> found;
-        found.reserve(count);
-        std::size_t at = 0;
-        while (found.size() < count) {
-            mst_pair one;
-            at = mst_pair_at(room.data(), at, &one);
-            found.emplace_back(
-                std::string(reinterpret_cast<const char *>(one.key), one.key_length),
-                std::string(reinterpret_cast<const char *>(one.value), one.value_length));
-        }
-        return found;
-    }
 
     explicit snapshot(std::shared_ptr<detail::sharded_held> of) : sharded_reader(std::move(of)) {
         detail::require(mst_sharded_snapshot(at()));
@@ -108,8 +134,8 @@ public:
     std::optional<pair> next(std::string_view after = {}) {
         std::uint8_t key[MST_KEY_LONGEST], room[MST_VALUE_LONGEST];
         std::size_t length = 0;
-        auto value = told(mst_sharded_next(at(), detail::bytes(after), after.size(), key,
-                                           sizeof key, &length, room, sizeof room), room);
+        auto value = detail::told(mst_sharded_next(at(), detail::bytes(after), after.size(), key,
+                                                   sizeof key, &length, room, sizeof room), room);
         if (!value) return std::nullopt;
         return pair(std::string(reinterpret_cast<const char *>(key), length), std::move(*value));
     }
@@ -119,7 +145,7 @@ public:
     std::vector<pair> range(std::string_view from = {}, std::string_view to = {},
                             std::size_t limit = SIZE_MAX) {
         auto most = static_cast<std::uint32_t>(std::min<std::size_t>(limit, UINT32_MAX));
-        return pairs([&](std::vector<std::uint8_t> &room, std::size_t &count, std::size_t &length) {
+        return detail::pairs([&](auto &room, std::size_t &count, std::size_t &length) {
             return mst_sharded_range(at(), detail::bytes(from), from.size(), detail::bytes(to),
                                      to.size(), most, room.data(), room.size(), &count, &length);
         });
@@ -128,7 +154,7 @@ public:
     // Returns of each shard its lower bound, with its root digest of 32 bytes and its upper bound,
     // which is empty if there is none: the pairs whose root digest is that of the snapshot.
     std::vector<pair> directory() {
-        return pairs([&](std::vector<std::uint8_t> &room, std::size_t &count, std::size_t &length) {
+        return detail::pairs([&](auto &room, std::size_t &count, std::size_t &length) {
             return mst_sharded_directory(at(), room.data(), room.size(), &count, &length);
         });
     }
@@ -161,16 +187,10 @@ public:
     // of this snapshot.
     std::vector<std::uint8_t> prove(std::string_view key) {
         mst_handle *from = at();
-        auto &room = hand->room;
-        if (room.empty()) room.resize(4096);
-        for (;;) {
-            std::size_t length = 0;
-            int code = mst_sharded_prove(from, detail::bytes(key), key.size(), room.data(),
-                                         room.size(), &length);
-            if (code == MST_OK) return {room.data(), room.data() + length};
-            if (code != MST_SHORT_ROOM) throw refused(code);
-            room.resize(std::max(length, 2 * room.size()));
-        }
+        return detail::proof(hand->room, [&](auto &room, std::size_t &length) {
+            return mst_sharded_prove(from, detail::bytes(key), key.size(), room.data(),
+                                     room.size(), &length);
+        });
     }
 
     // Ends the pins before the object ends. No read may follow: it is refused.
@@ -190,14 +210,14 @@ class handle : public sharded_reader {
         int code = call(at(), detail::bytes(key), key.size(), detail::bytes(value), value.size(),
                         room, sizeof room);
         if (code == MST_BUSY) return tried{true, std::nullopt};
-        return tried{false, told(code, room)};
+        return tried{false, detail::told(code, room)};
     }
 
     tried remove_by(decltype(mst_sharded_remove) call, std::string_view key) {
         std::uint8_t room[MST_VALUE_LONGEST];
         int code = call(at(), detail::bytes(key), key.size(), room, sizeof room);
         if (code == MST_BUSY) return tried{true, std::nullopt};
-        return tried{false, told(code, room)};
+        return tried{false, detail::told(code, room)};
     }
 
     spread apply_by(decltype(mst_sharded_apply) call, const batch &edits, std::size_t from) {
@@ -290,15 +310,12 @@ inline std::vector<handle> open_sharded(std::uint32_t rows, std::size_t handles,
                                         const std::vector<std::string> &splits,
                                         format in = format::one) {
     if (handles > MST_PASSES_MOST) throw refused(MST_BAD_SHAPE);
-    std::vector<std::uint8_t> packed(MST_SPLIT_LONGEST * splits.size());
-    std::size_t length = 0;
-    for (const auto &split : splits)
-        length = mst_split(packed.data(), length, detail::bytes(split), split.size());
+    auto packed = detail::packed(splits);
     std::vector<handle> all(handles);
     std::vector<mst_handle> hands(handles); // null, as MST_HANDLE_CLOSED
     for (auto &one : all) one.hand = std::make_shared<detail::sharded_held>();
-    detail::require(mst_sharded_open(static_cast<std::uint32_t>(in), rows, packed.data(), length,
-                                     hands.data(), handles));
+    detail::require(mst_sharded_open(static_cast<std::uint32_t>(in), rows, packed.data(),
+                                     packed.size(), hands.data(), handles));
     // what the hands hold moves, once: those of the array are not looked at again
     for (std::size_t i = 0; i < handles; i++) all[i].hand->handle = hands[i];
     return all;

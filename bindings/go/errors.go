@@ -41,6 +41,11 @@ var (
 	ErrStrayKey = errors.New("mst: a shard has a key of another")
 	// ErrNoShard says that a sharded map has no shard of this number.
 	ErrNoShard = errors.New("mst: the map has no shard of this number")
+	// ErrOvertaken says that another than the writer of blocks has written. No call makes it so.
+	ErrOvertaken = errors.New("mst: another than the writer of blocks has written")
+	// ErrMoving says that a block is just being published, so that there is no snapshot of one
+	// block.
+	ErrMoving = errors.New("mst: a block is just being published")
 )
 
 var refusals = map[C.int32_t]error{
@@ -59,6 +64,8 @@ var refusals = map[C.int32_t]error{
 	C.MST_BAD_SPLITS:     ErrSplits,
 	C.MST_MIXED_FORMATS:  ErrMixedFormats,
 	C.MST_STRAY_KEY:      ErrStrayKey,
+	C.MST_OVERTAKEN:      ErrOvertaken,
+	C.MST_MOVING:         ErrMoving,
 }
 
 // refusal is the error for a number that a call returned.
@@ -97,20 +104,21 @@ func (e *EditError) Unwrap() error {
 	return e.Err
 }
 
-// refusalOfShards is the error for a batch of a sharded map.
+// refusalOfShards is the error for a batch of a sharded map, or for a block.
 func refusalOfShards(told C.int32_t, place, shard C.size_t) error {
 	switch told {
-	case C.MST_BUSY, C.MST_VERSIONS_SPENT, C.MST_MEMORY, C.MST_NO_FREE_ROWS:
+	case C.MST_BUSY, C.MST_VERSIONS_SPENT, C.MST_MEMORY, C.MST_NO_FREE_ROWS, C.MST_OVERTAKEN:
 		return &ShardError{int(shard), refusal(told)}
 	}
 	return refusalOfBatch(told, place)
 }
 
 // ShardError says at which shard a batch of a sharded map stopped: the shards before it have their
-// edits, and neither it nor one behind it has any.
+// edits, and neither it nor one behind it has any. If it was a block, no shard has any.
 type ShardError struct {
 	// Shard is the number of the shard, from 0: a call with the same edits from it on makes the
-	// others.
+	// others. Of a block it is the number of the shards if the directory refused its edits, or if
+	// there was no memory for the lists of all edits.
 	Shard int
 	Err   error
 }

@@ -98,6 +98,12 @@ int32_t mst_sharded_try_migrate(mst_handle *handle, uint32_t format, size_t *sto
     return try_once();
 }
 
+int32_t mst_blocks_try_snapshot(mst_blocks_handle *reader) {
+    (void)reader;
+    int32_t told = try_once();
+    return told == MST_BUSY ? MST_MOVING : told;
+}
+
 /* ---- the calls by a pass, each for no longer than a time, or without end */
 
 static int32_t puts_one(mst_pass *pass, uint64_t longest) {

@@ -1,5 +1,6 @@
 /*
- * The stack that each call takes over a map of 25,000 random keys: less than the header says.
+ * The stack that each call takes over a map of 25,000 random keys: less than the header says. Then
+ * that of blocks over such a map in eight shards.
  */
 #include "stack.h"
 #include "tests.h"
@@ -64,6 +65,53 @@ static void *applies(void *unused) {
     return unused;
 }
 
+/* ---- a map with blocks ---- */
+
+static mst_blocks_handle hands[2] = {MST_BLOCKS_HANDLE_CLOSED, MST_BLOCKS_HANDLE_CLOSED};
+
+static void *applies_block(void *unused) {
+    size_t shard;
+    uint64_t number;
+    told = mst_blocks_apply(&hands[0], edits, edits_length, &place, &shard, &number);
+    return unused;
+}
+
+static void *takes_and_releases(void *unused) {
+    told = mst_blocks_try_snapshot(&hands[1]);
+    if (told == MST_OK)
+        told = mst_blocks_release(&hands[1]);
+    return unused;
+}
+
+static void *gets_of_block(void *key) {
+    told = mst_blocks_get(&hands[1], key, 8, room, sizeof room);
+    return NULL;
+}
+
+static void *ranges_of_block(void *unused) {
+    told = mst_blocks_range(&hands[1], NULL, 0, NULL, 0, KEYS, pairs, sizeof pairs, &count,
+                            &length);
+    return unused;
+}
+
+static void *proves_of_block(void *key) {
+    told = mst_blocks_prove(&hands[1], key, 8, room, sizeof room, &length);
+    return NULL;
+}
+
+static void *opens(void *unused) {
+    uint8_t splits[7 * MST_SPLIT_LONGEST];
+    size_t end = 0;
+    for (uint8_t at = 1; at < 8; at++) {
+        uint8_t key = (uint8_t)(32 * at);
+        end = mst_split(splits, end, &key, 1);
+    }
+    told = mst_blocks_open(1, KEYS / 2, splits, end, hands, 2);
+    return unused;
+}
+
+/* ---- all calls ---- */
+
 /* Fills a batch with new values of a number of keys, from one on. */
 static void fill_batch(uint64_t first, size_t keys) {
     uint8_t key[8];
@@ -87,6 +135,22 @@ static void tells(const char *name, void *(*run)(void *)) {
     most -= alone < most ? alone : most;
     EXPECT(most < LIMIT);
     printf("%s: %zu bytes\n", name, most);
+}
+
+static void blocks(void) {
+    tells("mst_blocks_open", opens);
+    for (uint64_t number = 0; number < KEYS; number += BATCH) {
+        fill_batch(number, BATCH);
+        applies_block(NULL);
+        EXPECT(told == MST_OK);
+    }
+    tells("a block of 1,000", applies_block);
+    tells("a snapshot and its end", takes_and_releases);
+    EXPECT(mst_blocks_snapshot(&hands[1]) == MST_OK);
+    tells("get of a block", gets_of_block);
+    tells("range of a block", ranges_of_block);
+    tells("prove of a block", proves_of_block);
+    EXPECT(mst_blocks_close(&hands[0]) == MST_OK && mst_blocks_close(&hands[1]) == MST_OK);
 }
 
 int main(void) {
@@ -113,5 +177,6 @@ int main(void) {
     EXPECT(migration < LIMIT);
     printf("migrate: %zu bytes\n", migration);
     EXPECT(mst_close(&pass) == MST_OK);
+    blocks();
     return ended("stacks");
 }

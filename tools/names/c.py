@@ -90,7 +90,9 @@ class Header:
     def add_declared(self, item, words):
         if TYPE.match(item.head):
             name = re.search(r"typedef struct (\w+)", item.head)[1]
-            self.add(name, f"{item.head} {{{item.body}}} {name};", words)
+            # one whose fields are the library's alone has no body
+            fields = "" if item.body is None else f" {{{item.body}}} {name}"
+            self.add(name, f"{item.head}{fields};", words)
             return
         found = DECLARED.search(item.head)
         if found:

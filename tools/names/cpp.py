@@ -9,6 +9,8 @@ from .scanning import items, line_lines, unwrapped
 UNNAMED = re.compile(
     r"friend\b|.*=\s*delete$|.*\boperator=|~|.*=\s*default$|typename\b|static_assert"
 )
+# That of a type which is declared ahead, if nothing is behind it.
+AHEAD = re.compile(r"(?:class|struct) \w+$")
 KINDS = re.compile(
     r"(?:template\s*<.*?>\s*)?(class|struct|enum class|enum)\s+(?:\[\[.*?\]\]\s*)?(\w+)", re.DOTALL
 )
@@ -63,7 +65,7 @@ def members(title, body, is_public):
     for item in items(body):
         if re.fullmatch(r"(?:public|private|protected):", item.head):
             is_public = item.head == "public:"
-        elif is_public and item.head and not UNNAMED.match(item.head):
+        elif is_public and is_named(item):
             if not re.match(rf"{title}\((?:const )?{title} ?&", item.head):
                 found.append(one_of(item, "    "))
     return found
@@ -86,16 +88,30 @@ def plain_type(head):
     return re.sub(r"\s+", " ", unwrapped(head)).strip() + ";"
 
 
-def names_in(text):
-    """The names of a namespace's text."""
+def is_named(item):
+    """Whether the item names a new thing."""
+    is_ahead = item.body is None and AHEAD.match(item.head)
+    return bool(item.head) and not UNNAMED.match(item.head) and not is_ahead
+
+
+def names_in(text, outer=None):
+    """The names of a namespace's text. Those of a namespace within another begin with its name."""
     found = []
     for item in items(text):
         space = re.fullmatch(r"(?:inline )?namespace (\w+)", item.head)
         if space:
-            found += names_in(item.body) if space[1] != "detail" else []
-        elif item.head and not item.head.startswith("#") and not UNNAMED.match(item.head):
+            found += inner_names(space[1], item.body, outer) if space[1] != "detail" else []
+        elif not item.head.startswith("#") and is_named(item):
             found.append(one_of(item))
     return together(found)
+
+
+def inner_names(space, text, outer):
+    """The names of a namespace that stands in another one, or in none."""
+    names = names_in(text, space)
+    for one in names if outer else []:
+        one.title = f"{space}::{one.title}"
+    return names
 
 
 def together(names):

@@ -61,11 +61,11 @@ class Module:
         with open(path, encoding="utf-8") as file:
             self.text = file.read()
         self.items = [it for it in items(self.text) if not it.head.startswith("mod tests")]
-        self.public = {}
+        self.public, by_type = {}, calls(self.text)
         for item in self.items:
             found = ITEM.match(item.head)
             if found:
-                self.public[found[2]] = (found[1], item)
+                self.public[found[2]] = (found[1], item, by_type.get(found[2], []))
 
     def file_of(self, name):
         for path in (f"{self.folder}/{name}.rs", f"{self.folder}/{name}/mod.rs"):
@@ -82,7 +82,7 @@ class Module:
         return words_of(first, "//!") if first else []
 
     def exported(self):
-        """Kind and item of each name that others can use."""
+        """Title, kind, item and public calls of each name that others can use."""
         found = []
         for item in self.items:
             name = ITEM.match(item.head)
@@ -114,7 +114,8 @@ class Module:
 
 
 def calls(text):
-    """The public calls of the impls in a text, by the names of their types."""
+    """The public calls of the impls in a file's text, by the names of their types: those of a type
+    stand in its file."""
     found = {}
     for item in items(text):
         impl = IMPL.match(item.head)
@@ -159,24 +160,18 @@ def fields(body):
 WITHIN = {"enum": variants, "trait": of_trait, "struct": fields}
 
 
-def name_of(title, kind, item, by_type):
+def name_of(title, kind, item, of_type):
     within = WITHIN[kind](item.body or "") if kind in WITHIN else []
-    within += by_type.get(title, [])
+    within += of_type
     ends = "" if item.head.endswith(")") and kind == "struct" else ";"
     return Name(title, declared(item.head) + (ends or ";"), words_of(item), within)
 
 
 def parts(folder, crate):
     source = os.path.join(folder, "src")
-    by_type = {}
-    for path, _, files in sorted(os.walk(source)):
-        for file in sorted(it for it in files if it.endswith(".rs")):
-            with open(os.path.join(path, file), encoding="utf-8") as opened:
-                for title, found in calls(opened.read()).items():
-                    by_type.setdefault(title, []).extend(found)
     made = []
     for module in Module(source, crate, f"{source}/lib.rs", source).modules():
         title = crate if module.name == crate else f"{crate}::{module.name}"
-        names = [name_of(*it, by_type) for it in module.exported()]
+        names = [name_of(*it) for it in module.exported()]
         made.append(Part(f"`{title}`", module.words(), names))
     return made

@@ -18,6 +18,7 @@ during a call, and two calls by one pass wait for each other. So make none in a 
 would wait for ever for the call that it interrupts. A store does not outlive os.fork() in a process
 with threads.
 """
+from ._blocks import BlockReader, BlockSnapshot, BlockWriter, open_blocks
 from ._library import KEY_LONGEST, ROOT_LENGTH, VALUE_LONGEST, library_version
 from ._passes import Edit, Format, Octets, Pass, open_store
 from ._refusals import (
@@ -26,6 +27,7 @@ from ._refusals import (
     RefusedEdit,
 )
 from ._refusals import BAD_SPLITS, MIXED_FORMATS, STRAY_KEY, BusyShard, RefusedShard
+from ._refusals import MOVING, OVERTAKEN, Moving, Overtaken
 from ._sharded import Handle, open_sharded
 
 __version__ = "0.3.0"
@@ -37,4 +39,6 @@ __all__ = [
     "Refused", "RefusedEdit", "library_version", "open_store",
     "BAD_SPLITS", "MIXED_FORMATS", "STRAY_KEY", "BusyShard", "Handle", "RefusedShard",
     "open_sharded",
+    "MOVING", "OVERTAKEN", "BlockReader", "BlockSnapshot", "BlockWriter", "Moving", "Overtaken",
+    "open_blocks",
 ]

@@ -31,6 +31,16 @@ class ShardedHand(ctypes.Structure):
 SHARDED_HAND = ctypes.POINTER(ShardedHand)
 
 
+class BlocksHand(ctypes.Structure):
+    """What holds the writer of a map with blocks, a reader or a snapshot. It stays where it is, and
+    has padding, as a Hand."""
+
+    _fields_ = [("at", ctypes.c_void_p), ("padding", ctypes.c_uint64 * 31)]
+
+
+BLOCKS_HAND = ctypes.POINTER(BlocksHand)
+
+
 def _signatures() -> Dict[str, Tuple[Any, ...]]:
     hand, size, text = HAND, ctypes.c_size_t, ctypes.c_char_p
     pointer = ctypes.POINTER
@@ -94,6 +104,30 @@ def _sharded_signatures() -> Dict[str, Tuple[Any, ...]]:
     }
 
 
+def _blocks_signatures() -> Dict[str, Tuple[Any, ...]]:
+    hand, size, text = BLOCKS_HAND, ctypes.c_size_t, ctypes.c_char_p
+    pointer, number = ctypes.POINTER, ctypes.POINTER(ctypes.c_uint64)
+    return {
+        "mst_blocks_open": (ctypes.c_uint32, ctypes.c_uint32, text, size, hand, size),
+        "mst_blocks_close": (hand,),
+        "mst_blocks_shards": (hand,),
+        "mst_blocks_apply": (hand, text, size, pointer(size), pointer(size), number),
+        "mst_blocks_number": (hand, number),
+        "mst_blocks_try_snapshot": (hand,),
+        "mst_blocks_snapshot": (hand,),
+        "mst_blocks_release": (hand,),
+        "mst_blocks_get": (hand, text, size, text, size),
+        "mst_blocks_next": (hand, text, size, text, size, pointer(size), text, size),
+        "mst_blocks_range": (
+            hand, text, size, text, size, ctypes.c_uint32, text, size, pointer(size), pointer(size),
+        ),
+        "mst_blocks_format": (hand,),
+        "mst_blocks_root": (hand, text, size),
+        "mst_blocks_prove": (hand, text, size, text, size, pointer(size)),
+        "mst_blocks_directory": (hand, text, size, pointer(size), pointer(size)),
+    }
+
+
 def _path() -> str:
     """Returns the path of the shared library: in the folder MST_STORE_DIR if that is set, otherwise
     in this package, or where make puts it; if it is in none, the name by which the system finds one
@@ -115,7 +149,8 @@ def _load() -> ctypes.CDLL:
         raise ImportError(f"{error}: install {SONAME} of a release, run `make -C bindings`, which "
                           "needs the kit, or set MST_STORE_DIR to the folder of libmst_store.so"
                           ) from error
-    for name, types in {**_signatures(), **_sharded_signatures()}.items():
+    signatures = {**_signatures(), **_sharded_signatures(), **_blocks_signatures()}
+    for name, types in signatures.items():
         call = getattr(found, name)
         call.argtypes, call.restype = types, ctypes.c_int32
     found.mst_library_version.argtypes, found.mst_library_version.restype = (), ctypes.c_char_p

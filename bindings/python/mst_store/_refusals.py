@@ -22,6 +22,8 @@ BAD_BATCH = -25
 BAD_SPLITS = -26
 MIXED_FORMATS = -27
 STRAY_KEY = -28
+OVERTAKEN = -29
+MOVING = -30
 
 _REASONS = {
     ABSENT: "there is no such shard",
@@ -40,6 +42,8 @@ _REASONS = {
     BAD_SPLITS: "splits are at most 1023 keys that rise strictly, from above the least key",
     MIXED_FORMATS: "the shards are in different formats",
     STRAY_KEY: "a shard has a key of another",
+    OVERTAKEN: "another than the writer of blocks has written",
+    MOVING: "a block is just being published",
 }
 
 
@@ -76,7 +80,11 @@ class Busy(Refused):
 class RefusedShard(Refused):
     """A batch of a sharded map stopped at a shard, whose number, from 0, is `shard`: those before
     it have their edits, and neither it nor one behind it has any. A call with the same edits from
-    it on makes the others."""
+    it on makes the others.
+
+    If it was a block, no shard has any. `shard` is the number of the shards if the directory
+    refused its edits, or if there was no memory for the lists of all edits.
+    """
 
     def __init__(self, code: int, shard: int) -> None:
         super().__init__(code)
@@ -88,6 +96,18 @@ class RefusedShard(Refused):
 
 class BusyShard(RefusedShard, Busy):
     """A RefusedShard that is Busy: another handle has the turn of this shard."""
+
+
+class Overtaken(RefusedShard):
+    """A block is refused, since a shard or the directory has a version that is not the writer's
+    last: another has written. No call makes one so."""
+
+
+class Moving(Refused):
+    """A block is just being published, so there is no snapshot of one block: try again."""
+
+    def __init__(self, code: int = MOVING) -> None:
+        super().__init__(code)
 
 
 def refuse(code: int) -> NoReturn:

@@ -38,6 +38,11 @@ pub enum Error {
     StrayKey,
     /// The sharded map has no shard of this number.
     NoShard,
+    /// Of a block: another has the turn of a shard. Only a thread that ended within
+    /// [`Writer::apply`](crate::blocks::Writer::apply) leaves it so.
+    Busy,
+    /// Of a block: another than its writer has written. No call makes it so.
+    Overtaken,
     /// A number that the header does not give for the call: the library and this crate do not fit.
     Other(i32),
 }
@@ -60,6 +65,8 @@ impl Error {
             Error::BadSplits => -26,
             Error::MixedFormats => -27,
             Error::StrayKey => -28,
+            Error::Busy => -21,
+            Error::Overtaken => -29,
             Error::Other(code) => code,
         }
     }
@@ -79,6 +86,8 @@ impl Error {
             -26 => Error::BadSplits,
             -27 => Error::MixedFormats,
             -28 => Error::StrayKey,
+            -21 => Error::Busy,
+            -29 => Error::Overtaken,
             other => Error::Other(other),
         }
     }
@@ -121,6 +130,8 @@ impl fmt::Display for Error {
             Error::MixedFormats => out.write_str("the shards are in different formats"),
             Error::StrayKey => out.write_str("a shard has a key of another"),
             Error::NoShard => out.write_str("the map has no shard of this number"),
+            Error::Busy => out.write_str("another has the turn"),
+            Error::Overtaken => out.write_str("another than the writer of blocks has written"),
             Error::Other(code) => write!(out, "the library answered {code}"),
         }
     }

@@ -62,10 +62,12 @@
 //! ```
 #![deny(missing_debug_implementations, missing_docs)]
 
+pub mod blocks;
 mod edits;
 mod error;
 mod format;
 mod raw;
+mod raw_blocks;
 mod raw_sharded;
 mod reads;
 mod sharded;

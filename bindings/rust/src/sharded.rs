@@ -66,8 +66,8 @@ pub fn open_sharded(
     }
 }
 
-/// The splits as mst_sharded_open takes them. A key that is too long is refused by its length.
-fn packed(splits: &[&[u8]]) -> Vec<u8> {
+/// The splits as mst_sharded_open and mst_blocks_open take them. A key that is too long is refused by its length.
+pub(crate) fn packed(splits: &[&[u8]]) -> Vec<u8> {
     let mut bytes = Vec::new();
     for split in splits {
         bytes.push(split.len().min(255) as u8);
@@ -354,7 +354,9 @@ impl Snapshot<'_> {
 }
 
 /// The pairs that a call lists. A snapshot stays, so the second room is long enough.
-fn listed(call: impl Fn(&mut [u8], &mut usize, &mut usize) -> i32) -> Result<Vec<Pair>, Error> {
+pub(crate) fn listed(
+    call: impl Fn(&mut [u8], &mut usize, &mut usize) -> i32,
+) -> Result<Vec<Pair>, Error> {
     let (mut count, mut length) = (0, 0);
     let mut room = vec![0; 64 * reads::PAIR_LONGEST];
     let mut code = call(&mut room, &mut count, &mut length);

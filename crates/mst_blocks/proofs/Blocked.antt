@@ -285,7 +285,8 @@ module _ (splits : List (List ℕ)) (ps qs : List Known) (d e : Known)
   listing_still : Grows [] (at_last d) (at_last e)
   listing_still = nothing_grows d e left.directory w.listing
 
-  map_still : map_of (sharding splits (map at_last qs)) ≡ map_of (sharding splits (map at_last ps))
+  pub map_still : map_of (sharding splits (map at_last qs)) ≡ map_of
+      (sharding splits (map at_last ps))
   map_still = grown_map splits [] (map at_last ps) (map at_last qs)
       w.block.sharding_is.splits_are w.block.sharding_is.count tt w.block.maps still
 
@@ -304,7 +305,7 @@ module _ (splits : List (List ℕ)) (ps qs : List Known) (d e : Known)
   }
 
   pub refuses_block : (fault : BlockFault) (edits : List Edit)
-      → RefusesParts fault (parts_of splits edits) ps qs d e
+      → RefusesParts fault splits (parts_of splits edits) ps qs d e
       → RefusesBlock fault edits (whole splits ps d) (whole splits qs e)
   refuses_block fault edits why = record {
     splits = refl;

@@ -24,7 +24,7 @@ block_root w o = has_root o.format w.sharding.splits w.sharding.shards
     o.few (ap (λ (m : List Pair). root_of o.format m) o.listed)
 
 -- the last version that is recorded is that of the last block
-recorded : (format : Format) (splits : List (List ℕ)) (log : History) (blocks : Blocks)
+pub recorded : (format : Format) (splits : List (List ℕ)) (log : History) (blocks : Blocks)
     → Records format splits log blocks
     → (after log ≡ directory format (map_made blocks) splits) × IsSharded (map_made blocks) splits
 recorded format splits log blocks r =

@@ -19,7 +19,7 @@ use Rattle.mst_versions.specs.declared.faults.ApplyFault.TheVariants as apply
 use Rattle.mst_sharded_proof.specs.Shards.{Shard, least, bound_text, shards as shards_at}
 use Rattle.mst_shards.specs.Entries.{shard_at}
 use Rattle.mst_shards.specs.Sharding.{AllStep}
-use Rattle.mst_blocks.specs.Blocks.{listed_part, listed_parts, AddsBatch, AddsPart, AllAdd, MakesBlock, MakesNothing, LeavesAll, RefusesPart, RefusedAt}
+use Rattle.mst_blocks.specs.Blocks.{listed_part, listed_parts, AddsBatch, AddsPart, AllAdd, MakesBlock, MakesNothing, LeavesAll, RefusesPart, RefusedAt, RefusesListing}
 use Rattle.mst_blocks.specs.Staging.{PreparesNext, Staged, AllStaged, published_stage, canceled_stage, listed_stage, listed_stages}
 use Rattle.mst_blocks.specs.declared.faults.PartFault.{PartFault}
 use Rattle.mst_blocks.specs.declared.faults.PartFault.TheVariants as part_fault
@@ -276,6 +276,17 @@ block_made splits parts ps qs ts d e w edits all published_is listed prepares is
       directory = published_adds edits (listed_parts (shards_at splits) parts qs) d e w listing
           prepares is;
     }
+
+pub listing_refused : {A B : Type 0} (fault : PartFault) (splits : List (List ℕ))
+    (parts : List (List Edit)) (ps : List Known) (ts : List (Stage A B)) (d e : Known)
+    (edits : List Edit) → AllStaged parts ps ts → edits ≡ listed_stages (shards_at splits) ts
+    → RefusesPart fault edits d e → RefusesListing fault splits parts ps d e
+listing_refused fault splits parts ps ts d e edits all listed refused = record {
+  prepared = map published_stage ts;
+  shards = adds_all parts ps ts all;
+  directory = subst (λ (es : List Edit). RefusesPart fault es d e)
+      (listed ∙ lists_all (shards_at splits) parts ps ts all) refused;
+}
 
 pub block_left : {A B : Type 0} (ps qs : List Known) (ts : List (Stage A B)) (d e : Known)
     → AllStep MakesNothing ps (map canceled_stage ts) → qs ≡ map canceled_stage ts

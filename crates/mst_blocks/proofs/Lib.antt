@@ -6,4 +6,5 @@ pub mod Growing
 pub mod Kept
 pub mod Ordered
 pub mod PartsDealt
+pub mod Reading
 pub mod Relisted

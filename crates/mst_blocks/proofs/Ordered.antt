@@ -10,7 +10,7 @@ use Rattle.mst_blocks.specs.Writing.{at_last, HasMade}
 use Rattle.mst_blocks.proofs.Chained.{block_map, records_fewer}
 
 -- what the writer's directory records of the blocks up to the snapshot's number
-recorded_of : (blocks : Blocks) (w v : Whole) (format : Format) (n : ℕ) → HasMade blocks w
+pub recorded_of : (blocks : Blocks) (w v : Whole) (format : Format) (n : ℕ) → HasMade blocks w
     → v.sharding.splits ≡ w.sharding.splits
     → IsPrefix v.directory.seen (at_last w.directory).seen → IsNumber n v
     → format_seen (at_last w.directory) ≡ format

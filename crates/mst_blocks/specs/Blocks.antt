@@ -109,11 +109,17 @@ RefusedAt zero fault (part ∷ parts) (p ∷ ps) (q ∷ qs) =
     (0 < length part) × RefusesPart fault part p q
 RefusedAt (suc i) fault (part ∷ parts) (p ∷ ps) (q ∷ qs) = RefusedAt i fault parts ps qs
 
+-- the directory was refused the edits that would list the shards, had each made its part
+pub record RefusesListing (fault : PartFault) (splits : List (List ℕ)) (parts : List (List Edit))
+    (ps : List Known) (d e : Known) : Type 0 where
+  pub prepared : List Known
+  pub shards : AllAdd parts ps prepared
+  pub directory : RefusesPart fault (listed_parts (shards_at splits) parts prepared) d e
+
 -- Why a block was refused: a growth of its lists was; a shard was refused its part; or the
--- directory was refused its edits
-abbrev pub RefusesParts : BlockFault → List (List Edit) → List Known → List Known → Known → Known
-    → Type 0
-RefusesParts (Memory refused) parts ps qs d e = Unit {0}
-RefusesParts (OfShard i fault) parts ps qs d e = RefusedAt i fault parts ps qs
-RefusesParts (Directory fault) parts ps qs d e =
-    (edits : List Edit) × RefusesPart fault edits d e
+-- directory was refused the listing
+abbrev pub RefusesParts : BlockFault → List (List ℕ) → List (List Edit) → List Known → List Known
+    → Known → Known → Type 0
+RefusesParts (Memory refused) splits parts ps qs d e = Unit {0}
+RefusesParts (OfShard i fault) splits parts ps qs d e = RefusedAt i fault parts ps qs
+RefusesParts (Directory fault) splits parts ps qs d e = RefusesListing fault splits parts ps d e

@@ -8,13 +8,14 @@ use Rattle.mst_key.specs.History.{after, batched}
 use Rattle.mst_key.specs.Map.{Pair}
 use Rattle.mst_node.specs.Text.{root as root_of}
 use Rattle.mst_store.specs.Passes.{Known, format_seen}
-use Rattle.mst_sharded_proof.specs.Shards.{Shard, bound_text}
-use Rattle.mst_blocks.specs.Blocks.{last_made, parts_of, MakesBlock, LeavesAll, RefusesParts}
+use Rattle.mst_sharded_proof.specs.Shards.{Shard, bound_text, shards as shards_at}
+use Rattle.mst_blocks.specs.Blocks.{last_made, parts_of, MakesBlock, LeavesAll, RefusesPart, RefusesParts}
 use Rattle.mst_shards.specs.BlockHistory.{Blocks, map_made, Records, Whole, IsOneBlock}
 use Rattle.mst_shards.specs.Laid.{AreOf}
 use Rattle.mst_shards.specs.Opening.{Shards}
 use Rattle.mst_shards.specs.Sharding.{sharding, map_of}
 use Rattle.mst_blocks.specs.declared.faults.BlockFault.{BlockFault}
+use Rattle.mst_blocks.specs.declared.faults.BlockFault.TheVariants.{Memory, Shard as OfShard, Directory}
 
 -- ---- the last block of a writer
 
@@ -69,6 +70,14 @@ empty_listing format s = Put s.low (root_of format [] ++ bound_text s.high)
 abbrev pub empty_listings : Format → List Shard → List Edit
 empty_listings format shards = map (λ s. empty_listing format s) shards
 
+-- why a map has no first block: a growth was refused, or the directory was refused the edits that
+-- list the empty map
+abbrev pub RefusesFirst : BlockFault → Format → List (List ℕ) → Known → Type 0
+RefusesFirst (Memory refused) format splits d = Unit {0}
+RefusesFirst (OfShard i fault) format splits d = ⊥
+RefusesFirst (Directory fault) format splits d =
+    (e : Known) × RefusesPart fault (empty_listings format (shards_at splits)) d e
+
 -- ---- a block more, or none
 
 -- The block is made whole: each shard made its part as its next version, and the directory lists
@@ -86,8 +95,8 @@ pub record AddsBlock (edits : List Edit) (w v : Whole) : Type 0 where
 pub record RefusesBlock (fault : BlockFault) (edits : List Edit) (w v : Whole) : Type 0 where
   pub splits : v.sharding.splits ≡ w.sharding.splits
   pub nothing : LeavesAll w.sharding.shards v.sharding.shards w.directory v.directory
-  pub why : RefusesParts fault (parts_of w.sharding.splits edits) w.sharding.shards
-      v.sharding.shards w.directory v.directory
+  pub why : RefusesParts fault w.sharding.splits (parts_of w.sharding.splits edits)
+      w.sharding.shards v.sharding.shards w.directory v.directory
   pub map : block_map v ≡ block_map w
   pub number : last_made v.directory ≡ last_made w.directory
 

@@ -47,7 +47,7 @@ impl<B: Allocator> Model for Part<B> {
 }
 
 // The version that a pass made last, or 0 if it made none.
-fn last_version<A: Allocator + Copy>(pass: &Pass<'_, A>) -> u64
+pub(crate) fn last_version<A: Allocator + Copy>(pass: &Pass<'_, A>) -> u64
     ensures last { result ≡ last_made pass.now }
 {
     match pass.made() {
@@ -299,8 +299,8 @@ pub(crate) fn commit<'a, A: Allocator + Copy, B: Allocator, C: Allocator, D: All
         (λ digest. digest ≡ root_of (format_seen result.1) (after result.1.seen)) }
     ensures err { OnErr result.2 (LeavesAll passes.entry.items result.0.items directory.entry
         result.1) }
-    ensures why { IfErr result.2 (λ fault. RefusesParts fault parts.items passes.entry.items
-        result.0.items directory.entry result.1) }
+    ensures why { IfErr result.2 (λ fault. RefusesParts fault splits.now parts.items
+        passes.entry.items result.0.items directory.entry result.1) }
 {
     let (stages, room, stopped) = prepare_all(alloc, passes, parts, room);
     if let Some((place, fault)) = stopped {

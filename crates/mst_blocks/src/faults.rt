@@ -14,6 +14,12 @@ pub enum PartFault {
     Overtaken,
 }
 
+/// Another has written to a shard: the version that was found is not the one that the writer made
+/// last.
+#[derive(Clone, Copy, Debug, PartialEq, Eq, Error)]
+#[error("another has written")]
+pub struct Overtaken;
+
 /// Why a block was refused. Nothing was changed: no shard has any of its edits.
 #[derive(Clone, Copy, Debug, PartialEq, Eq, Error)]
 pub enum BlockFault {

@@ -25,5 +25,5 @@ mod parting;
 mod writer;
 
 pub use chains::{block_laws, snapshot_laws, writer_laws};
-pub use faults::{BlockFault, PartFault};
+pub use faults::{BlockFault, Overtaken, PartFault};
 pub use writer::Writer;

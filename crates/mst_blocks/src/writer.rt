@@ -1,23 +1,26 @@
 //! The writer of a sharded map: it alone makes its blocks.
-ghost use Rattle.std.specs.Prelude.{◌≡◌, ◌+◌, ◌++◌, [], ◌∷◌, length, IfOk, IfErr, OnOk, OnErr};
+ghost use Rattle.std.specs.Prelude.{◌≡◌, ◌≢◌, ◌≤◌, ◌+◌, ◌++◌, [], ◌∷◌, length, IfOk, IfErr, IsErr, OnOk, OnErr};
 ghost use Rattle.std.specs.Arc.{arc_value};
 ghost use Rattle.mst_key.specs.History.{after};
 ghost use Rattle.mst_node.specs.Text.{root as root_of};
-ghost use Rattle.mst_store.specs.Passes.{format_seen};
+ghost use Rattle.mst_key.specs.Map.{map_get};
+ghost use Rattle.mst_store.specs.Passes.{Looks, format_seen};
 ghost use Rattle.mst_sharded_proof.specs.Shards.{shards as shards_at};
 ghost use Rattle.mst_sharded_proof.specs.Theorem.{HasShardedRoot};
 ghost use Rattle.mst_shards.specs.BlockHistory.{Blocks, IsNumber};
 ghost use Rattle.mst_shards.specs.Opening.{IsLot};
-ghost use Rattle.mst_shards.specs.Sharding.{IsSplits};
-ghost use Rattle.mst_blocks.specs.Blocks.{AddsBatch};
-ghost use Rattle.mst_blocks.specs.Writing.{last_block, block_map, IsWriter, AddsBlock, RefusesBlock, HasMade, empty_listings};
+ghost use Rattle.mst_shards.specs.Sharding.{IsSplits, Routes};
+ghost use Rattle.mst_blocks.specs.Blocks.{last_made, AddsBatch, LeavesAll};
+ghost use Rattle.mst_blocks.specs.Writing.{last_block, block_map, IsWriter, IsWriterOf, AddsBlock, RefusesBlock, RefusesFirst, HasMade, empty_listings};
 
 use crate::beginning::list_all_empty;
-use crate::blocks::prepare_next;
-use crate::faults::BlockFault;
+use crate::blocks::{last_version, prepare_next};
+use crate::faults::{BlockFault, Overtaken};
 use crate::making::make_block;
-use mst_key::{Edit, Memory};
-use mst_shards::{Lot, Sharded, WriterLot, lay_all, lift_all, list_with_room};
+use mst_key::{Edit, Key, Memory, Value};
+use mst_shards::{
+    Lot, Sharded, WriterLot, lay_all, lay_at, lift_all, lift_at, list_with_room, place_of,
+};
 use mst_store::{Laid, Pass};
 use std::alloc::Allocator;
 use std::marker::Model;
@@ -69,6 +72,8 @@ fn list_block_0<'a, A: Allocator + Copy>(
         (empty_listings map.now.directory.format (shards_at map.now.splits)) directory listed.0) }
     ensures root { IfOk result
         (λ listed. listed.1 ≡ root_of (format_seen listed.0) (after listed.0.seen)) }
+    ensures why { IfErr result (λ fault. RefusesFirst fault map.now.directory.format map.now.splits
+        directory) }
 {
     let edits = match list_all_empty(alloc, map.splits(), map.format()) {
         Ok(edits) => edits,
@@ -81,6 +86,26 @@ fn list_block_0<'a, A: Allocator + Copy>(
         }
         Err((fault, _)) => Err(BlockFault::Directory(fault)),
     }
+}
+
+// The value of a key in the version that a pass made last, if that is the current one.
+fn get_last<'a, A: Allocator + Copy>(
+    pass: Pass<'a, A>,
+    key: &Key,
+) -> (Pass<'a, A>, Result<Option<Value>, Overtaken>)
+    ensures looks { Looks pass.entry result.0 }
+    ensures found { IfOk result.1 (λ found. (length result.0.seen ≡ last_made pass.entry)
+        × (found ≡ map_get (after result.0.seen) key.now)) }
+    ensures other { IsErr result.1 → length result.0.seen ≢ last_made pass.entry }
+{
+    let last = last_version(&pass);
+    let mut pinned = pass.pin();
+    let found = if pinned.version() == last {
+        Ok(pinned.get(key))
+    } else {
+        Err(Overtaken)
+    };
+    (pinned.unpin(), found)
 }
 
 impl<A: Allocator + Copy> Writer<A> {
@@ -97,6 +122,11 @@ impl<A: Allocator + Copy> Writer<A> {
         requires lot { IsLot (arc_value map.now) lot }
         ensures number { IfOk result (λ w. IsNumber 0 (last_block w)) }
         ensures none { IfOk result (λ w. HasMade [] w) }
+        // it is the writer of this map
+        ensures own { IfOk result (λ w. IsWriterOf (arc_value map.now) w) }
+        ensures splits { IfOk result (λ w. w.sharding.splits ≡ (arc_value map.now).splits) }
+        ensures why { IfErr result (λ fault. RefusesFirst fault (arc_value map.now).directory.format
+            (arc_value map.now).splits lot.directory) }
     {
         let share = match Arc::try_clone(map) {
             Ok(share) => share,
@@ -111,6 +141,14 @@ impl<A: Allocator + Copy> Writer<A> {
             directory,
             root,
         })
+    }
+
+    /// How many shards there are.
+    pub fn shards(&self) -> usize
+        ensures count { result ≡ length self.now.sharding.shards }
+        ensures most { result ≤ 1024 }
+    {
+        self.passes.len()
     }
 
     /// The number of the last block: how many there were before it, and it. Its directory lists the
@@ -132,6 +170,29 @@ impl<A: Allocator + Copy> Writer<A> {
             (block_map self.now) self.now.sharding.splits result }
     {
         self.root
+    }
+
+    /// The value of a key in the last block, or `None` if the key has no value there. So a block
+    /// can depend on what the map has. It takes no memory.
+    ///
+    /// Returns `Overtaken` if another has written to the key's shard: the version that was found
+    /// is not the writer's last.
+    pub fn get(&mut self, key: &Key) -> Result<Option<Value>, Overtaken>
+        ensures found { IfOk result (λ found. found ≡ map_get (block_map self.old) key.now) }
+        ensures overtaken { IsErr result → Routes key.now
+            (λ p q. Looks p q × (length q.seen ≢ last_made p)) self.old.sharding
+            self.new.sharding }
+        ensures map { block_map self.new ≡ block_map self.old }
+        ensures left { LeavesAll self.old.sharding.shards self.new.sharding.shards
+            self.old.directory self.new.directory }
+        // the blocks that it has made are those that it had made
+        ensures same { (blocks : Blocks) → HasMade blocks self.old → HasMade blocks self.new }
+    {
+        let place = place_of(self.map.splits(), key);
+        let pass = lift_at(self.map.stores(), &mut self.passes, place);
+        let (pass, found) = get_last(pass, key);
+        lay_at(&mut self.passes, place, pass);
+        found
     }
 
     /// Makes the edits of all shards, one after another, as the next block, and returns its

@@ -1,16 +1,26 @@
-//! Sharded maps with their writer, a reader, and edits.
+//! Sharded maps of three shards with their writer and their readers, and edits.
+ghost use Rattle.std.specs.Prelude.{◌≡◌};
+ghost use Rattle.std.specs.Arc.{arc_value};
+ghost use Rattle.std.specs.List.{AllByRecursion};
+ghost use Rattle.mst_shards.specs.Opening.{IsLot, seats_of};
+
 use mst_blocks::Writer;
 use mst_key::{Edit, Format, Key, Value};
-use mst_shards::Sharded;
+use mst_shards::{AllSeats, Lot, Sharded, WriterLot};
 use mst_snapshots::{Reader, Snapshot};
 use mst_store::Shape;
-use std::alloc::Global;
+use std::alloc::{Allocator, Global};
 use std::process::Abort;
 use std::sync::Arc;
 
 /// Ends the test with this text if something is not as it should be.
 pub(crate) fn confirm(rt: &impl Abort, right: bool, what: &str) {
     assert!(rt; right, "{what}");
+}
+
+/// Ends the test with the number of the case if something is not as it should be.
+pub(crate) fn confirm_at(rt: &impl Abort, right: bool, case: usize) {
+    assert!(rt; right, "case {case}");
 }
 
 /// The key of these bytes.
@@ -29,36 +39,105 @@ pub(crate) fn removed(rt: &impl Abort, bytes: &[u8]) -> Edit {
     Edit::Remove(key(rt, bytes))
 }
 
-/// The splits of three shards: below h, from h on, from p on.
-fn splits_of(rt: &(impl Abort + AllocGlobal)) -> Vec<Key> {
-    vec![in rt.alloc(); key(rt, b"h"), key(rt, b"p")].expect(rt, "memory")
+/// The shape of the shards of a map with a writer and three readers.
+pub(crate) fn shape_of(rows: u32, format: Format) -> Shape {
+    Shape {
+        rows,
+        passes: 4,
+        format,
+    }
 }
 
-/// A new map of three shards, with its writer and a reader.
+/// The splits of three shards: below h, from h on, from p on. `None` if memory is refused for them.
+pub(crate) fn splits_in<A: Allocator>(rt: &impl Abort, alloc: A) -> Option<Vec<Key, A>> {
+    vec![in alloc; key(rt, b"h"), key(rt, b"p")].ok()
+}
+
+/// A new map, and the right to deal its passes.
+pub(crate) fn shared<A: Allocator + Copy>(
+    rt: &impl Abort,
+    alloc: A,
+    shape: Shape,
+) -> (Arc<Sharded<A>, A>, AllSeats<A>)
+    ensures own { result.1 ≡ seats_of (arc_value result.0) }
+{
+    let splits = splits_in(rt, alloc).expect(rt, "memory");
+    let Ok((map, seats)) = Sharded::open(alloc, splits, shape) else {
+        panic!(rt; "not opened")
+    };
+    let map = Arc::new(alloc, map).expect(rt, "memory");
+    (map, seats)
+}
+
+/// A new map, and what is dealt to its writer and to each of its readers.
+pub(crate) fn dealt<A: Allocator + Copy>(
+    rt: &impl Abort,
+    alloc: A,
+    shape: Shape,
+) -> (Arc<Sharded<A>, A>, WriterLot<A>, Vec<Lot<A>, A>)
+    ensures writer { IsLot (arc_value result.0) result.1 }
+    ensures readers { AllByRecursion (IsLot (arc_value result.0)) result.2.items }
+{
+    let (map, seats) = shared(rt, alloc, shape);
+    let (lot, lots) = map.deal(alloc, seats).expect(rt, "memory");
+    (map, lot, lots)
+}
+
+/// A reader of the last of the lots.
+pub(crate) fn reader_of<A: Allocator + Copy>(
+    rt: &impl Abort,
+    alloc: A,
+    map: &Arc<Sharded<A>, A>,
+    lots: &mut Vec<Lot<A>, A>,
+) -> Reader<A>
+    requires own { AllByRecursion (IsLot (arc_value map.now)) lots.old.items }
+    ensures own { AllByRecursion (IsLot (arc_value map.now)) lots.new.items }
+{
+    let lot = lots.pop().expect(rt, "a reader's");
+    Reader::new(map, alloc, lot).expect(rt, "memory")
+}
+
+/// The writer and the three readers of a map.
+#[derive(Drop)]
+pub(crate) struct Users<A: Allocator + Copy> {
+    pub(crate) writer: Writer<A>,
+    pub(crate) first: Reader<A>,
+    pub(crate) second: Reader<A>,
+    pub(crate) third: Reader<A>,
+}
+
+/// The writer and the readers of a new map, which alone have shares of it.
+pub(crate) fn users_of<A: Allocator + Copy>(rt: &impl Abort, alloc: A, shape: Shape) -> Users<A> {
+    let (map, lot, mut lots) = dealt(rt, alloc, shape);
+    let writer = Writer::new(&map, alloc, lot).expect(rt, "memory");
+    let first = reader_of(rt, alloc, &map, &mut lots);
+    let second = reader_of(rt, alloc, &map, &mut lots);
+    let third = reader_of(rt, alloc, &map, &mut lots);
+    Users {
+        writer,
+        first,
+        second,
+        third,
+    }
+}
+
+/// The writer of a new map, and a reader.
 pub(crate) fn opened(
     rt: &(impl Abort + AllocGlobal),
     rows: u32,
     format: Format,
 ) -> (Writer<Global>, Reader<Global>) {
-    let alloc = rt.alloc();
-    let shape = Shape {
-        rows,
-        passes: 2,
-        format,
-    };
-    let Ok((map, seats)) = Sharded::open(alloc, splits_of(rt), shape) else {
-        panic!(rt; "not opened")
-    };
-    let map = Arc::new(alloc, map).expect(rt, "memory");
-    let (lot, mut lots) = map.deal(alloc, seats).expect(rt, "memory");
-    let writer = Writer::new(&map, alloc, lot).expect(rt, "memory");
-    let lot = lots.pop().expect(rt, "a reader's");
-    let reader = Reader::new(&map, alloc, lot).expect(rt, "memory");
-    (writer, reader)
+    let Users {
+        writer,
+        first,
+        second: _second,
+        third: _third,
+    } = users_of(rt, rt.alloc(), shape_of(rows, format));
+    (writer, first)
 }
 
 /// The reader's snapshot, which no block delays.
-pub(crate) fn taken(rt: &impl Abort, reader: Reader<Global>) -> Snapshot<Global> {
+pub(crate) fn taken<A: Allocator + Copy>(rt: &impl Abort, reader: Reader<A>) -> Snapshot<A> {
     let Ok(snapshot) = reader.try_snapshot() else {
         panic!(rt; "no block is being published")
     };

@@ -10,6 +10,7 @@ mod batch;
 mod catch_up;
 mod compare;
 mod counted;
+mod log_of_blocks;
 mod migrate;
 mod open_and_size;
 mod prove_and_verify;
@@ -46,7 +47,8 @@ fn run_all<T: Threads + Wait + Sync>(rt: &HostRuntime, threads: &T) -> Result<()
     run_middle(rt)?;
     sharded::run(rt)?;
     refusals::run(rt, threads)?;
-    audit_service::run(rt)
+    audit_service::run(rt)?;
+    log_of_blocks::run(rt)
 }
 
 fn main(rt: HostRuntime) -> Result<()> {

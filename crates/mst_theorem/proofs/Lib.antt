@@ -12,3 +12,4 @@ mod ToldCalls
 mod Points
 mod Within
 mod TwoOrders
+mod InBlocks

@@ -32,6 +32,17 @@ pub enum Kind {
     PutOfListing,
     /// Snapshots of a map of shards, each of which is released.
     Snapshots(Each),
+    /// Blocks of a map of shards, and snapshots of them.
+    Blocks(Block),
+}
+
+/// What is done at each call.
+#[derive(Clone, Copy)]
+pub struct Block {
+    /// How many puts are made as one block; none if it is 0.
+    pub edits: u32,
+    /// Whether a snapshot is taken, asked for its number and its root digest, and released.
+    pub is_read: bool,
 }
 
 /// What is done with each snapshot.
@@ -67,6 +78,30 @@ const CHANGED_AND_TOLD: Each = Each {
     roots: true,
 };
 
+/// A snapshot alone.
+const SEEN: Block = Block {
+    edits: 0,
+    is_read: true,
+};
+
+/// A put.
+const ONE: Block = Block {
+    edits: 1,
+    is_read: false,
+};
+
+/// A put, and a snapshot.
+const ONE_AND_SEEN: Block = Block {
+    edits: 1,
+    is_read: true,
+};
+
+/// A thousand puts.
+const LARGE: Block = Block {
+    edits: 1_000,
+    is_read: false,
+};
+
 /// The kinds, with what the command line calls them.
 const KINDS: &[(Kind, &str)] = &[
     (Kind::Put, "put"),
@@ -95,6 +130,13 @@ const KINDS: &[(Kind, &str)] = &[
         Kind::Snapshots(CHANGED_AND_TOLD),
         "put and snapshot with its root",
     ),
+    (Kind::Blocks(SEEN), "snapshot of a block"),
+    (Kind::Blocks(ONE), "block of 1 edit"),
+    (
+        Kind::Blocks(ONE_AND_SEEN),
+        "block of 1 edit and its snapshot",
+    ),
+    (Kind::Blocks(LARGE), "block of 1000 edits"),
 ];
 
 /// The kind with this name, and what lines call it.
@@ -112,7 +154,11 @@ impl Kind {
     pub fn is_sharded(self) -> bool {
         matches!(
             self,
-            Kind::GetOfPasses | Kind::GetOfHandle | Kind::PutOfListing | Kind::Snapshots(_)
+            Kind::GetOfPasses
+                | Kind::GetOfHandle
+                | Kind::PutOfListing
+                | Kind::Snapshots(_)
+                | Kind::Blocks(_)
         )
     }
 }

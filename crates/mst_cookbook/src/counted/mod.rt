@@ -13,6 +13,7 @@ ghost use Rattle.mst_store.specs.Passes.{most_rows};
 
 mod alone;
 mod batches;
+mod blocks;
 mod changes;
 mod keys;
 mod kinds;
@@ -47,6 +48,7 @@ fn make(rt: &HostRuntime, keys: &[Key], of: &Calls) -> Result<()>
         Kind::GetOfPasses => shards::run_passes(rt, keys, of),
         Kind::PutOfListing => shards::run_listings(rt, keys, of),
         Kind::GetOfHandle | Kind::Snapshots(_) => shards::run_handle(rt, keys, of),
+        Kind::Blocks(each) => blocks::run(rt, keys, of, each),
         _ => alone::run(rt, keys, &[], of),
     }
 }

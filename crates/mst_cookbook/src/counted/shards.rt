@@ -22,8 +22,8 @@ const ROWS_OF_KEY: u32 = 3;
 
 const SPARE_ROWS: u32 = 512;
 
-// The first key of each shard but the first, where all have equally many of the keys, which rise.
-fn splits(alloc: Global, keys: &[Key]) -> Result<Vec<Key>, AllocError> {
+/// The first key of each shard but the first, where all have equally many of the keys, which rise.
+pub fn splits(alloc: Global, keys: &[Key]) -> Result<Vec<Key>, AllocError> {
     let mut splits = Vec::new(alloc);
     for shard in 1..SHARDS {
         if let Some(key) = keys.get(keys.len() / SHARDS * shard) {
@@ -33,13 +33,13 @@ fn splits(alloc: Global, keys: &[Key]) -> Result<Vec<Key>, AllocError> {
     Ok(splits)
 }
 
-// The shape of a shard of the map that has these keys.
-fn shape(keys: &[Key], format: Format) -> Shape
+/// The shape of a shard of the map that has these keys.
+pub fn shape(keys: &[Key], format: Format, passes: u32) -> Shape
     requires few { length keys.now ≤ most_rows }
 {
     Shape {
         rows: (keys.len() / SHARDS) as u32 * ROWS_OF_KEY + SPARE_ROWS,
-        passes: 1,
+        passes,
         format,
     }
 }
@@ -142,7 +142,7 @@ pub fn run_handle(rt: &HostRuntime, keys: &[Key], of: &Calls) -> Result<()>
     requires some { 0 < length keys.now }
     requires few { length keys.now ≤ most_rows }
 {
-    let shape = shape(keys, of.format);
+    let shape = shape(keys, of.format, 1);
     let (sharded, seats) = Sharded::open(rt.alloc(), splits(rt.alloc(), keys)?, shape)?;
     run_last(rt, sharded.deal(rt.alloc(), seats)?, keys, of)
 }

@@ -4,7 +4,7 @@ use Rattle.std.proofs.lemmas.List.{length-map}
 use Rattle.mst_sharded_proof.specs.Shards.{shards as shards_at}
 use Rattle.mst_blocks.specs.Blocks.{MakesNothing}
 use Rattle.mst_blocks.specs.Staging.{canceled_stage, listed_stages}
-use Rattle.mst_blocks.proofs.Committing.{same_nothing, part_nothing, block_made, block_left, root_published}
+use Rattle.mst_blocks.proofs.Committing.{same_nothing, part_nothing, block_made, block_left, listing_refused, root_published}
 use Rattle.mst_shards.proofs.PinningAll.{all_step_length}
 use Rattle.mst_blocks.proofs.blocks.commit.Goals as goal
 
@@ -55,3 +55,12 @@ pub returns-in-Ok-prepare_next-clause-root : goal.returns-in-Ok-prepare_next-cla
 returns-in-Ok-prepare_next-clause-root g c =
     root_published c.in-Ok-prepare_next.listing c.publish.result c.root-digest.result
     c.root-digest.ensures.root c.publish.ensures.published
+
+pub returns-in-Err-prepare_next-clause-why : goal.returns-in-Err-prepare_next-clause-why
+returns-in-Err-prepare_next-clause-why g c =
+    let none : IsNone c.prepare_all-stages.result.2 = ap is_some c.in_default.is in
+    listing_refused c.in-Err-prepare_next.fault c.args.splits.now c.args.parts.items
+    c.args.passes.items c.prepare_all-stages.result.0.items c.args.directory
+    c.in-Err-prepare_next.directory c.in-Ok.edits.items (c.prepare_all-stages.ensures.all none)
+    (c.in-Ok.ensures.listed ∙ ap (λ ts. listed_stages (shards_at c.args.splits.now) ts)
+    c.as_slice.ensures.value) c.in-Err-prepare_next.ensures.err

@@ -42,16 +42,16 @@ returns-in-Ok-clause-ok g c =
 pub returns-in-Ok-clause-err : goal.returns-in-Ok-clause-err
 returns-in-Ok-clause-err g c =
     if_err
-    (λ (fault : BlockFault). RefusesParts fault (vec_items c.in-Ok.parts) (ps g c) (qs g c) (d g c)
-    (e g c))
+    (λ (fault : BlockFault). RefusesParts fault c.args.splits.now (vec_items c.in-Ok.parts) (ps g c)
+    (qs g c) (d g c) (e g c))
     (λ (fault : BlockFault). RefusesBlock fault c.args.edits.now
     (whole c.args.splits.now (ps g c) (d g c)) (whole c.args.splits.now (qs g c) (e g c)))
     c.commit.result.2 c.commit.ensures.err c.commit.ensures.why
     (λ (left : LeavesAll (ps g c) (qs g c) (d g c) (e g c)) (fault : BlockFault) why.
     refuses_block c.args.splits.now (ps g c) (qs g c) (d g c) (e g c) c.requires.writer left fault
     c.args.edits.now
-    (subst (λ (parts : List (List Edit)). RefusesParts fault parts (ps g c) (qs g c) (d g c)
-    (e g c)) c.in-Ok.ensures.parts why))
+    (subst (λ (parts : List (List Edit)). RefusesParts fault c.args.splits.now parts (ps g c)
+    (qs g c) (d g c) (e g c)) c.in-Ok.ensures.parts why))
 
 pub returns-in-Ok-clause-writer : goal.returns-in-Ok-clause-writer
 returns-in-Ok-clause-writer g c =

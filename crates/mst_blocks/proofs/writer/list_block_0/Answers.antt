@@ -26,4 +26,5 @@ returns-in-Ok-prepare_next g c =
           c.splits.ensures.splits) c.in-Ok-prepare_next.ensures.ok c.publish.ensures.published);
       root = root_published c.in-Ok-prepare_next.listing c.publish.result c.root-digest.result
           c.root-digest.ensures.root c.publish.ensures.published;
+      why = tt;
     }

@@ -5,10 +5,11 @@ use Rattle.mst_key.specs.History.{after}
 use Rattle.mst_node.specs.Text.{root as root_of}
 use Rattle.mst_store.specs.Passes.{Known, StoreId, format_seen}
 use Rattle.mst_sharded_proof.specs.Shards.{shards as shards_at}
+use Rattle.mst_shards.specs.BlockHistory.{whole}
 use Rattle.mst_shards.specs.Opening.{Shards, Dealt, IsLot}
 use Rattle.mst_shards.specs.Sharding.{IsSplits}
 use Rattle.mst_blocks.specs.Blocks.{AddsBatch}
-use Rattle.mst_blocks.specs.Writing.{empty_listings}
+use Rattle.mst_blocks.specs.Writing.{IsWriterOf, empty_listings}
 use Rattle.mst_blocks.proofs.Begun.{begun_writer, begun_none}
 use Rattle.mst_blocks.proofs.Kept.{begun_rooted}
 use Rattle.mst_blocks.proofs.writer.Writer.new.Given.{Over}
@@ -55,14 +56,17 @@ module _ (g : Over) (c : After-lay-directory g) where
       (subst (λ (x : Shards). AddsBatch (empty_listings x.directory.format (shards_at x.splits)) d
       c.in_ok-listed.listed) here c.in_ok-listed.ensures.made)
 
+  writer_is : IsWriterOf s (whole s.splits ps e)
+  writer_is = record {
+    own = lot_is.own;
+    directory = adds.wrote.same.0 ∙ lot_is.directory;
+    writer = begun_writer s.directory.format s.splits ps d e splits_are count lot_is.new
+        lot_is.directory_new adds;
+  }
+
 pub invariant_of-result : goal.invariant_of-result
 invariant_of-result g c = (
-  record {
-    own = (lot_is g c).own;
-    directory = (adds g c).wrote.same.0 ∙ (lot_is g c).directory;
-    writer = begun_writer (s g c).directory.format (s g c).splits (ps g c) (d g c) (e g c)
-        (splits_are g c) (count g c) (lot_is g c).new (lot_is g c).directory_new (adds g c);
-  },
+  writer_is g c,
   begun_rooted (s g c).directory.format
       (empty_listings (s g c).directory.format (shards_at (s g c).splits)) (d g c) (e g c)
       c.in_ok-listed.root (lot_is g c).directory_new (adds g c)
@@ -75,3 +79,11 @@ pub returns-clause-none : goal.returns-clause-none
 returns-clause-none g c =
     begun_none (s g c).directory.format (s g c).splits (ps g c) (d g c) (e g c) (splits_are g c)
     (count g c) (lot_is g c).new (lot_is g c).directory_new (adds g c)
+
+pub returns-clause-own : goal.returns-clause-own
+returns-clause-own g c =
+    subst (λ (x : Shards). IsWriterOf x (whole (s g c).splits (ps g c) (e g c))) (same_map g c)
+    (writer_is g c)
+
+pub returns-clause-splits : goal.returns-clause-splits
+returns-clause-splits g c = ap (λ (x : Shards). x.splits) (same_map g c)

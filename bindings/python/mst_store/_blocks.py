@@ -1,0 +1,320 @@
+"""Blocks of sharded maps: their writer, their readers, and snapshots of blocks."""
+from __future__ import annotations
+
+import ctypes
+import operator
+import os
+import threading
+from contextlib import contextmanager
+from typing import (
+    TYPE_CHECKING, Any, Callable, Dict, Iterable, Iterator, List, NoReturn, Optional, Tuple, Type,
+)
+
+from ._library import BLOCKS_HAND, KEY_LONGEST, ROOT_LENGTH, VALUE_LONGEST, BlocksHand
+from ._library import lib as _lib
+from ._passes import Edit, Format, Octets, _format, _octets, _pairs, _word
+from ._passes import _packed as _packed_edits
+from ._refusals import (
+    ABSENT, BAD_KEY, BAD_VALUE, BUSY, CLOSED, MEMORY, MOVING, NO_FREE_ROWS, OVERTAKEN, SHORT_ROOM,
+    VERSIONS_SPENT, BusyShard, Moving, Overtaken, RefusedEdit, RefusedShard,
+)
+from ._refusals import refuse as _refuse
+from ._sharded import _answer, _packed
+
+if TYPE_CHECKING:
+    from typing_extensions import Unpack
+
+
+class _Held:
+    """A hand, and the rooms of its calls. A hand is in one call at a time, so who makes one of
+    these has the lock."""
+
+    def __init__(self, hand: Any) -> None:
+        if not isinstance(hand, BLOCKS_HAND):
+            raise TypeError("writers and readers come from open_blocks")
+        self.hand, self.process = hand, os.getpid()
+        self.lock = threading.Lock()
+        self.room = ctypes.create_string_buffer(VALUE_LONGEST)
+        self.key_room = ctypes.create_string_buffer(KEY_LONGEST)
+        self.long_room = ctypes.create_string_buffer(4096)  # grows with the longest proof or range
+
+    def __del__(self) -> None:
+        # As for a pass: no other call can be under way, and a forked child calls nothing by itself.
+        if _lib is not None and getattr(self, "process", None) == os.getpid():
+            _lib.mst_blocks_close(self.hand)
+
+    def shards(self) -> int:
+        return _answer(_lib.mst_blocks_shards(self.hand))
+
+    def number(self) -> int:
+        number = ctypes.c_uint64()
+        _answer(_lib.mst_blocks_number(self.hand, ctypes.byref(number)))
+        return int(number.value)
+
+    def root(self) -> bytes:
+        _answer(_lib.mst_blocks_root(self.hand, self.room, VALUE_LONGEST))
+        return self.room.raw[:ROOT_LENGTH]
+
+    def value(self, code: int) -> Optional[bytes]:
+        return None if code == ABSENT else self.room.raw[: _answer(code)]
+
+    def get(self, key: bytes) -> Optional[bytes]:
+        return self.value(_lib.mst_blocks_get(
+            self.hand, key, len(key), self.room, VALUE_LONGEST))
+
+    def next(self, key: bytes) -> Optional[Tuple[bytes, bytes]]:
+        length = ctypes.c_size_t()
+        value = self.value(_lib.mst_blocks_next(
+            self.hand, key, len(key), self.key_room, KEY_LONGEST, ctypes.byref(length), self.room,
+            VALUE_LONGEST,
+        ))
+        return None if value is None else (self.key_room.raw[: length.value], value)
+
+    def longest(self, call: Callable[[Any, Any], Any]) -> bytes:
+        length = ctypes.c_size_t()
+        while True:
+            room = self.long_room
+            code = call(room, ctypes.byref(length))
+            if code != SHORT_ROOM:
+                _answer(code)
+                return ctypes.string_at(room, length.value)
+            self.long_room = ctypes.create_string_buffer(length.value)
+
+
+class BlockSnapshot:
+    """A snapshot of exactly one block, unless SHA-256 collides, from a reader's snapshot. All reads
+    are of this block. Once the `with` has ended, they raise Refused with CLOSED."""
+
+    def __init__(self, held: _Held) -> None:
+        self._held, self._is_over = held, False
+
+    def _end(self) -> None:
+        with self._held.lock:
+            self._is_over = True
+            # If the reader was closed inside, this call is refused, and no pin is left.
+            _lib.mst_blocks_release(self._held.hand)
+
+    @contextmanager
+    def _taken(self) -> Iterator[_Held]:
+        with self._held.lock:
+            if self._is_over:
+                _refuse(CLOSED)
+            yield self._held
+
+    def shards(self) -> int:
+        """Returns how many shards there are."""
+        with self._taken() as held:
+            return held.shards()
+
+    def number(self) -> int:
+        """Returns the number of the block: how many blocks led to this map."""
+        with self._taken() as held:
+            return held.number()
+
+    def root(self) -> bytes:
+        """Returns the root digest of all shards, of 32 bytes. It depends on their pairs, their
+        format and the splits alone."""
+        with self._taken() as held:
+            return held.root()
+
+    def format(self) -> Format:
+        """Returns the format of the map, in which its root digest and its proofs are."""
+        with self._taken() as held:
+            return _format(_lib.mst_blocks_format(held.hand))
+
+    def get(self, key: Octets) -> Optional[bytes]:
+        """Returns the value of the key, or None if the key is absent."""
+        key = _octets(key)
+        with self._taken() as held:
+            return held.get(key)
+
+    def next(self, key: Octets = b"") -> Optional[Tuple[bytes, bytes]]:
+        """Returns the pair of the least key above `key`, or of the least key of all if `key` is
+        empty; None if there is no such pair."""
+        key = _octets(key)
+        with self._taken() as held:
+            return held.next(key)
+
+    def range(
+        self, start: Octets = b"", stop: Octets = b"", limit: int = 2**32 - 1
+    ) -> List[Tuple[bytes, bytes]]:
+        """Returns the first pairs, at most `limit`, with start <= key < stop, in the order of
+        rising keys. An empty bound does not bind."""
+        start, stop, count = _octets(start), _octets(stop), ctypes.c_size_t()
+        limit = _word(max(operator.index(limit), 0))
+        with self._taken() as held:
+            return list(_pairs(held.longest(lambda room, length: _lib.mst_blocks_range(
+                held.hand, start, len(start), stop, len(stop), limit, room, len(room),
+                ctypes.byref(count), length))))
+
+    def directory(self) -> List[Tuple[bytes, bytes]]:
+        """Returns of each shard its lower bound, with its root digest of 32 bytes and its upper
+        bound, which is empty if there is none: the pairs whose root digest is that of the
+        snapshot."""
+        count = ctypes.c_size_t()
+        with self._taken() as held:
+            return list(_pairs(held.longest(lambda room, length: _lib.mst_blocks_directory(
+                held.hand, room, len(room), ctypes.byref(count), length))))
+
+    def prove(self, key: Octets) -> bytes:
+        """Returns the proof of the key's answer, for a verifier of sharded maps and the format and
+        root digest of the same snapshot."""
+        key = _octets(key)
+        with self._taken() as held:
+            return held.longest(lambda room, length: _lib.mst_blocks_prove(
+                held.hand, key, len(key), room, len(room), length))
+
+    def __reduce__(self) -> NoReturn:
+        # A copy would not know of its end.
+        raise TypeError("a snapshot is neither copied nor pickled")
+
+
+class BlockReader:
+    """A reader of a map with blocks, from open_blocks. It takes snapshots, one at a time."""
+
+    def __init__(self, hand: Any) -> None:
+        self._held = _Held(hand)
+
+    def shards(self) -> int:
+        """Returns how many shards there are."""
+        with self._held.lock:
+            return self._held.shards()
+
+    def get(self, key: Octets) -> Optional[bytes]:
+        """Returns the value that the key has now, or None if the key is absent. Two such reads
+        need not be of one block. While the reader has a snapshot, it reads the snapshot's block."""
+        key = _octets(key)
+        with self._held.lock:
+            return self._held.get(key)
+
+    @contextmanager
+    def snapshot(self) -> Iterator[BlockSnapshot]:
+        """Takes a snapshot of one block for the `with`; while a block is being published, it tries
+        again. It is not promised when a try falls between two blocks; and if the writer's thread
+        has died within apply, none may."""
+        with self._taken_by(_lib.mst_blocks_snapshot) as then:
+            yield then
+
+    @contextmanager
+    def try_snapshot(self) -> Iterator[BlockSnapshot]:
+        """As snapshot, but raises Moving while a block is just being published."""
+        with self._taken_by(_lib.mst_blocks_try_snapshot) as then:
+            yield then
+
+    @contextmanager
+    def _taken_by(self, call: Callable[..., int]) -> Iterator[BlockSnapshot]:
+        with self._held.lock:
+            code = call(self._held.hand)
+        if code == MOVING:
+            raise Moving()
+        _answer(code)
+        then = BlockSnapshot(self._held)
+        try:
+            yield then
+        finally:
+            then._end()
+
+    def close(self) -> None:
+        """Closes the reader. Later calls raise Refused with CLOSED; a second close has no
+        effect."""
+        with self._held.lock:
+            _lib.mst_blocks_close(self._held.hand)
+
+    def __enter__(self) -> BlockReader:
+        return self
+
+    def __exit__(self, *_: object) -> None:
+        self.close()
+
+    def __reduce__(self) -> NoReturn:
+        # A copy would have the same hand.
+        raise TypeError("a reader is neither copied nor pickled")
+
+
+class BlockWriter:
+    """The writer of a map with blocks, from open_blocks, which alone makes them."""
+
+    def __init__(self, hand: Any) -> None:
+        self._held = _Held(hand)
+
+    def shards(self) -> int:
+        """Returns how many shards there are."""
+        with self._held.lock:
+            return self._held.shards()
+
+    def apply(self, edits: Iterable[Edit]) -> int:
+        """Makes edits of all shards, as Pass.apply takes them, as the next block, and returns its
+        number: one more than that of the block before. Readers see none of them before all are
+        made. No edits make a block too.
+
+        If the block is refused, nothing has changed in any shard. RefusedEdit tells which edit has
+        a key or a value of a bad length, and RefusedShard, or Overtaken, which shard refused its
+        edits.
+        """
+        packed, number = _packed_edits(edits), ctypes.c_uint64()
+        place, shard = ctypes.c_size_t(), ctypes.c_size_t()
+        with self._held.lock:
+            code = _lib.mst_blocks_apply(
+                self._held.hand, packed, len(packed), ctypes.byref(place), ctypes.byref(shard),
+                ctypes.byref(number))
+        if code in (BAD_KEY, BAD_VALUE):
+            raise RefusedEdit(code, place.value)
+        if code in _REFUSALS_OF_A_SHARD:
+            raise _REFUSALS_OF_A_SHARD[code](code, shard.value)
+        _answer(code)
+        return int(number.value)
+
+    def number(self) -> int:
+        """Returns the number of the last block; 0 is that of the empty map."""
+        with self._held.lock:
+            return self._held.number()
+
+    def root(self) -> bytes:
+        """Returns the root digest of all shards after the last block, as a snapshot of it has
+        it."""
+        with self._held.lock:
+            return self._held.root()
+
+    def close(self) -> None:
+        """Closes the writer: then no more blocks are made, and readers go on. Later calls raise
+        Refused with CLOSED; a second close has no effect."""
+        with self._held.lock:
+            _lib.mst_blocks_close(self._held.hand)
+
+    def __enter__(self) -> BlockWriter:
+        return self
+
+    def __exit__(self, *_: object) -> None:
+        self.close()
+
+    def __reduce__(self) -> NoReturn:
+        # A copy would have the same hand.
+        raise TypeError("a writer is neither copied nor pickled")
+
+
+_REFUSALS_OF_A_SHARD: Dict[int, Type[RefusedShard]] = {
+    BUSY: BusyShard,
+    MEMORY: RefusedShard,
+    NO_FREE_ROWS: RefusedShard,
+    OVERTAKEN: Overtaken,
+    VERSIONS_SPENT: RefusedShard,
+}
+
+
+def open_blocks(
+    rows: int, readers: int, splits: Iterable[Octets], format: int = Format.ONE
+) -> Tuple[BlockWriter, Unpack[Tuple[BlockReader, ...]]]:
+    """Opens a sharded map of the empty map, which is block 0, and returns its writer and then its
+    readers: `writer, *readers = open_blocks(rows=1000, readers=2, splits=[b"m"])`.
+
+    The splits are at most 1,023 keys that rise strictly, from above b"\\0": the keys from one of
+    them on, and below the next, are those of a shard. Each shard has 4 to 65,535 rows, and there
+    are 0 to 31 readers. Otherwise Refused is raised. The map keeps its format.
+    """
+    # 33 hands are as refused as any greater number, and of fewer than none there is no writer.
+    count = operator.index(readers) + 1
+    count = count if 0 < count <= 32 else 33
+    hands, packed = (BlocksHand * count)(), _packed(splits)
+    _answer(_lib.mst_blocks_open(_word(format), _word(rows), packed, len(packed), hands, count))
+    others = [BlockReader(ctypes.pointer(hands[at])) for at in range(1, count)]
+    return (BlockWriter(ctypes.pointer(hands[0])), *others)

@@ -1,0 +1,370 @@
+//! Blocks of sharded maps: edits of all shards as one version of the whole map, with one number and
+//! one root digest, made whole or not at all.
+//!
+//! The [`Writer`] of a map alone makes blocks, and each [`Reader`] takes snapshots, each of exactly
+//! one block, unless SHA-256 collides. They may be sent to other threads, one to each, and close
+//! when they are dropped. The map is freed with the last of them.
+//!
+//! ```
+//! use mst_store::blocks::open_blocks;
+//! use mst_store::Edit::{Put, Remove};
+//! use mst_store::Format;
+//!
+//! let (mut writer, mut readers) = open_blocks(Format::One, 1000, 1, &[b"m"])?; // two shards
+//! assert_eq!(writer.apply(&[Put(b"apple", b"30"), Remove(b"pear")]).unwrap(), 1);
+//! let mut then = readers[0].snapshot();
+//! assert_eq!(then.number(), 1);
+//! assert_eq!(then.root(), writer.root());
+//! assert_eq!(then.get(b"apple")?, Some(b"30".to_vec()));
+//! # Ok::<(), mst_store::Error>(())
+//! ```
+//!
+//! A snapshot takes its reader until it is dropped:
+//!
+//! ```compile_fail
+//! # use mst_store::{blocks::open_blocks, Format};
+//! let (_, mut readers) = open_blocks(Format::One, 1000, 1, &[]).unwrap();
+//! let then = readers[0].snapshot();
+//! readers[0].get(b"apple");
+//! drop(then);
+//! ```
+use crate::raw::SHORT_ROOM;
+use crate::raw_blocks::{self as raw, BlocksHand};
+use crate::sharded::{listed, packed};
+use crate::{edits, reads, Edit, Error, Format, Pair, KEY_LONGEST, ROOT_LENGTH, VALUE_LONGEST};
+use std::fmt;
+
+/// Opens a sharded map of the empty map, which is block 0, and returns its writer and its readers,
+/// as many as are asked for.
+///
+/// The splits are at most 1,023 keys that rise strictly, from above that of one zero byte: the keys
+/// from one of them on, and below the next, are those of a shard. Each shard has 4 to 65,535 rows,
+/// and there are 0 to 31 readers. The map keeps its format.
+pub fn open_blocks(
+    format: Format,
+    rows: u32,
+    readers: usize,
+    splits: &[&[u8]],
+) -> Result<(Writer, Vec<Reader>), Error> {
+    // 33 hands are as refused as any greater number, and take no room.
+    let count = readers.min(32) + 1;
+    let packed = packed(splits);
+    let mut hands: Vec<BlocksHand> = (0..count).map(|_| BlocksHand::EMPTY).collect();
+    // Safety: the hands are empty, and there are `count` of them; the bytes are valid for their
+    // length.
+    let code = unsafe {
+        raw::mst_blocks_open(
+            format.number(),
+            rows,
+            packed.as_ptr(),
+            packed.len(),
+            hands.as_mut_ptr(),
+            count,
+        )
+    };
+    if code != 0 {
+        return Err(Error::of(code));
+    }
+    let writer = Writer { hand: hands.remove(0) };
+    Ok((writer, hands.into_iter().map(|hand| Reader { hand, room: Vec::new() }).collect()))
+}
+
+/// Why a block was not made: nothing has changed in any shard.
+#[derive(Debug, Clone, Copy, PartialEq, Eq, Hash)]
+pub struct BlockError {
+    /// The number of the shard that refused its edits, from 0. None if a key or a value has a bad
+    /// length, if the directory of the shards refused its own edits, or if there was no memory for
+    /// the lists of the edits.
+    pub shard: Option<usize>,
+    /// Why the block was refused.
+    pub error: Error,
+}
+
+impl fmt::Display for BlockError {
+    fn fmt(&self, out: &mut fmt::Formatter<'_>) -> fmt::Result {
+        match self.shard {
+            Some(shard) => write!(out, "shard {shard}: {}", self.error),
+            None => self.error.fmt(out),
+        }
+    }
+}
+
+impl std::error::Error for BlockError {
+    fn source(&self) -> Option<&(dyn std::error::Error + 'static)> {
+        Some(&self.error)
+    }
+}
+
+/// The number of the writer's last block, or of a snapshot's.
+fn number_of(hand: &mut BlocksHand) -> u64 {
+    let mut number = 0;
+    // Safety: both pointers are valid.
+    let code = unsafe { raw::mst_blocks_number(hand, &mut number) };
+    // The hand holds the writer or a snapshot, so nothing is refused.
+    assert_eq!(code, 0, "the library and this crate do not fit");
+    number
+}
+
+/// The root digest of the writer's last block, or of a snapshot's.
+fn root_of(hand: &mut BlocksHand) -> [u8; ROOT_LENGTH] {
+    let mut root = [0; ROOT_LENGTH];
+    // Safety: the root is no other's.
+    let code = unsafe { raw::mst_blocks_root(hand, root.as_mut_ptr(), root.len()) };
+    // As for the number, and the root is long enough.
+    assert_eq!(code, ROOT_LENGTH as i32, "the library and this crate do not fit");
+    root
+}
+
+fn shards_of(hand: &mut BlocksHand) -> usize {
+    // Safety: the hand is valid, and holds something, so the answer is 1 to 1,024.
+    unsafe { raw::mst_blocks_shards(hand) as usize }
+}
+
+/// The writer of a map with blocks, which alone makes them: one thread's at a time.
+///
+/// Once it is dropped, no more blocks are made, and the readers go on.
+#[derive(Debug)]
+pub struct Writer {
+    hand: BlocksHand,
+}
+
+impl Writer {
+    /// Returns how many shards there are.
+    pub fn shards(&mut self) -> usize {
+        shards_of(&mut self.hand)
+    }
+
+    /// Makes the edits of all shards as the next block, and returns its number: one more than that
+    /// of the block before. Of those of one key the last decides. Readers see none of them before
+    /// all are made. No edits make a block too.
+    ///
+    /// If the block is refused, nothing has changed in any shard.
+    pub fn apply(&mut self, edits: &[Edit<'_>]) -> Result<u64, BlockError> {
+        let packed = edits::packed(edits);
+        let (mut place, mut number) = (0, 0);
+        let mut shard = usize::MAX;
+        // Safety: the bytes are valid for their length, and so are the other pointers.
+        let code = unsafe {
+            raw::mst_blocks_apply(
+                &mut self.hand,
+                packed.as_ptr(),
+                packed.len(),
+                &mut place,
+                &mut shard,
+                &mut number,
+            )
+        };
+        match code {
+            0 => Ok(number),
+            code => {
+                let shard = (shard < self.shards()).then_some(shard);
+                Err(BlockError { shard, error: Error::of(code).at(place) })
+            }
+        }
+    }
+
+    /// Returns the number of the last block; 0 is that of the empty map.
+    pub fn number(&mut self) -> u64 {
+        number_of(&mut self.hand)
+    }
+
+    /// Returns the root digest of all shards after the last block, as a snapshot of it has it.
+    pub fn root(&mut self) -> [u8; ROOT_LENGTH] {
+        root_of(&mut self.hand)
+    }
+}
+
+/// A reader of a map with blocks: one thread's at a time. It takes snapshots, one at a time.
+pub struct Reader {
+    hand: BlocksHand,
+    room: Vec<u8>,
+}
+
+impl fmt::Debug for Reader {
+    fn fmt(&self, out: &mut fmt::Formatter<'_>) -> fmt::Result {
+        out.debug_tuple("Reader").field(&self.hand).finish()
+    }
+}
+
+impl Reader {
+    /// Returns how many shards there are.
+    pub fn shards(&mut self) -> usize {
+        shards_of(&mut self.hand)
+    }
+
+    /// Returns the value that the key has now, or None if the key is absent. Two such reads need
+    /// not be of one block.
+    pub fn get(&mut self, key: &[u8]) -> Result<Option<Vec<u8>>, Error> {
+        let mut room = [0; VALUE_LONGEST];
+        // Safety: each pointer is valid for the length that goes with it, and the room is no
+        // other's.
+        let code = unsafe {
+            raw::mst_blocks_get(
+                &mut self.hand,
+                key.as_ptr(),
+                key.len(),
+                room.as_mut_ptr(),
+                room.len(),
+            )
+        };
+        reads::value(code, &room).map_err(Error::of)
+    }
+
+    /// Returns a snapshot of one block, or None while a block is just being published.
+    pub fn try_snapshot(&mut self) -> Option<Snapshot<'_>> {
+        self.end_a_leaked_snapshot();
+        // Safety: the hand is valid.
+        match unsafe { raw::mst_blocks_try_snapshot(&mut self.hand) } {
+            0 => Some(Snapshot(self)),
+            // The hand holds a reader, so nothing else is refused.
+            code => {
+                assert_eq!(code, raw::MOVING, "the library and this crate do not fit");
+                None
+            }
+        }
+    }
+
+    /// As [`Reader::try_snapshot`], but tries again while a block is being published. It is not
+    /// promised when a try falls between two blocks; and if the writer's thread has died within
+    /// [`Writer::apply`], none may.
+    pub fn snapshot(&mut self) -> Snapshot<'_> {
+        self.end_a_leaked_snapshot();
+        // Safety: the hand is valid.
+        let code = unsafe { raw::mst_blocks_snapshot(&mut self.hand) };
+        // As in try_snapshot.
+        assert_eq!(code, 0, "the library and this crate do not fit");
+        Snapshot(self)
+    }
+
+    /// If a [`Snapshot`] was leaked, the hand still holds it. A reader is refused with no effect.
+    fn end_a_leaked_snapshot(&mut self) {
+        // Safety: the hand is valid.
+        unsafe { raw::mst_blocks_release(&mut self.hand) };
+    }
+}
+
+/// A reader while it has a snapshot of exactly one block: all reads are of this block. Its pins end
+/// when it is dropped.
+#[derive(Debug)]
+#[must_use = "the pins end when this is dropped"]
+pub struct Snapshot<'a>(&'a mut Reader);
+
+impl Snapshot<'_> {
+    /// Returns how many shards there are.
+    pub fn shards(&mut self) -> usize {
+        self.0.shards()
+    }
+
+    /// Returns the number of the block: how many blocks led to this map.
+    pub fn number(&mut self) -> u64 {
+        number_of(&mut self.0.hand)
+    }
+
+    /// Returns the root digest of all shards. It depends on their pairs, their format and the
+    /// splits alone.
+    pub fn root(&mut self) -> [u8; ROOT_LENGTH] {
+        root_of(&mut self.0.hand)
+    }
+
+    /// Returns the value of the key, or None if the key is absent.
+    pub fn get(&mut self, key: &[u8]) -> Result<Option<Vec<u8>>, Error> {
+        self.0.get(key)
+    }
+
+    /// Returns the pair of the least key above `key`, or of the least key of all if `key` is empty;
+    /// None if there is no such pair.
+    pub fn next(&mut self, key: &[u8]) -> Result<Option<Pair>, Error> {
+        let (mut room, mut found, mut length) = ([0; VALUE_LONGEST], [0; KEY_LONGEST], 0);
+        // Safety: each pointer is valid for the length that goes with it, and no room is another's.
+        let code = unsafe {
+            raw::mst_blocks_next(
+                &mut self.0.hand,
+                key.as_ptr(),
+                key.len(),
+                found.as_mut_ptr(),
+                found.len(),
+                &mut length,
+                room.as_mut_ptr(),
+                room.len(),
+            )
+        };
+        let value = reads::value(code, &room).map_err(Error::of)?;
+        Ok(value.map(|value| (found[..length].to_vec(), value)))
+    }
+
+    /// Returns the first pairs, at most `limit`, whose keys are at least `from` and below `to`. An
+    /// empty bound does not bind.
+    pub fn range(&mut self, from: &[u8], to: &[u8], limit: usize) -> Result<Vec<Pair>, Error> {
+        let hand: *mut BlocksHand = &mut self.0.hand;
+        let limit = u32::try_from(limit).unwrap_or(u32::MAX);
+        listed(|room, count, length| {
+            // Safety: as in next.
+            unsafe {
+                raw::mst_blocks_range(
+                    hand,
+                    from.as_ptr(),
+                    from.len(),
+                    to.as_ptr(),
+                    to.len(),
+                    limit,
+                    room.as_mut_ptr(),
+                    room.len(),
+                    count,
+                    length,
+                )
+            }
+        })
+    }
+
+    /// Returns of each shard its lower bound, with its root digest of 32 bytes and its upper bound,
+    /// which is empty if there is none: the pairs whose root digest is that of the snapshot.
+    pub fn directory(&mut self) -> Result<Vec<Pair>, Error> {
+        let hand: *mut BlocksHand = &mut self.0.hand;
+        listed(|room, count, length| {
+            // Safety: as in next.
+            unsafe { raw::mst_blocks_directory(hand, room.as_mut_ptr(), room.len(), count, length) }
+        })
+    }
+
+    /// Returns the format of the map, in which the root digest and the proofs are.
+    pub fn format(&mut self) -> Format {
+        // Safety: the hand is valid. It holds a snapshot, so nothing is refused.
+        let code = unsafe { raw::mst_blocks_format(&mut self.0.hand) };
+        Format::told(code).expect("the library and this crate have the same formats")
+    }
+
+    /// Returns the proof of the key's answer, for a verifier of sharded maps and the format and the
+    /// root digest of this snapshot.
+    pub fn prove(&mut self, key: &[u8]) -> Result<Vec<u8>, Error> {
+        let Reader { hand, room } = &mut *self.0;
+        if room.is_empty() {
+            room.resize(4096, 0);
+        }
+        loop {
+            let mut length = 0;
+            // Safety: each pointer is valid for the length that goes with it.
+            let code = unsafe {
+                raw::mst_blocks_prove(
+                    &mut *hand,
+                    key.as_ptr(),
+                    key.len(),
+                    room.as_mut_ptr(),
+                    room.len(),
+                    &mut length,
+                )
+            };
+            match code {
+                0 => return Ok(room[..length].to_vec()),
+                SHORT_ROOM => room.resize(length.max(2 * room.len()), 0),
+                code => return Err(Error::of(code)),
+            }
+        }
+    }
+}
+
+impl Drop for Snapshot<'_> {
+    fn drop(&mut self) {
+        // Safety: the hand is valid.
+        unsafe { raw::mst_blocks_release(&mut self.0.hand) };
+    }
+}

@@ -1,0 +1,217 @@
+//! Blocks of sharded maps, compared with BTreeMaps: what a snapshot has is what one block left.
+use mst_store::blocks::{open_blocks, BlockError, Reader, Snapshot, Writer};
+use mst_store::Edit::{Put, Remove};
+use mst_store::{Edit, Error, Format};
+use std::collections::BTreeMap;
+use std::sync::{Arc, Mutex};
+use std::thread;
+
+type Map = BTreeMap<Vec<u8>, Vec<u8>>;
+
+/// A key with its new value, or with None to take it out.
+type Change = (Vec<u8>, Option<Vec<u8>>);
+
+/// What the writer tells of a block.
+type Told = (u64, [u8; 32]);
+
+/// Keys of one byte, in 16 shards.
+fn opened(format: Format, rows: u32, readers: usize) -> (Writer, Vec<Reader>) {
+    let splits: Vec<Vec<u8>> = (1..16).map(|number| vec![16 * number]).collect();
+    let parts: Vec<&[u8]> = splits.iter().map(Vec::as_slice).collect();
+    open_blocks(format, rows, readers, &parts).unwrap()
+}
+
+/// Numbers that look random, from a seed.
+fn next_of(seed: &mut u64) -> u64 {
+    *seed = seed.wrapping_mul(6364136223846793005).wrapping_add(1442695040888963407);
+    *seed >> 33
+}
+
+/// Up to 23 changes, some of one key.
+fn changes(seed: &mut u64) -> Vec<Change> {
+    let count = next_of(seed) % 24;
+    let mut one = || {
+        let (key, value) = (next_of(seed) as u8, next_of(seed));
+        (vec![key], (value % 3 > 0).then(|| value.to_be_bytes().to_vec()))
+    };
+    (0..count).map(|_| one()).collect()
+}
+
+fn edits(changes: &[Change]) -> Vec<Edit<'_>> {
+    changes
+        .iter()
+        .map(|(key, value)| match value {
+            Some(value) => Put(key, value),
+            None => Remove(key),
+        })
+        .collect()
+}
+
+/// Makes a block of changes, in a map too.
+fn makes(writer: &mut Writer, map: &mut Map, seed: &mut u64) -> Told {
+    let (changes, before) = (changes(seed), writer.number());
+    assert_eq!(writer.apply(&edits(&changes)), Ok(before + 1));
+    for (key, value) in changes {
+        match value {
+            Some(value) => map.insert(key, value),
+            None => map.remove(&key),
+        };
+    }
+    (writer.number(), writer.root())
+}
+
+fn shows(then: &mut Snapshot<'_>, told: Told, map: &Map) {
+    assert_eq!((then.number(), then.root()), told);
+    for key in 0..=255u8 {
+        assert_eq!(then.get(&[key]), Ok(map.get(&vec![key]).cloned()));
+    }
+    let pairs: Vec<_> = map.clone().into_iter().collect();
+    assert_eq!(then.next(b""), Ok(pairs.first().cloned()));
+    assert_eq!(then.range(b"0", b"p", 9).unwrap().len(), pairs_within(map).min(9));
+    assert_eq!(then.range(b"", b"", usize::MAX), Ok(pairs));
+}
+
+fn pairs_within(map: &Map) -> usize {
+    map.range(b"0".to_vec()..b"p".to_vec()).count()
+}
+
+#[test]
+fn each_snapshot_keeps_its_block() {
+    for format in [Format::One, Format::Two] {
+        let (mut writer, mut readers) = opened(format, 256, 2);
+        let (mut keeper, mut other) = (readers.remove(0), readers.remove(0));
+        let (mut map, mut seed) = (Map::new(), 7);
+        let mut told = (writer.number(), writer.root());
+        assert_eq!((told.0, writer.shards(), keeper.shards()), (0, 16, 16));
+        for _ in 0..30 {
+            let (kept, kept_told) = (map.clone(), told);
+            let mut then = keeper.snapshot();
+            for _ in 0..4 {
+                told = makes(&mut writer, &mut map, &mut seed);
+                shows(&mut other.try_snapshot().unwrap(), told, &map);
+            }
+            shows(&mut then, kept_told, &kept);
+            assert_eq!((then.format(), then.shards()), (format, 16));
+            assert_eq!(then.directory().unwrap().len(), 16);
+            assert!(!then.prove(b"a").unwrap().is_empty());
+        }
+        assert_eq!(keeper.get(b"a"), Ok(map.get(&b"a".to_vec()).cloned()));
+    }
+}
+
+#[test]
+fn a_refused_block_changes_no_shard() {
+    let (mut writer, mut readers) = open_blocks(Format::Two, 12, 2, &[b"b", b"c", b"d"]).unwrap();
+    let (mut reader, mut other) = (readers.remove(0), readers.remove(0));
+    assert_eq!(writer.apply(&[Put(b"a", b"old"), Put(b"c", b"old")]), Ok(1));
+    let (root, mut then) = (writer.root(), other.snapshot());
+    // the third shard has no rows for its edits
+    let keys: Vec<_> = (0..12).map(|last| [b'c', last]).collect();
+    let mut edits = vec![Put(b"d", b"1"), Put(b"a", b"1")];
+    edits.extend(keys.iter().map(|key| Put(key, b"1")));
+    let refused = BlockError { shard: Some(2), error: Error::NoFreeRows };
+    assert_eq!(refused.to_string(), format!("shard 2: {}", Error::NoFreeRows));
+    for _ in 0..3 {
+        assert_eq!(writer.apply(&edits), Err(refused));
+        assert_eq!((writer.number(), writer.root()), (1, root));
+        assert_eq!((reader.get(b"a"), reader.get(b"d")), (Ok(Some(b"old".to_vec())), Ok(None)));
+        let mut now = reader.snapshot();
+        assert_eq!((now.number(), now.root()), (1, root));
+    }
+    assert_eq!(writer.apply(&[Put(b"a", b"new"), Put(b"d", b"new")]), Ok(2));
+    assert_eq!((then.get(b"a"), then.get(b"d")), (Ok(Some(b"old".to_vec())), Ok(None)));
+    assert_eq!((then.number(), then.root()), (1, root));
+    drop(then);
+    let mut now = other.snapshot();
+    assert_eq!((now.number(), now.root()), (2, writer.root()));
+    assert_eq!(now.get(b"d"), Ok(Some(b"new".to_vec())));
+}
+
+#[test]
+fn bad_edits_are_told_by_their_places() {
+    let (mut writer, mut readers) = opened(Format::One, 16, 1);
+    let at = |error| Err(BlockError { shard: None, error });
+    assert_eq!(writer.apply(&[Put(b"a", b""), Remove(b"")]), at(Error::BadKeyAt(1)));
+    assert_eq!(writer.apply(&[Put(b"a", &[0; 65])]), at(Error::BadValueAt(0)));
+    assert_eq!(writer.apply(&[Put(b"a", b""), Put(&[1; 33], b"")]), at(Error::BadKeyAt(1)));
+    assert_eq!((writer.number(), readers[0].get(b"a")), (0, Ok(None)));
+    assert_eq!(writer.apply(&[]), Ok(1));
+    let root = writer.root();
+    assert_eq!((writer.apply(&[]), writer.root()), (Ok(2), root));
+}
+
+#[test]
+fn openings_that_are_refused() {
+    let of = |splits: &[&[u8]]| open_blocks(Format::One, 16, 1, splits).map(|_| ()).unwrap_err();
+    assert_eq!(of(&[b""]), Error::BadSplits);
+    assert_eq!(of(&[b"b", b"b"]), Error::BadSplits);
+    assert_eq!(of(&[&[1; 33]]), Error::BadSplits);
+    assert_eq!(of(&[&[1; 300]]), Error::BadSplits);
+    let shaped = |rows, readers| open_blocks(Format::Two, rows, readers, &[]).map(|_| ());
+    assert_eq!(shaped(3, 1), Err(Error::BadShape));
+    assert_eq!(shaped(16, 32), Err(Error::BadShape));
+    assert_eq!(shaped(16, usize::MAX), Err(Error::BadShape));
+    assert_eq!((shaped(16, 31), shaped(16, 0)), (Ok(()), Ok(())));
+    assert_eq!((Error::Overtaken.code(), Error::Busy.code()), (-29, -21));
+}
+
+#[test]
+fn readers_go_on_without_a_writer() {
+    fn sent<T: Send>(of: T) -> T {
+        of
+    }
+    let (mut writer, mut readers) = opened(Format::Two, 16, 2);
+    assert_eq!(writer.apply(&[Put(b"a", b"1")]), Ok(1));
+    let root = writer.root();
+    drop(sent(writer));
+    drop(readers.remove(0));
+    let mut reader = sent(readers.remove(0));
+    // a snapshot that was leaked ends with the next one
+    std::mem::forget(reader.snapshot());
+    let mut then = reader.snapshot();
+    assert_eq!((then.number(), then.root()), (1, root));
+    assert_eq!((then.get(b"a"), then.get(b"")), (Ok(Some(b"1".to_vec())), Err(Error::BadKey)));
+    assert_eq!((then.prove(b""), then.next(&[1; 33])), (Err(Error::BadKey), Err(Error::BadKey)));
+}
+
+/// Whether a snapshot has the number of its block at each key.
+fn has_one_block(then: &mut Snapshot<'_>) -> bool {
+    let wanted = (then.number() > 0).then(|| then.number().to_be_bytes().to_vec());
+    (0..16u8).all(|shard| then.get(&[16 * shard + 1]) == Ok(wanted.clone()))
+}
+
+/// Reads until the writer has told of so many blocks, and the last one is read.
+fn reads(mut reader: Reader, roots: &Mutex<Vec<[u8; 32]>>, last: u64) {
+    let mut before = 0;
+    while before < last {
+        let mut then = reader.snapshot();
+        assert!(then.number() >= before && has_one_block(&mut then));
+        before = then.number();
+        // the writer tells of a block after it has made it
+        if let Some(root) = roots.lock().unwrap().get(before as usize) {
+            assert_eq!(then.root(), *root);
+        }
+    }
+}
+
+#[test]
+fn threads_read_while_blocks_are_made() {
+    const LAST: u64 = 2000;
+    let (mut writer, readers) = opened(Format::One, 64, 3);
+    let roots = Arc::new(Mutex::new(vec![writer.root()]));
+    let mut threads = Vec::new();
+    for reader in readers {
+        let roots = Arc::clone(&roots);
+        threads.push(thread::spawn(move || reads(reader, &roots, LAST)));
+    }
+    let keys: Vec<_> = (0..16u8).map(|shard| [16 * shard + 1]).collect();
+    for number in 1..=LAST {
+        let value = number.to_be_bytes();
+        let edits: Vec<_> = keys.iter().map(|key| Put(key, &value)).collect();
+        assert_eq!(writer.apply(&edits), Ok(number));
+        roots.lock().unwrap().push(writer.root());
+    }
+    for thread in threads {
+        thread.join().unwrap();
+    }
+}

@@ -1,0 +1,5 @@
+pub mod BlocksMade
+pub mod BoxParts
+pub mod HandValues
+pub mod LotsDealt
+pub mod SplitPacking

@@ -1,0 +1,28 @@
+use Rattle.std.proofs.Common.{arith, ◌<◌, length, sym, ap, subst, ◌∙◌}
+use Rattle.std.proofs.lemmas.List.{get_or-set_same, get_or-set_other, length-set}
+use Rattle.std.specs.Prelude.{Option}
+use Rattle.std.specs.Arc.{arc_value}
+use Rattle.mst_shards.specs.Opening.{Shards}
+use Rattle.mst_c_blocks.specs.declared.hand.PaddedBlocksHand.{PaddedBlocksHand}
+use Rattle.mst_c_blocks.specs.declared.role_box.Role.{Role}
+use Rattle.mst_c_blocks.specs.Opened.{HoldsWriter}
+use Rattle.mst_c_blocks.proofs.opening.hand_all.Goals as goal
+
+-- the hands behind the first one are empty as before
+pub hand_readers-requires-clause-empty : goal.hand_readers-requires-clause-empty
+hand_readers-requires-clause-empty c = λ k h some below.
+    let long = length-set c.args.hands.now 0 c.hand_writer.new.hand in
+    ap (λ (x : PaddedBlocksHand). x.hand.held)
+    (get_or-set_other c.args.hands.now 0 k c.hand_writer.new.hand h (λ z. omega (arith, z, some)))
+    ∙ c.requires.empty k h (omega (arith, below, long))
+
+-- and the first one keeps the writer
+pub returns-then-hand_writer-clause-writer : goal.returns-then-hand_writer-clause-writer
+returns-then-hand_writer-clause-writer c = λ yes h.
+    let map : Shards = arc_value c.args.map.now in
+    let put : PaddedBlocksHand = c.hand_writer.new.hand in
+    let within : 0 < length c.args.hands.now = omega (arith, c.requires.count) in
+    subst (λ (held : Option Role). HoldsWriter map held)
+    (sym (c.hand_readers.ensures.first h
+    ∙ ap (λ (x : PaddedBlocksHand). x.hand.held) (get_or-set_same c.args.hands.now 0 put h within)))
+    (c.hand_writer.ensures.held c.if-hand_writer.true)

@@ -1,0 +1,21 @@
+use Rattle.std.proofs.Common.{rules, ◌≡◌, ◌<◌, ◌++◌, List, ℕ, length, sym, subst, ap, ◌∙◌}
+use Rattle.mst_c_blocks.specs.Splits.{splits_bytes}
+use Rattle.mst_c_blocks.proofs.SplitPacking.{packs_none, packs_more}
+use Rattle.mst_c_blocks.proofs.splits.list_splits.Goals as goal
+
+-- no key stands next
+pub returns-in_default-clause-none : goal.returns-in_default-clause-none
+returns-in_default-clause-none c =
+    let some : 0 < length c.loop-rest.rest.now = search rules in
+    packs_none c.args.packed.now c.loop-rest.list.items c.loop-rest.rest.now c.loop-rest.invariant
+    some c.in_default.ensures.none
+
+-- the next key is one more
+pub loop-rest-preserved : goal.loop-rest-preserved
+loop-rest-preserved c =
+    let before : List (List ℕ) = c.loop-rest.list.items in
+    subst (λ (ks : List (List ℕ)). c.args.packed.now ≡ splits_bytes ks ++ c.in-Some.behind.now)
+    (sym c.in_ok-push.ensures.items)
+    (c.loop-rest.invariant
+    ∙ ap (λ (bytes : List ℕ). splits_bytes before ++ bytes) c.in-Some.ensures.some
+    ∙ sym (packs_more before c.in-Some.key c.in-Some.behind.now))

@@ -1,0 +1,10 @@
+use Rattle.std.proofs.Common.{◌≡◌, ◌++◌, length}
+use Rattle.mst_c_blocks.specs.Splits.{splits_bytes}
+use Rattle.mst_c_blocks.proofs.splits.list_splits.Given as goal
+
+-- the splits so far and the bytes that are left are all
+abbrev pub invariant-loop-rest : goal.invariant-loop-rest
+invariant-loop-rest l = l.fn.packed ≡ splits_bytes l.list.items ++ l.rest
+
+abbrev pub decreases-loop-rest : goal.decreases-loop-rest
+decreases-loop-rest l = length l.rest

@@ -1,0 +1,5 @@
+use Rattle.std.proofs.Common.{rules}
+use Rattle.mst_c_blocks.proofs.telling.number.Goals as goal
+
+pub returns : goal.returns
+returns c = search rules

@@ -1,0 +1,10 @@
+pub mod Codes
+pub mod States
+pub mod Holding
+pub mod Owning
+pub mod Splits
+pub mod Opened
+pub mod Told
+pub mod Making
+pub mod Reading
+pub mod Proving

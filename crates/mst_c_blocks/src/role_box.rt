@@ -1,0 +1,234 @@
+//! What a hand of a sharded map with blocks holds: its writer, a reader or a snapshot, each with a
+//! share of the map.
+ghost use Rattle.std.specs.Prelude.{◌≡◌, ◌≤◌, true, length, Some, None, Ok, Err, IfOk, IfErr};
+ghost use Rattle.std.specs.Option.{option_copied};
+ghost use Rattle.mst_key.specs.Map.{map_next, map_range};
+ghost use Rattle.mst_c_blocks.specs.Holding.{shards_in, Numbers, HasRoot, Tries, Releases, Gets, Reads, Lists};
+ghost use Rattle.mst_c_blocks.specs.Making.{Makes};
+ghost use Rattle.mst_c_blocks.specs.Proving.{HasProof, HasDirectory};
+ghost use Rattle.mst_c_blocks.specs.Reading.{OfMap, HasFormat};
+ghost use Rattle.mst_c_blocks.specs.States.{IsThere, PinsNone};
+
+use crate::asking::{
+    Unread, directory_of, format_of, next_of, proof_of, range_of, root_of, try_of, value_of,
+};
+use crate::hand::{BlocksHand, BlocksTaken, PaddedBlocksHand, give};
+use crate::making::{Unmade, apply};
+use mst_blocks::Writer;
+use mst_c::packing::Packed;
+use mst_key::{Format, Key, Value};
+use mst_snapshots::{Reader, Snapshot};
+use std::alloc::Global;
+use std::marker::Model;
+use std::mem::replace;
+
+/// The writer of a map, a reader, a snapshot, or none while it is in use.
+#[derive(Drop)]
+pub enum Role {
+    Away,
+    Writer(Writer<Global>),
+    Reader(Reader<Global>),
+    Snapshot(Snapshot<Global>),
+}
+
+/// What no call writes at the end of a box.
+const PADDING: [u64; 16] = [0; 16];
+
+/// A writer, a reader or a snapshot, each with its share of the map. Each call moves it out and
+/// back, so the box ends with padding, as that of a pass.
+#[derive(Drop)]
+pub struct RoleBox {
+    role: Role,
+    padding: [u64; 16],
+}
+
+/// Contracts see the writer, the reader or the snapshot.
+impl Model for RoleBox {
+    ghost use Rattle.mst_c_blocks.specs.declared.role_box.Role.{Role};
+    ghost use Rattle.mst_c_blocks.specs.States.{IsThere};
+
+    ghost Value = { Role };
+
+    ghost view = { λ b. b.role };
+
+    ghost invariant = { λ b. IsThere b.role };
+}
+
+/// A writer or a reader goes into an empty hand. Nothing else makes a `RoleBox`, so no other body
+/// has one to put in the place of what it took out of a hand.
+pub(crate) fn hand_out(alloc: Global, role: Role, hand: &mut BlocksHand) -> bool
+    requires there { IsThere role }
+    requires empty { hand.old.held ≡ None }
+    ensures held { result ≡ true → hand.new.held ≡ Some role }
+{
+    let held = RoleBox {
+        role,
+        padding: PADDING,
+    };
+    match Box::new(alloc, held) {
+        Ok(held) => {
+            give(hand, BlocksTaken::of(held));
+            true
+        }
+        Err(_) => false,
+    }
+}
+
+/// The same for a hand of an array.
+pub(crate) fn hand_out_padded(alloc: Global, role: Role, hand: &mut PaddedBlocksHand) -> bool
+    requires there { IsThere role }
+    requires empty { hand.old.hand.held ≡ None }
+    ensures held { result ≡ true → hand.new.hand.held ≡ Some role }
+{
+    hand_out(alloc, role, &mut hand.hand)
+}
+
+impl RoleBox {
+    /// How many shards there are.
+    pub(crate) fn shards(&self) -> usize
+        ensures count { result ≡ shards_in self.now }
+        ensures most { result ≤ 1024 }
+    {
+        match &self.role {
+            Role::Away => unreachable!(),
+            Role::Writer(writer) => writer.shards(),
+            Role::Reader(reader) => reader.shards(),
+            Role::Snapshot(snapshot) => snapshot.shards(),
+        }
+    }
+
+    /// The number of the writer's last block, or of the snapshot's block.
+    pub(crate) fn number(&self) -> Option<u64>
+        ensures number { Numbers self.now result }
+    {
+        match &self.role {
+            Role::Away => unreachable!(),
+            Role::Writer(writer) => Some(writer.number()),
+            Role::Reader(_) => None,
+            Role::Snapshot(snapshot) => Some(snapshot.number()),
+        }
+    }
+
+    /// The root digest of the writer's last block, or of the snapshot's block.
+    pub(crate) fn root(&mut self) -> Option<[u8; 32]>
+        ensures root { HasRoot self.old result self.new }
+    {
+        let (role, root) = root_of(replace(&mut self.role, Role::Away));
+        self.role = role;
+        root
+    }
+
+    /// Makes the edits of a buffer as the next block, if this is the writer.
+    pub(crate) fn apply(&mut self, alloc: Global, packed: &Packed<'_>) -> Result<u64, Unmade>
+        ensures makes { Makes packed.now self.old result self.new }
+    {
+        let (role, made) = apply(replace(&mut self.role, Role::Away), alloc, packed);
+        self.role = role;
+        made
+    }
+
+    /// Whether a reader has turned into a snapshot. There is no answer of what is no reader.
+    pub(crate) fn try_snapshot(&mut self) -> Option<bool>
+        ensures tries { Tries self.old result self.new }
+    {
+        let (role, taken) = try_of(replace(&mut self.role, Role::Away));
+        self.role = role;
+        taken
+    }
+
+    /// Ends the pins, if this is a snapshot.
+    pub(crate) fn release(&mut self) -> bool
+        ensures releases { Releases self.old result self.new }
+        ensures free { PinsNone self.new }
+    {
+        match replace(&mut self.role, Role::Away) {
+            Role::Away => unreachable!(),
+            Role::Writer(writer) => {
+                self.role = Role::Writer(writer);
+                false
+            }
+            Role::Reader(reader) => {
+                self.role = Role::Reader(reader);
+                false
+            }
+            Role::Snapshot(snapshot) => {
+                self.role = Role::Reader(snapshot.release());
+                true
+            }
+        }
+    }
+
+    /// The value of a key, of a reader or a snapshot.
+    pub(crate) fn get(&mut self, key: &Key) -> Option<Option<Value>>
+        ensures gets { Gets key.now self.old result self.new }
+    {
+        let (role, found) = value_of(replace(&mut self.role, Role::Away), key);
+        self.role = role;
+        found
+    }
+
+    /// The pair of the least key above the bound, of a snapshot.
+    pub(crate) fn next(&mut self, after: Option<&Key>) -> Option<Option<(Key, Value)>>
+        ensures reads { Reads (OfMap (λ m. map_next m (option_copied after.entry))) self.old result
+            self.new }
+    {
+        let (role, found) = next_of(replace(&mut self.role, Role::Away), after);
+        self.role = role;
+        found
+    }
+
+    /// The format of all shards, of a snapshot.
+    pub(crate) fn format(&mut self) -> Option<Format>
+        ensures reads { Reads HasFormat self.old result self.new }
+    {
+        let (role, found) = format_of(replace(&mut self.role, Role::Away));
+        self.role = role;
+        found
+    }
+
+    /// The first pairs, at most `limit`, of the keys that are at least `from` and below `to`, of a
+    /// snapshot.
+    pub(crate) fn range(
+        &mut self,
+        alloc: Global,
+        from: Option<&Key>,
+        to: Option<&Key>,
+        limit: usize,
+    ) -> Result<Vec<(Key, Value), Global>, Unread>
+        ensures ok { IfOk result (λ pairs. Lists
+            (OfMap (λ m. map_range m (option_copied from.entry) (option_copied to.entry) limit))
+            self.old (Ok pairs.items) self.new) }
+        ensures few { IfOk result (λ pairs. length pairs.items ≤ limit) }
+        ensures err { IfErr result (λ fault. Lists
+            (OfMap (λ m. map_range m (option_copied from.entry) (option_copied to.entry) limit))
+            self.old (Err fault) self.new) }
+    {
+        let role = replace(&mut self.role, Role::Away);
+        let (role, found) = range_of(role, alloc, from, to, limit);
+        self.role = role;
+        found
+    }
+
+    /// The proof of the key's answer, of a snapshot.
+    pub(crate) fn prove(&mut self, alloc: Global, key: &Key) -> Result<Vec<u8, Global>, Unread>
+        ensures ok { IfOk result
+            (λ bytes. Lists (HasProof key.now) self.old (Ok bytes.items) self.new) }
+        ensures err { IfErr result
+            (λ fault. Lists (HasProof key.now) self.old (Err fault) self.new) }
+    {
+        let (role, found) = proof_of(replace(&mut self.role, Role::Away), alloc, key);
+        self.role = role;
+        found
+    }
+
+    /// The directory, of a snapshot.
+    pub(crate) fn directory(&mut self, alloc: Global) -> Result<Vec<(Key, Value), Global>, Unread>
+        ensures ok { IfOk result (λ pairs. Lists HasDirectory self.old (Ok pairs.items) self.new) }
+        ensures few { IfOk result (λ pairs. length pairs.items ≤ 1024) }
+        ensures err { IfErr result (λ fault. Lists HasDirectory self.old (Err fault) self.new) }
+    {
+        let (role, found) = directory_of(replace(&mut self.role, Role::Away), alloc);
+        self.role = role;
+        found
+    }
+}

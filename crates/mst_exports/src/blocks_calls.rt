@@ -1,0 +1,217 @@
+//! The calls of blocks of sharded maps for C. Their numbers, and the order of their tests, are
+//! those of the calls of a store.
+ghost use Rattle.std.specs.Prelude.{◌≡◌, ◌≢◌, ◌↔◌, ◌⊎◌, ℕ, List, pos, length as count, None, IsSome};
+ghost use Rattle.mst_c.specs.Codes.{unknown_format, memory, bad_shape, bad_splits};
+ghost use Rattle.mst_c.specs.Formats.{format_named};
+ghost use Rattle.mst_c.specs.Opened.{IsSize};
+ghost use Rattle.mst_c_blocks.specs.Making.{ApplyTold};
+ghost use Rattle.mst_c_blocks.specs.Opened.{BlocksOpened, NoneHeld};
+ghost use Rattle.mst_c_blocks.specs.Proving.{ProveTold, DirectoryTold};
+ghost use Rattle.mst_c_blocks.specs.Reading.{NextTold, RangeTold, FormatTold};
+ghost use Rattle.mst_c_blocks.specs.Splits.{PacksSplits};
+ghost use Rattle.mst_c_blocks.specs.Told.{GetTold, ShardsTold, NumberTold, RootTold, TryTold, ReleaseTold, CloseTold};
+
+use mst_c_blocks::hand::{BlocksHand, PaddedBlocksHand};
+use mst_c_blocks::{making, opening, proving, reading, telling};
+use std::alloc::Global;
+
+/// Opens a sharded map of the empty map in format 1 or 2, each shard with `rows` rows, and makes
+/// block 0. Puts its writer into the first of the hands, and a reader into each of the others. What
+/// a hand held before is closed. The splits stand in a buffer: each is a byte for its length, and
+/// its bytes. Returns 0; -3 for another format; -26 if the buffer has bytes that are no keys, or
+/// keys that do not rise strictly from above that of one zero byte, or more than 1,023 of them; -10
+/// if a store cannot have that many rows or passes; -9 if a growth was refused; and no other
+/// number. If it does not return 0, all hands are empty.
+#[unsafe(no_mangle)]
+pub extern "C" fn mst_blocks_open(
+    alloc: Global,
+    format: u32,
+    rows: u32,
+    splits: &[u8],
+    hands: &mut [PaddedBlocksHand],
+) -> i32
+    ensures opened { result ≡ pos 0 → BlocksOpened format rows splits.now hands.new }
+    ensures empty { result ≢ pos 0 → NoneHeld hands.new }
+    ensures format { result ≡ unknown_format ↔ (format_named format ≡ None) }
+    ensures splits { result ≡ bad_splits
+        → IsSome (format_named format) × ((ss : List (List ℕ)) → PacksSplits splits.now ss → ⊥) }
+    ensures size { result ≡ bad_shape → IsSome (format_named format)
+        × ((ss : List (List ℕ)) × PacksSplits splits.now ss)
+        × ¬ (IsSize rows (count hands.old)) }
+    ensures range { (result ≡ pos 0) ⊎ (result ≡ unknown_format) ⊎ (result ≡ bad_splits)
+        ⊎ (result ≡ bad_shape) ⊎ (result ≡ memory) }
+{
+    opening::open(alloc, format, rows, splits, hands)
+}
+
+/// Closes the writer, the reader or the snapshot, whose pins end first. Returns 0 or -7. The map is
+/// freed with the last hand that is closed.
+#[unsafe(no_mangle)]
+pub extern "C" fn mst_blocks_close(alloc: Global, hand: &mut BlocksHand) -> i32
+    ensures told { CloseTold hand.old.held result hand.new.held }
+{
+    telling::close(alloc, hand)
+}
+
+/// Returns how many shards the map has, 1 to 1,024; or -7.
+#[unsafe(no_mangle)]
+pub extern "C" fn mst_blocks_shards(alloc: Global, hand: &mut BlocksHand) -> i32
+    ensures told { ShardsTold hand.old.held result hand.new.held }
+{
+    telling::shards(alloc, hand)
+}
+
+/// Makes the edits of a buffer, which is as that of `mst_try_apply`, of all shards as the writer's
+/// next block: whole, or not at all. Returns 0, and `number` is the block's number.
+///
+/// Otherwise nothing is changed, and `number` stays. Returns -21, -22, -9, -23 if a shard was
+/// refused its edits, or -29 if another has written to it: `shard` is the number of this shard,
+/// from 0. The same for the directory, and -9 if a list was refused memory: `shard` is then the
+/// number of the shards. Returns -7; -5, -6, -25 for what is no edit, and then `place` is the
+/// number of the first such one, from 0; -8 for a reader or a snapshot: `shard` stays, as with 0.
+/// `place` stays where no edit is refused.
+#[unsafe(no_mangle)]
+pub extern "C" fn mst_blocks_apply(
+    alloc: Global,
+    hand: &mut BlocksHand,
+    edits: &[u8],
+    place: &mut usize,
+    shard: &mut usize,
+    number: &mut u64,
+) -> i32
+    ensures told { ApplyTold hand.old.held edits.now place.old shard.old number.old result
+        place.new shard.new number.new hand.new.held }
+{
+    making::apply_edits(alloc, hand, edits, place, shard, number)
+}
+
+/// Sets `number` to the number of the writer's last block, or of the snapshot's block: 0 is the
+/// empty map. Returns 0; or -7, -8 for a reader, and then the number stays.
+#[unsafe(no_mangle)]
+pub extern "C" fn mst_blocks_number(alloc: Global, hand: &mut BlocksHand, number: &mut u64) -> i32
+    ensures told { NumberTold hand.old.held number.old result number.new hand.new.held }
+{
+    telling::number(alloc, hand, number)
+}
+
+/// Turns the reader into a snapshot, which pins all shards and the directory as of one block: each
+/// read is of it until `mst_blocks_release`. Returns 0; -7; -8 for the writer or a snapshot; -30
+/// while a block is published, and then the reader stays.
+#[unsafe(no_mangle)]
+pub extern "C" fn mst_blocks_try_snapshot(alloc: Global, hand: &mut BlocksHand) -> i32
+    ensures told { TryTold hand.old.held result hand.new.held }
+{
+    telling::try_snapshot(alloc, hand)
+}
+
+/// Turns the snapshot into a reader: its pins end. Returns 0; -7; -8 for the writer or a reader.
+#[unsafe(no_mangle)]
+pub extern "C" fn mst_blocks_release(alloc: Global, hand: &mut BlocksHand) -> i32
+    ensures told { ReleaseTold hand.old.held result hand.new.held }
+{
+    telling::release(alloc, hand)
+}
+
+/// As `mst_get`: of a snapshot from its block, of a reader from the current version of the key's
+/// shard. Returns -7, -5, -8 for the writer, -1, -2.
+#[unsafe(no_mangle)]
+pub extern "C" fn mst_blocks_get(
+    alloc: Global,
+    hand: &mut BlocksHand,
+    key: &[u8],
+    room: &mut [u8],
+) -> i32
+    ensures told { GetTold hand.old.held key.now room.old result room.new hand.new.held }
+{
+    telling::get(alloc, hand, key, room)
+}
+
+/// As `mst_next`, in the map of a snapshot's block. Returns -7; -5 for a bound of more than 32
+/// bytes; -8 for the writer or a reader; -1 if there is no such pair; -2 if one of the two rooms is
+/// too short. With each of these both rooms and `length` stay.
+#[unsafe(no_mangle)]
+pub extern "C" fn mst_blocks_next(
+    alloc: Global,
+    hand: &mut BlocksHand,
+    key: &[u8],
+    key_room: &mut [u8],
+    length: &mut usize,
+    room: &mut [u8],
+) -> i32
+    ensures told { NextTold hand.old.held key.now key_room.old length.old room.old result
+        key_room.new length.new room.new hand.new.held }
+{
+    reading::next(alloc, hand, key, key_room, length, room)
+}
+
+/// As `mst_range`, in the map of a snapshot's block. Returns 0 or -2. Returns -7, -5 for a bound of
+/// more than 32 bytes, -8 for the writer or a reader, -9: room and both numbers stay.
+#[unsafe(no_mangle)]
+pub extern "C" fn mst_blocks_range(
+    alloc: Global,
+    hand: &mut BlocksHand,
+    from: &[u8],
+    to: &[u8],
+    limit: u32,
+    room: &mut [u8],
+    count: &mut usize,
+    length: &mut usize,
+) -> i32
+    ensures told { RangeTold hand.old.held from.now to.now limit room.old count.old length.old
+        result room.new count.new length.new hand.new.held }
+{
+    reading::range(alloc, hand, from, to, limit, room, count, length)
+}
+
+/// Returns the number of the format of a snapshot's block, 1 or 2; -7; -8 for the writer or a
+/// reader.
+#[unsafe(no_mangle)]
+pub extern "C" fn mst_blocks_format(alloc: Global, hand: &mut BlocksHand) -> i32
+    ensures told { FormatTold hand.old.held result hand.new.held }
+{
+    reading::format(alloc, hand)
+}
+
+/// Returns 32, the length of the root digest of the writer's last block, or of the snapshot's
+/// block, and its bytes stand first in the room. Returns -7; -8 for a reader; -2 for a room of less
+/// than 32 bytes.
+#[unsafe(no_mangle)]
+pub extern "C" fn mst_blocks_root(alloc: Global, hand: &mut BlocksHand, root: &mut [u8]) -> i32
+    ensures told { RootTold hand.old.held root.old result root.new hand.new.held }
+{
+    proving::root(alloc, hand, root)
+}
+
+/// Makes the proof of the key's answer against the root digest of the same snapshot. Returns 0: its
+/// bytes stand first in the room, and their number in `length`. Returns -2: `length` is their
+/// number, and the room stays. Returns -7, -5, -8 for the writer or a reader, -9: both stay.
+#[unsafe(no_mangle)]
+pub extern "C" fn mst_blocks_prove(
+    alloc: Global,
+    hand: &mut BlocksHand,
+    key: &[u8],
+    room: &mut [u8],
+    length: &mut usize,
+) -> i32
+    ensures told { ProveTold hand.old.held key.now room.old length.old result room.new length.new
+        hand.new.held }
+{
+    proving::prove(alloc, hand, key, room, length)
+}
+
+/// Lists the directory of a snapshot as `mst_range` lists pairs: of each shard its lower bound,
+/// with its root digest and its upper bound as the value. Returns 0 or -2. Returns -7, -8 for the
+/// writer or a reader, -9: room and both numbers stay.
+#[unsafe(no_mangle)]
+pub extern "C" fn mst_blocks_directory(
+    alloc: Global,
+    hand: &mut BlocksHand,
+    room: &mut [u8],
+    count: &mut usize,
+    length: &mut usize,
+) -> i32
+    ensures told { DirectoryTold hand.old.held room.old count.old length.old result room.new
+        count.new length.new hand.new.held }
+{
+    proving::directory(alloc, hand, room, count, length)
+}

@@ -1,0 +1,151 @@
+/*
+ * A malloc that counts, and that refuses its n-th call: an opening of a map with blocks leaves all
+ * hands empty, a block leaves the map and the number as they were, each question leaves its
+ * snapshot as it was, and nothing is ever leaked.
+ */
+#include "heap.h"
+#include "blocks.h"
+
+static uint8_t proof[65536];
+
+/* How many openings were refused before one was not. Nothing is leaked. */
+static long openings(void) {
+    for (long n = 0; n < 4000; n++) {
+        mst_blocks_handle hands[3] = {MST_BLOCKS_HANDLE_CLOSED};
+        live = 0;
+        count_from(n);
+        int32_t told = mst_blocks_open(1, 16, TEXT("\1b\1c"), hands, 3);
+        count_on();
+        for (int i = 0; i < 3; i++) {
+            int32_t closed = mst_blocks_close(&hands[i]);
+            EXPECT(closed == (told == MST_OK ? MST_OK : MST_CLOSED) && hands[i].at == NULL);
+        }
+        counting = 0;
+        EXPECT(live == 0);
+        EXPECT(told == MST_OK || told == MST_MEMORY);
+        if (told == MST_OK)
+            return n;
+    }
+    return -1;
+}
+
+/* Puts of ten keys into each of three shards. */
+static void thirty_edits(uint8_t value) {
+    length = 0;
+    for (uint8_t at = 0; at < 30; at++) {
+        uint8_t key[2] = {(uint8_t)("alz"[at % 3]), at};
+        length = mst_edit_put(edits, length, key, 2, &value, 1);
+    }
+}
+
+/* Whether all of these keys have the value. */
+static int have(mst_blocks_handle *by, uint8_t value) {
+    int all = 1;
+    for (uint8_t at = 0; at < 30; at++) {
+        uint8_t key[2] = {(uint8_t)("alz"[at % 3]), at};
+        all = all && mst_blocks_get(by, key, 2, room, sizeof room) == 1 && room[0] == value;
+    }
+    return all;
+}
+
+/*
+ * How many blocks were refused before one was not. None has changed anything, and each has told a
+ * shard, or the number of the shards for the directory and for lists, in this order: lists, shards,
+ * the directory.
+ */
+static long blocks(mst_blocks_handle *writer, mst_blocks_handle *reader) {
+    long lists = 0, shards[3] = {0, 0, 0}, directory = 0;
+    thirty_edits(1);
+    EXPECT(made_by(writer) == MST_OK && number == 1);
+    thirty_edits(2);
+    for (long n = 0; n < 1000; n++) {
+        place = shard = 77, number = 77;
+        long before = live;
+        count_from(n);
+        int32_t told = made_by(writer);
+        count_on();
+        EXPECT(live == before && place == 77);
+        if (told == MST_OK) {
+            EXPECT(number == 2 && shard == 77 && have(reader, 2));
+            EXPECT(lists > 0 && directory > 0 && shards[0] > 0 && shards[1] > 0 && shards[2] > 0);
+            return n;
+        }
+        EXPECT(told == MST_MEMORY && number == 77 && shard <= 3);
+        EXPECT(has_number(writer, 1) && have(reader, 1));
+        EXPECT(mst_blocks_try_snapshot(reader) == MST_OK && has_number(reader, 1));
+        EXPECT(have_one_root(writer, reader) && mst_blocks_release(reader) == MST_OK);
+        if (shard < 3)
+            shards[shard]++;
+        else if (shards[2] == 0)
+            lists++;
+        else
+            directory++;
+    }
+    return -1;
+}
+
+enum question { PROOF, RANGE, DIRECTORY };
+
+static int32_t ask(mst_blocks_handle *then, enum question what, size_t *told) {
+    size_t count = 0;
+    switch (what) {
+    case PROOF: return mst_blocks_prove(then, TEXT("key"), proof, sizeof proof, told);
+    case RANGE:
+        return mst_blocks_range(then, NULL, 0, NULL, 0, 99, proof, sizeof proof, &count, told);
+    default: return mst_blocks_directory(then, proof, sizeof proof, &count, told);
+    }
+}
+
+/* How many calls were refused before one was not. The snapshot goes on after each. */
+static long asked_for(mst_blocks_handle *then, enum question what) {
+    for (long n = 0; n < 400; n++) {
+        size_t told = 7;
+        long before = live;
+        count_from(n);
+        int32_t answer = ask(then, what, &told);
+        count_on();
+        EXPECT(live == before && have(then, 2) && has_number(then, 2));
+        if (answer != MST_MEMORY) {
+            EXPECT(answer == MST_OK && told != 7);
+            return n;
+        }
+        EXPECT(told == 7);
+    }
+    return -1;
+}
+
+/* Snapshots and their short answers ask for no memory: the first growth would be refused. */
+static void without_memory(mst_blocks_handle *writer, mst_blocks_handle *reader) {
+    uint8_t key[MST_KEY_LONGEST];
+    size_t told = 7;
+    asked = 0;
+    count_from(0);
+    EXPECT(mst_blocks_shards(writer) == 3 && mst_blocks_shards(reader) == 3);
+    EXPECT(mst_blocks_get(reader, TEXT("a"), room, 64) == MST_ABSENT);
+    EXPECT(mst_blocks_try_snapshot(reader) == MST_OK && have_one_root(writer, reader));
+    EXPECT(has_number(writer, 2) && has_number(reader, 2) && have(reader, 2));
+    EXPECT(mst_blocks_next(reader, NULL, 0, key, sizeof key, &told, room, 64) == 1 && told == 2);
+    EXPECT(mst_blocks_format(reader) == 1 && mst_blocks_release(reader) == MST_OK);
+    EXPECT(mst_blocks_snapshot(reader) == MST_OK && asked == 0);
+    count_on();
+}
+
+int main(void) {
+    mst_blocks_handle hands[2] = {MST_BLOCKS_HANDLE_CLOSED, MST_BLOCKS_HANDLE_CLOSED};
+    long opened = openings();
+    EXPECT(opened > 0);
+    live = 0;
+    count_from(-1);
+    EXPECT(mst_blocks_open(1, 64, TEXT("\1b\1m"), hands, 2) == MST_OK);
+    long refused = blocks(&hands[0], &hands[1]);
+    EXPECT(refused > 10);
+    without_memory(&hands[0], &hands[1]);
+    long proofs = asked_for(&hands[1], PROOF), ranges = asked_for(&hands[1], RANGE);
+    EXPECT(proofs > 0 && ranges > 0 && asked_for(&hands[1], DIRECTORY) > 0);
+    EXPECT(mst_blocks_close(&hands[0]) == MST_OK && mst_blocks_close(&hands[1]) == MST_OK);
+    counting = 0;
+    EXPECT(live == 0);
+    printf("%ld openings, %ld blocks, %ld proofs and %ld ranges refused\n", opened, refused, proofs,
+           ranges);
+    return ended("blocks_nomem");
+}

@@ -1,0 +1,193 @@
+/*
+ * Random blocks of a sharded map against a plain array, with snapshots that keep their block while
+ * the writer goes on: each answer is the array's, and the root digest is the one that the writer
+ * had at that number.
+ *
+ *     blocks_walk [BLOCKS]
+ */
+#include "blocks.h"
+#include "mst_verifier.h"
+#include <stdlib.h>
+
+#define HANDS 4   /* the writer, and three readers */
+#define KEYS 256  /* keys are of one byte */
+#define SHARDS 16 /* of the map of the random blocks */
+#define PROOF_ROOM 65536
+
+static uint8_t root[MST_ROOT_LENGTH], proof[PROOF_ROOM], key_room[MST_KEY_LONGEST];
+static uint8_t pairs[KEYS * MST_PAIR_LONGEST];
+
+static uint64_t state = 88172645463325252u;
+
+static uint32_t random_below(uint32_t limit) {
+    state ^= state << 13;
+    state ^= state >> 7;
+    state ^= state << 17;
+    return (uint32_t)(state >> 32) % limit;
+}
+
+/* What a block leaves: the value of each key, -1 where there is no such key, and what it has. */
+struct block {
+    int values[KEYS];
+    uint64_t number;
+    uint8_t root[MST_ROOT_LENGTH];
+};
+
+static struct block now, pinned[HANDS];
+static int pins[HANDS];
+static mst_blocks_handle hands[HANDS];
+
+static int is_value(int32_t told, const uint8_t *bytes, const struct block *block, int key) {
+    int value = block->values[key];
+    return value < 0 ? told == MST_ABSENT : told == 1 && bytes[0] == value;
+}
+
+/* An edit of a key at random, which the array makes too. */
+static void random_edit(void) {
+    uint8_t key = (uint8_t)random_below(KEYS), value = (uint8_t)random_below(256);
+    int is_put = random_below(3) > 0;
+    length = is_put ? mst_edit_put(edits, length, &key, 1, &value, 1)
+        : mst_edit_remove(edits, length, &key, 1);
+    now.values[key] = is_put ? value : -1;
+}
+
+/* One block, of no edits too, after which the number is one more. */
+static void makes_block(void) {
+    uint32_t count = random_below(MOST + 1);
+    for (length = 0; count > 0; count--)
+        random_edit();
+    place = shard = 77;
+    EXPECT(made_by(&hands[0]) == MST_OK && place == 77 && shard == 77);
+    EXPECT(number == ++now.number && has_number(&hands[0], number));
+    EXPECT(mst_blocks_root(&hands[0], now.root, MST_ROOT_LENGTH) == MST_ROOT_LENGTH);
+}
+
+/* All keys of the current map, each read from its shard. */
+static void reads_now(mst_blocks_handle *reader) {
+    for (int at = 0; at < KEYS; at++) {
+        uint8_t key = (uint8_t)at;
+        EXPECT(is_value(mst_blocks_get(reader, &key, 1, room, sizeof room), room, &now, at));
+    }
+}
+
+/* The pairs of a snapshot from a key on, and the next one above it. */
+static void lists(mst_blocks_handle *then, const struct block *block, int first) {
+    size_t count = 0, bytes = 0, begins = 0, next_length = 77;
+    uint8_t from = (uint8_t)first;
+    EXPECT(mst_blocks_range(then, &from, 1, NULL, 0, KEYS, pairs, sizeof pairs, &count, &bytes)
+           == MST_OK);
+    for (int key = first; key < KEYS; key++) {
+        mst_pair pair;
+        if (block->values[key] < 0)
+            continue;
+        EXPECT(begins < bytes);
+        begins = mst_pair_at(pairs, begins, &pair);
+        EXPECT(pair.key_length == 1 && pair.key[0] == key
+               && is_value((int32_t)pair.value_length, pair.value, block, key));
+        count--;
+    }
+    EXPECT(count == 0 && begins == bytes);
+    int key = first + 1;
+    while (key < KEYS && block->values[key] < 0)
+        key++;
+    int32_t told = mst_blocks_next(then, &from, 1, key_room, 32, &next_length, room, 64);
+    EXPECT(key < KEYS ? next_length == 1 && key_room[0] == key && is_value(told, room, block, key)
+           : told == MST_ABSENT && next_length == 77);
+}
+
+/* Each answer of a snapshot is that of its block, with the root digest that the writer had then. */
+static void audits(uint32_t format, mst_blocks_handle *then, const struct block *block) {
+    size_t count = 0, bytes = 0;
+    EXPECT(has_number(then, block->number) && mst_blocks_format(then) == (int32_t)format);
+    EXPECT(mst_blocks_root(then, root, sizeof root) == MST_ROOT_LENGTH
+           && memcmp(root, block->root, sizeof root) == 0);
+    for (int at = 0; at < KEYS; at += 1 + (int)random_below(32)) {
+        uint8_t key = (uint8_t)at;
+        EXPECT(is_value(mst_blocks_get(then, &key, 1, room, sizeof room), room, block, at));
+        EXPECT(mst_blocks_prove(then, &key, 1, proof, sizeof proof, &bytes) == MST_OK);
+        int32_t told = mst_verify_sharded(format, root, sizeof root, &key, 1, proof, bytes, room,
+                                          sizeof room);
+        EXPECT(is_value(told, room, block, at));
+    }
+    EXPECT(mst_blocks_directory(then, pairs, sizeof pairs, &count, &bytes) == MST_OK);
+    EXPECT(count == SHARDS);
+}
+
+/* A reader takes a snapshot of the last block, or ends one; a snapshot is looked at. */
+static void reads(uint32_t format) {
+    int at = 1 + (int)random_below(HANDS - 1);
+    mst_blocks_handle *hand = &hands[at];
+    if (!pins[at] && random_below(2)) {
+        reads_now(hand);
+        EXPECT(mst_blocks_try_snapshot(hand) == MST_OK);
+        pinned[at] = now;
+        pins[at] = 1;
+    }
+    if (pins[at]) {
+        audits(format, hand, &pinned[at]);
+        lists(hand, &pinned[at], (int)random_below(KEYS));
+    }
+    if (pins[at] && random_below(4) == 0) {
+        EXPECT(mst_blocks_release(hand) == MST_OK);
+        pins[at] = 0;
+    }
+}
+
+static void against_an_array(uint32_t format, long blocks) {
+    uint8_t splits[(SHARDS - 1) * MST_SPLIT_LONGEST];
+    size_t end = 0;
+    for (uint8_t at = 1; at < SHARDS; at++) {
+        uint8_t key = (uint8_t)(16 * at);
+        end = mst_split(splits, end, &key, 1);
+    }
+    now.number = 0;
+    for (int at = 0; at < KEYS; at++)
+        now.values[at] = -1;
+    EXPECT(mst_blocks_open(format, 256, splits, end, hands, HANDS) == MST_OK);
+    EXPECT(has_number(&hands[0], 0));
+    EXPECT(mst_blocks_root(&hands[0], now.root, MST_ROOT_LENGTH) == MST_ROOT_LENGTH);
+    for (long made = 0; made < blocks; made++) {
+        reads(format);
+        makes_block();
+    }
+    for (int at = 0; at < HANDS; at++) {
+        EXPECT(mst_blocks_close(&hands[at]) == MST_OK);
+        pins[at] = 0;
+    }
+}
+
+/* A map that was led to by other blocks has the same root digest, and so has a sharded map. */
+static void one_root_for_one_content(void) {
+    mst_blocks_handle one = MST_BLOCKS_HANDLE_CLOSED, other = MST_BLOCKS_HANDLE_CLOSED;
+    mst_handle handle = MST_HANDLE_CLOSED;
+    uint8_t its[MST_ROOT_LENGTH];
+    EXPECT(mst_blocks_open(1, 16, TEXT("\1b"), &one, 1) == MST_OK);
+    EXPECT(mst_blocks_open(1, 32, TEXT("\1b"), &other, 1) == MST_OK);
+    EXPECT(mst_sharded_open(1, 16, TEXT("\1b"), &handle, 1) == MST_OK);
+    length = 0;
+    puts_edit("a", "1");
+    puts_edit("c", "2");
+    EXPECT(made_by(&one) == MST_OK);
+    length = 0;
+    puts_edit("c", "2");
+    puts_edit("b", "3");
+    EXPECT(made_by(&other) == MST_OK && !have_one_root(&one, &other));
+    length = 0;
+    puts_edit("a", "1");
+    removes_edit("b");
+    EXPECT(made_by(&other) == MST_OK && number == 2 && have_one_root(&one, &other));
+    EXPECT(mst_sharded_put(&handle, TEXT("c"), TEXT("2"), room, 64) == MST_ABSENT);
+    EXPECT(mst_sharded_put(&handle, TEXT("a"), TEXT("1"), room, 64) == MST_ABSENT);
+    EXPECT(mst_sharded_snapshot(&handle) == MST_OK && mst_sharded_root(&handle, its, 32) == 32);
+    EXPECT(mst_blocks_root(&one, root, 32) == 32 && memcmp(root, its, 32) == 0);
+    EXPECT(mst_blocks_close(&one) == MST_OK && mst_blocks_close(&other) == MST_OK);
+    EXPECT(mst_sharded_close(&handle) == MST_OK);
+}
+
+int main(int count, char **words) {
+    long blocks = count > 1 ? atol(words[1]) : 2000;
+    one_root_for_one_content();
+    against_an_array(1, blocks);
+    against_an_array(2, blocks);
+    return ended("blocks_walk");
+}

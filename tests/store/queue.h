@@ -1,0 +1,139 @@
+/*
+ * The writer of a group without a store. Its calls note what they are given, find out if two
+ * threads are in them at a time, and hold a thread up for as long as a test wants, so that others
+ * come meanwhile. Memory is refused on demand. This stands before all other headers.
+ */
+#ifndef QUEUE_H
+#define QUEUE_H
+
+/* stdlib.h declares it instead */
+#define malloc granted
+#include "../../bindings/group.c"
+#undef malloc
+#include "../../bindings/buffers.c"
+#include <stdatomic.h>
+
+enum { THREADS = 8, MOST_CALLS = 64 };
+
+static int tag;             /* where the hand of the writer points */
+static int is_reader;       /* whether what the hand holds is a reader instead */
+static int is_empty_handed; /* whether memory is refused */
+static atomic_long grants;  /* how often it was asked for */
+
+/* What the writer was given, one call after the other; only the thread in the call writes here. */
+static struct call {
+    const uint8_t *edits;
+    size_t length;
+    uint8_t last; /* the last byte of the edits */
+    pthread_t by;
+    int32_t told;
+} calls[MOST_CALLS];
+static size_t called;
+static uint64_t blocks;
+static uint8_t values[THREADS]; /* of the keys that are bytes below this, as blocks leave them */
+static atomic_int within, entered_by_two;
+
+/* A thread in the writer's call waits while the gate is closed. */
+static pthread_mutex_t gate = PTHREAD_MUTEX_INITIALIZER;
+static pthread_cond_t opened = PTHREAD_COND_INITIALIZER;
+static int is_closed, waits_there;
+
+/* No bytes are given as none, as a malloc may. */
+void *granted(size_t size) {
+    atomic_fetch_add(&grants, 1);
+    return is_empty_handed || size == 0 ? NULL : calloc(1, size);
+}
+
+static void pass_gate(void) {
+    pthread_mutex_lock(&gate);
+    waits_there = is_closed;
+    while (is_closed)
+        pthread_cond_wait(&opened, &gate);
+    pthread_mutex_unlock(&gate);
+}
+
+static void close_gate(void) {
+    pthread_mutex_lock(&gate);
+    is_closed = 1;
+    waits_there = 0;
+    pthread_mutex_unlock(&gate);
+}
+
+static void open_gate(void) {
+    pthread_mutex_lock(&gate);
+    is_closed = 0;
+    pthread_cond_broadcast(&opened);
+    pthread_mutex_unlock(&gate);
+}
+
+static int someone_waits(void) {
+    pthread_mutex_lock(&gate);
+    int is = waits_there;
+    pthread_mutex_unlock(&gate);
+    return is;
+}
+
+static size_t next_edit(const uint8_t *edits, size_t at) {
+    return at + HEAD + length_at(edits + at + 1) + length_at(edits + at + 3);
+}
+
+/* Refuses bad edits, and those of a key that begins with x. */
+static int32_t judge(const uint8_t *edits, size_t length, size_t *place, size_t *shard) {
+    if (!is_batch(edits, length)) {
+        *place = 1;
+        return MST_BAD_BATCH;
+    }
+    for (size_t at = 0; at < length; at = next_edit(edits, at)) {
+        if (edits[at + HEAD] == 'x') {
+            *shard = 3;
+            return MST_NO_FREE_ROWS;
+        }
+    }
+    return MST_OK;
+}
+
+static void put_all(const uint8_t *edits, size_t length) {
+    for (size_t at = 0; at < length; at = next_edit(edits, at))
+        if (edits[at + HEAD] < THREADS)
+            values[edits[at + HEAD]] = edits[at + HEAD + length_at(edits + at + 1)];
+}
+
+static void note(const uint8_t *edits, size_t length, int32_t told) {
+    struct call call = {edits, length, length > 0 ? edits[length - 1] : 0, pthread_self(), told};
+    if (called < MOST_CALLS)
+        calls[called] = call;
+    called++;
+}
+
+int32_t mst_blocks_apply(mst_blocks_handle *writer, const uint8_t *edits, size_t length,
+                         size_t *place, size_t *shard, uint64_t *number) {
+    if (atomic_exchange(&within, 1) != 0 || writer->at != &tag)
+        atomic_store(&entered_by_two, 1);
+    pass_gate();
+    int32_t told = judge(edits, length, place, shard);
+    if (told == MST_OK) {
+        put_all(edits, length);
+        *number = ++blocks;
+    }
+    note(edits, length, told);
+    atomic_store(&within, 0);
+    return told;
+}
+
+int32_t mst_blocks_get(mst_blocks_handle *of, const uint8_t *key, size_t key_length, uint8_t *room,
+                       size_t room_length) {
+    (void)key, (void)room;
+    if (of->at == NULL)
+        return MST_CLOSED;
+    if (key_length != 1 || room_length != 0)
+        return MST_BAD_KEY;
+    return is_reader ? MST_ABSENT : MST_WRONG_STATE;
+}
+
+int32_t mst_blocks_close(mst_blocks_handle *of) {
+    int32_t told = of->at == NULL ? MST_CLOSED : MST_OK;
+    of->at = NULL;
+    return told;
+}
+
+#endif
