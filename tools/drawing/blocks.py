@@ -40,7 +40,7 @@ SNAPSHOTS = [
     ("warm", "square", "warm", "one in between: of a batch it is torn; of a block the try fails"),
 ]
 NOTES = [
-    "Time goes from left to right. Blocks are in Rattle alone (mst_blocks, mst_snapshots). A"
+    "Time goes from left to right. Blocks are those of mst_blocks and mst_snapshots. A"
     " snapshot is of exactly one block, unless two different texts have one SHA-256.",
 ]
 

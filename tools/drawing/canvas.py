@@ -89,8 +89,13 @@ class Canvas:
         self.shapes.append(f'<rect {place} rx="{round}" fill="{fill}" {edge}/>')
 
     def mark(self, x, y, form, size=7, style="thin"):
-        """A mark on a curve of this style: a disc, a ring, a square or a diamond."""
+        """A mark on a curve of this style: a disc, a ring, a square, a diamond or a triangle."""
         ink = INKS.get(style, "black")
+        if form == "triangle":
+            corners = [(x - size, y + size), (x + size, y + size), (x, y - size - 2)]
+            path = "M" + " L".join(f"{number(at)} {number(down)}" for at, down in corners) + " z"
+            self.shapes.append(f'<path d="{path}" fill="{ink}"/>')
+            return
         if form in ("disc", "ring"):
             fill = ink if form == "disc" else "white"
             place = f'cx="{number(x)}" cy="{number(y)}" r="{size}"'

@@ -24,14 +24,15 @@ GROUPS = {
     "the core of pins": ("#e3d6ee", 842, 1110, {"mst_pin": (4, 1020), "mst_replay": (5, 1020)}),
     "the store": ("#d3e4f5", 428, 826, {
         "mst_words": (6, 706), "mst_versions": (7, 670), "mst_store": (8, 670),
-        "mst_theorem": (9, 512),
     }),
     "sharded maps": ("#bfe6e2", 332, 562, {
         "mst_shards": (10, 486), "mst_sharded": (11, 486), "mst_blocks": (12, 446),
         "mst_snapshots": (13, 422),
     }),
+    "the theorem": ("#dfe3a8", 332, 562, {"mst_theorem": (15, 420)}),
     "the store for C": ("#f8d0d0", 20, 306, {
-        "mst_c": (10, 110), "mst_c_sharded": (12, 210), "mst_exports": (13, 210),
+        "mst_c": (10, 110), "mst_c_sharded": (12, 210), "mst_c_blocks": (14, 110),
+        "mst_exports": (15, 210),
     }),
     "lines of text": ("#e2e2e2", 1010, 1184, {
         "mst_devices": (0, 1098), "mst_lines": (1, 1098), "mst_requests": (2, 1098),
@@ -44,16 +45,17 @@ GROUPS = {
 }
 FOR_C = {"mst_verifier", "mst_exports"}
 # Arrows that go round other crates: the corner between their two straight parts, as the places from
-# left to right and the crate at whose height it is.
+# left to right and the crate at whose height it is, and for one of two arrows that would end at the
+# same point how far below that height.
 BENT = {
     ("mst_arguments", "mst_report"): (319, "mst_arguments"),
     ("mst_arguments", "mst_store"): (1060, "mst_store"),
     ("mst_arguments", "mst_devices"): (1176, "mst_devices"),
     ("mst_shards", "mst_sharded_proof"): (418, "mst_sharded_proof"),
     ("mst_shards", "mst_store"): (646, "mst_shards"),
-    ("mst_blocks", "mst_shards"): (394, "mst_shards"),
-    ("mst_snapshots", "mst_shards"): (364, "mst_shards"),
-    ("mst_theorem", "mst_store"): (616, "mst_theorem"),
+    ("mst_blocks", "mst_shards"): (394, "mst_shards", -9),
+    ("mst_snapshots", "mst_shards"): (364, "mst_shards", 9),
+    ("mst_theorem", "mst_blocks"): (504, "mst_theorem"),
     ("mst_c", "mst_store"): (110, "mst_store"),
     ("mst_proof", "mst_node"): (210, "mst_node"),
     ("mst_command", "mst_replay"): (1030, "mst_command"),
@@ -139,8 +141,8 @@ def bent(name, below, where):
     """The points of an arrow over a corner: it leaves sideways and ends from above, or the other
     way round."""
     (x, y), (to_x, to_y) = where[name], where[below]
-    corner, at = BENT[name, below]
-    across = where[at][1] + HIGH / 2
+    corner, at, *aside = BENT[name, below]
+    across = where[at][1] + HIGH / 2 + sum(aside)
     if at == name:
         side = width(name) / 2 if corner > x else -width(name) / 2
         return [(x + side, across), (corner, across), (corner, to_y)]

@@ -9,7 +9,7 @@ READS = {"get": "get", "range": "range of 100 pairs", "prove": "prove (the store
 TODAY = "today's"
 LOOKS = {
     "store": ("thick", "square"),
-    TODAY: ("broken", "diamond"),
+    TODAY: ("broken", "triangle"),
     "LMDB": ("thin", "disc"),
     "SQLite": ("dotted", "ring"),
     "std::map": ("dashed", "diamond"),
@@ -21,9 +21,9 @@ CAPTION = [
     " 1 is the put alone. Batches of 100 were not timed here (LIMITS has the store's), so no line"
     " leads from 10 to 1,000.",
     "Only the store has root digests and proofs: the hashes for these are most of its put.",
-    "store: an earlier library. today's (broken): the time of today's library, computed from two"
-    " runs: that of the earlier one, times the part of it that today's took when both ran side by"
-    " side.",
+    "store: an earlier library. today's (broken, triangles): the time of today's library, computed"
+    " from two runs: that of the earlier one, times the part of it that today's took when both ran"
+    " side by side.",
 ]
 # The heads of the tables that are drawn: what the page says above them is said below the picture.
 HEADS = {
@@ -31,6 +31,8 @@ HEADS = {
     "nanoseconds, 1,000 keys": "batches",
     "time with lanes ÷ time without": "today's",
 }
+# The time between two curves at which a panel says what part today's takes, if it has no curve.
+PARTED = 4_000
 # The most by which neighbours on a curve may differ that a line joins.
 JOINED = 12
 
@@ -66,7 +68,9 @@ def draw_panel(canvas, place, times, panel, later):
     canvas.text(plot.left - 76, plot.upper - 24, title + ", ns", 17, bold=True)
     canvas.text((plot.left + plot.right) / 2, plot.lower + 56, says, 16, "middle")
     if title in later and TODAY not in engines:
-        canvas.text(plot.left - 52, plot.lower + 82, f"today's: × {later[title]}", 16, bold=True)
+        for down, line in enumerate((f"{TODAY}: the store's", f"× {later[title]}")):
+            y = plot.up(PARTED) + 22 * down
+            canvas.text((plot.left + plot.right) / 2, y, line, 16, "middle", bold=True)
     # The store's then lies above the others, and today's above that.
     names = sorted(engines, key=lambda it: (it == TODAY, it == "store"))
     ends = [plot.draw_curve(sorted(engines[it].items()), LOOKS[it], 6, JOINED)[-1] for it in names]

@@ -3,7 +3,7 @@
 The pairs are those of docs/pictures/map.txt, the splits those of docs/pictures/splits.txt."""
 import os
 
-from .canvas import WIDTH, Canvas
+from .canvas import WIDTH, Canvas, width_of
 from .maps import TOP, puts
 from sharding import split  # found since maps has put its folder on the path
 
@@ -16,6 +16,9 @@ CAPTION = [
     "The first part of the proof shows what the directory lists for the bound, and the second part"
     " what that shard has for the key. The verifier also tests that the key lies within the"
     " bounds.",
+    "The proof has the whole node of the directory, so it also shows the bounds and digests of the"
+    f" other shards. Of the shard it has the node of {ASKED.decode()}, with the digest of the node"
+    " below it.",
     "Digests, bounds and the first four fields are hexadecimal, with a bound as text in brackets."
     " Only the beginning of each digest is shown.",
 ]
@@ -38,6 +41,11 @@ def bound(key):
     return f"{key.hex()} ({key.decode()})" if key.isalpha() else key.hex()
 
 
+def shown(map, key):
+    """The keys that the proof of a key shows: all those of the nodes that it has."""
+    return {one for node in map.trail(key) for one in node.keys}
+
+
 def short(digest):
     return digest.hex()[:8] + ".."
 
@@ -56,9 +64,9 @@ def draw_directory(canvas, it, where):
     canvas.text(EDGE, DIRECTORY - 22, says, 17, bold=True)
     right = where[-1][0] + where[-1][1]
     canvas.box(EDGE - 10, DIRECTORY - 12, right - EDGE + 20, HIGH + 64, "faint", round=6)
+    listed = shown(it.directory, it.shard_of(ASKED).low)
     for shard, (left, width) in zip(it.shards, where):
-        style = "thick" if shard.has(ASKED) else "thin"
-        canvas.box(left, DIRECTORY, width, HIGH + 40, style)
+        canvas.box(left, DIRECTORY, width, HIGH + 40, "thick" if shard.low in listed else "thin")
         high = f"upper bound {bound(shard.high)}" if shard.high else "no upper bound"
         value = f"value: root digest {short(shard.map.root)},"
         middle, within = left + width / 2, width - 20
@@ -67,21 +75,27 @@ def draw_directory(canvas, it, where):
         canvas.text(left + 12, DIRECTORY + 56, value, 16, code=True, within=within)
         canvas.text(left + 80, DIRECTORY + 82, high, 16, code=True, within=within - 68)
         start = (middle, DIRECTORY + HIGH + 40)
+        style = "thick" if shard.has(ASKED) else "thin"
         canvas.line([start, (middle, KEYS - 34)], style, arrow=True)
 
 
 def draw_shards(canvas, it, where):
     for shard, (left, width) in zip(it.shards, where):
-        style = "thick" if shard.has(ASKED) else "thin"
         middle = left + width / 2
         label = f"shard with root digest {short(shard.map.root)}"
         canvas.text(middle, KEYS - 12, label, 16, "middle", code=True, within=width)
-        canvas.box(left, KEYS, width, HIGH + 34, style)
-        keys = sorted(shard.map.pairs)
-        rows = [", ".join(map(name, keys[it : it + 2])) for it in range(0, len(keys), 2)]
-        first = KEYS + (HIGH + 34 - 28 * len(rows)) / 2 + 20
-        for row, text in enumerate(rows):
-            canvas.text(middle, first + 28 * row, text, 17, "middle", within=width - 16)
+        canvas.box(left, KEYS, width, HIGH + 34)
+        proved = shown(shard.map, ASKED) if shard.has(ASKED) else set()
+        others = sorted(set(shard.map.pairs) - proved)
+        rows = [sorted(proved)] if proved else []
+        rows += [others[place : place + 3] for place in range(0, len(others), 3)]
+        first = KEYS + (HIGH + 34 - 36 * len(rows)) / 2 + 24
+        for row, keys in enumerate(rows):
+            text, y = ", ".join(map(name, keys)), first + 36 * row
+            if proved and row == 0:
+                wide = width_of(text, 17) + 32
+                canvas.box(middle - wide / 2, y - 21, wide, 30, "thick")
+            canvas.text(middle, y, text, 17, "middle", within=width - 16)
 
 
 def draw_proof(canvas, it):
@@ -115,11 +129,11 @@ def picture():
     where = columns(len(it.shards))
     count = len(dict(puts()))
     title = f"A map of {count} keys in {len(it.shards)} shards, and a proof of it, in format 1"
-    canvas = Canvas("sharded", title, LEGEND + 178)
+    canvas = Canvas("sharded", title, LEGEND + 236)
     draw_directory(canvas, it, where)
     draw_shards(canvas, it, where)
     draw_proof(canvas, it)
-    says = f"what the proof for {name(ASKED)} is made from, and its two parts"
+    says = f"what the proof for {name(ASKED)} has in it, and its two parts"
     canvas.legend(EDGE, LEGEND, [("thick", says)])
     canvas.lines(EDGE, LEGEND + 42, CAPTION)
     return canvas

@@ -4,10 +4,12 @@ import re
 import sys
 
 from .canvas import DARK_GREY, INK, LIGHT_GREY, TINT, Canvas
-from .figures import whole
+from .figures import measured, whole
 from .maps import TOP
 
 PAGE = os.path.join(TOP, "docs", "OPERATING.md")
+# The head of the page's table of measurements.
+HEAD = "shards"
 # The rows of the page's table that are drawn, by how they begin.
 MAP, WRITE, ROWS = "M, ", "W = ", "**rows = "
 LONG, SHORT = 3, 1  # L and S of the example
@@ -94,7 +96,7 @@ def draw_bar(canvas, y, number, rows, write, all_rows, opened, used):
 def picture():
     bars = list(example())
     lower = UPPER + len(bars) * APART
-    canvas = Canvas("sizes", TITLE, lower + 262)
+    canvas = Canvas("sizes", TITLE, lower + 314)
     draw_scale(canvas, lower)
     for place, bar in enumerate(bars):
         draw_bar(canvas, UPPER + 10 + place * APART, *bar)
@@ -105,5 +107,7 @@ def picture():
         y += 28
     canvas.line([(33, y - 17), (33, y + 5)], "warm")
     canvas.text(58, y, USED, 16)
-    canvas.lines(20, y + 36, CAPTION)
+    canvas.lines(20, y + 36, CAPTION + [
+        line.replace("Measured", "Measured, rows in use") for line in measured("OPERATING.md", HEAD)
+    ])
     return canvas
