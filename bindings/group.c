@@ -2,8 +2,9 @@
  * Group commit: threads that share one writer of blocks. A thread that finds nobody leading leads:
  * it takes what waits, in the order of arrival, and makes one block of it, while those that come
  * meanwhile stand in a queue and sleep. Then it tells all whose edits it made, and hands the lead
- * to the first in the queue. So each thread that leads makes the block of its own edits, and no
- * other, and under load a block has the edits of all that came while the one before was made.
+ * to the first in the queue. So each thread that leads makes the block of its own edits, and under
+ * load a block has the edits of all that came while the one before was made. If that block is
+ * refused, or there is no memory for it, the same thread makes one for each of its requests.
  *
  * A request stands on the stack of the thread that asks. Whoever leads marks those that it took as
  * done, under the lock, and touches none of them once it has let go of the lock.

@@ -928,14 +928,16 @@ int32_t mst_blocks_group_open(mst_blocks_handle *writer, mst_blocks_group **grou
  * threads may be in this call at a time. It returns once the edits are published or refused.
  *
  * Returns MST_OK, and *number is the number of the block that has the edits; the numbers that a
- * thread is told rise. Otherwise none of the edits is made: returns what mst_blocks_apply returns,
- * without MST_CLOSED and MST_WRONG_STATE, and tells *place, of an edit among these, and *shard as
- * that does. What is not told is as it was.
+ * thread is told rise. The root digest of this block is not told: a snapshot that is taken
+ * afterwards has it only if no later block was made, which its number tells. Otherwise none of the
+ * edits is made: returns what mst_blocks_apply returns, without MST_CLOSED and MST_WRONG_STATE, and
+ * tells *place, of an edit among these, and *shard as that does. What is not told is as it was.
  *
  * If no block is being made when the call comes, it makes one of its edits at once. Calls that come
  * meanwhile sleep. Then the first of them makes one block of all that wait, up to 1,048,576 bytes
  * of edits, and so on. In a block the edits of each call follow those of the calls that came before
- * it. So a call may make the edits of others with its own, but no further block.
+ * it. So a call may make the edits of others with its own; if that block is refused, or there is no
+ * memory for it, it makes one block for each of its calls.
  *
  * If a block of several calls is refused, each of them gets a block of its own, in the same order.
  * So a call is refused only if mst_blocks_apply would refuse its edits alone, after those of the

@@ -3,7 +3,7 @@
  * writes keys of its own, and with its neighbour a key that both share; each value tells by whom it
  * is, and by which request. The requests are then made once more, by the numbers that were told, in
  * a second map: wherever the reader looked it has the same root digest. Then some of the threads
- * have edits that are refused, which are nobody else's trouble.
+ * have edits that are refused, which makes no request of another thread fail.
  *
  *     group [REQUESTS [READERS]]      of each thread; 0 or 1 reader
  */

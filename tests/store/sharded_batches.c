@@ -7,6 +7,7 @@
  */
 #include "tests.h"
 #include <pthread.h>
+#include <stdatomic.h>
 #include <stdlib.h>
 
 #define KEYS 256 /* keys are of one byte */
@@ -305,8 +306,11 @@ static void fill(mst_handle *by) {
     EXPECT(mst_sharded_apply(by, all, end, &place, &shard) == MST_OK && shard == 0);
 }
 
+static atomic_int is_seen; /* whether enough tries have stopped */
+
+/* Migrates until then, so that it goes on however late the other thread comes. */
 static void *migrates(void *by) {
-    for (uint32_t round = 0; round < 30; round++) {
+    for (uint32_t round = 0; !atomic_load(&is_seen); round++) {
         size_t stopped = 77;
         if (mst_sharded_migrate(by, 2 - round % 2, &stopped) != MST_OK)
             return by;
@@ -350,6 +354,7 @@ static void busy(void) {
         }
         EXPECT(told == MST_OK && shard == 0 && with_value(&workers[0], value) == SHARDS);
     }
+    atomic_store(&is_seen, 1);
     EXPECT(stopped > 0);
     EXPECT(pthread_join(thread, &failed) == 0 && failed == NULL);
     EXPECT(mst_sharded_close(&workers[0]) == MST_OK && mst_sharded_close(&workers[1]) == MST_OK);

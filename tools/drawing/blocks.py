@@ -6,29 +6,29 @@ FIRST, APART, HIGH = 102, 74, 46
 # For each half: its title; for each lane its name, what it has before and after, and where it
 # changes; and the snapshots: where each is, what it is called, and whether it is of one map.
 BATCH = (
-    "a batch over shards, by a handle", [
-        ("shard 1", "version 4", "version 5", 256),
-        ("shard 2", "version 8", "version 9", 400),
+    "A batch over shards, by a handle", [
+        ("shard 0", "version 4", "version 5", 256),
+        ("shard 1", "version 8", "version 9", 400),
     ],
     [(228, "before", True), (374, "half of it", False), (520, "all of it", True)],
 )
 BLOCK = (
-    "a block, by the writer of the map", [
-        ("shard 1", "version 4", "version 5", 250),
-        ("shard 2", "version 8", "version 9", 278),
+    "A block, by Writer::apply, in C mst_blocks_apply", [
+        ("shard 0", "version 4", "version 5", 250),
+        ("shard 1", "version 8", "version 9", 278),
         ("directory", "block 6", "block 7", 406),
     ],
-    [(224, "block 6", True), (384, "the try fails", False), (520, "block 7", True)],
+    [(224, "block 6", True), (384, "no snapshot", False), (520, "block 7", True)],
 )
 LOWER = FIRST + 3 * APART
 SAYS = [
     "Each shard makes its part and publishes it, one shard after the other. A snapshot pins one"
-    " shard after the other. One that is taken meanwhile has shard 1 with the batch and shard 2"
+    " shard after the other. One that is taken meanwhile has shard 0 with the batch and shard 1"
     " without it, and its root digest is of a map that nobody wrote.",
     "Both shards and the directory make and hash their parts first, in free rows. Then one step"
     " publishes each, the directory last. A snapshot pins the directory first. If a shard has"
-    " another root digest than the directory lists, the try fails: snapshot tries again,"
-    " try_snapshot returns the reader.",
+    " another root digest than the directory lists, a try gives no snapshot (in C MST_MOVING), and"
+    " snapshot tries again.",
 ]
 LEGEND = [
     ("thin", "the version before: what a snapshot pins there until the next one is published"),
@@ -37,11 +37,11 @@ LEGEND = [
 # The looks of snapshots: the style of the line, its marks and theirs, and what it is.
 SNAPSHOTS = [
     ("dashed", "disc", "thin", "a snapshot of one map: where it pins shards and directory"),
-    ("warm", "square", "warm", "one in between: of a batch it is torn; of a block the try fails"),
+    ("warm", "square", "warm", "one in between: of a batch it is torn; of a block there is none"),
 ]
 NOTES = [
-    "Time goes from left to right. Blocks are those of mst_blocks and mst_snapshots. A"
-    " snapshot is of exactly one block, unless two different texts have one SHA-256.",
+    "Time goes from left to right. Shards count from 0. A snapshot of blocks is of exactly one"
+    " block, unless two different texts have one SHA-256.",
 ]
 
 

@@ -6,7 +6,7 @@ from .figures import batches, figures, lanes, measured, see_that_the_page_tells_
 
 LEFT, ACROSS, NEXT, UPPER, HIGH, BELOW = 94, 196, 394, 62, 400, 540
 READS = {"get": "get", "range": "range of 100 pairs", "prove": "prove (the store alone)"}
-TODAY = "today's"
+TODAY = "store, today"
 LOOKS = {
     "store": ("thick", "square"),
     TODAY: ("broken", "triangle"),
@@ -21,7 +21,7 @@ CAPTION = [
     " 1 is the put alone. Batches of 100 were not timed here (LIMITS has the store's), so no line"
     " leads from 10 to 1,000.",
     "Only the store has root digests and proofs: the hashes for these are most of its put.",
-    "store: an earlier library. today's (broken, triangles): the time of today's library, computed"
+    "store: an earlier library. store, today (broken, triangles): the time of today's, computed"
     " from two runs: that of the earlier one, times the part of it that today's took when both ran"
     " side by side.",
 ]
@@ -29,10 +29,8 @@ CAPTION = [
 HEADS = {
     "Nanoseconds of": "times by keys",
     "nanoseconds, 1,000 keys": "batches",
-    "time with lanes ÷ time without": "today's",
+    "time with lanes ÷ time without": TODAY,
 }
-# The time between two curves at which a panel says what part today's takes, if it has no curve.
-PARTED = 4_000
 # The most by which neighbours on a curve may differ that a line joins.
 JOINED = 12
 
@@ -68,14 +66,14 @@ def draw_panel(canvas, place, times, panel, later):
     canvas.text(plot.left - 76, plot.upper - 24, title + ", ns", 17, bold=True)
     canvas.text((plot.left + plot.right) / 2, plot.lower + 56, says, 16, "middle")
     if title in later and TODAY not in engines:
-        for down, line in enumerate((f"{TODAY}: the store's", f"× {later[title]}")):
-            y = plot.up(PARTED) + 22 * down
-            canvas.text((plot.left + plot.right) / 2, y, line, 16, "middle", bold=True)
+        # above the store's curve, at its left
+        for down, line in enumerate((f"{TODAY}:", f"× {later[title]}")):
+            canvas.text(plot.left + 8, plot.upper + 22 + 22 * down, line, 16, bold=True)
     # The store's then lies above the others, and today's above that.
     names = sorted(engines, key=lambda it: (it == TODAY, it == "store"))
     ends = [plot.draw_curve(sorted(engines[it].items()), LOOKS[it], 6, JOINED)[-1] for it in names]
-    for engine, (x, y), high in zip(names, ends, apart([y for _, y in ends], 22)):
-        canvas.line([(x + 12, y), (plot.right + 4, high)], "faint")
+    for engine, (x, y), high in zip(names, ends, apart([y for _, y in ends], 26)):
+        canvas.line([(x + 9, y), (plot.right + 4, high)], "thin")
         canvas.text(plot.right + 8, high + 6, engine, 16, bold=engine in ("store", TODAY))
 
 

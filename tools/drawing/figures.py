@@ -79,12 +79,12 @@ MEASURED = "*Measured*: "
 
 def measured(name, *heads):
     """What this page of docs/ says last, above the table of each of these heads, of when, where and
-    on which library it was measured."""
+    on which library it was measured. Of tables with one head, that of today is the last."""
     lines = []
     with open(os.path.join(TOP, "docs", name), encoding="utf-8") as file:
         page = file.read()
     for head in heads:
-        above, found, _ = page.partition(f"\n| {head} |")
+        above, found, _ = page.rpartition(f"\n| {head} |")
         _, begun, after = above.rpartition("\n" + MEASURED)
         if not found or not begun:
             sys.exit(f"docs/{name} does not say when '{head}' was measured")

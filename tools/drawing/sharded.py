@@ -119,6 +119,8 @@ def draw_proof(canvas, it):
         canvas.text(left + width / 2, PROOF + 48, text, 16, "middle", code=True, within=width - 8)
         ends.append((left + width / 2, width))
         left += width
+    says = f"format byte {fields[0][1]}: sharded, format {it.format}"
+    canvas.text(EDGE, PROOF + HIGH + 28, says, 16, within=500)
     for (middle, width), root in zip(ends[-2:], (it.root, shard.map.root)):
         says = f"verified for {short(root)}"
         canvas.text(middle, PROOF + HIGH + 28, says, 16, "middle", code=True, within=width - 8)

@@ -12,14 +12,15 @@ UPPER, LOWER = 76, 450
 # in which unit, what the second number of a column is called, and for each way of theirs what it is
 # called, in the table of docs/STORE_C.md too. Reads are blue, writes grey.
 PANELS = {
-    "readers": (112, 640, "gets a second, in millions", 1_000_000, ("time of", "one get,", "alone = 1"), {
+    "readers": (112, 560, "gets a second, in millions", 1_000_000, ("time of", "one get,", "alone = 1"), {
         "held": ("of a pinned version", INK),
         "newest": ("of the newest version", TINT),
         "beside": ("of the newest version, while another thread puts", "white"),
     }),
-    "writers": (744, 1184, "puts a second, in thousands", 1_000, ("slowest", "writer, %"), {
-        "put": ("`mst_put`", DARK_GREY),
-        "mutex": ("a mutex around `mst_try_put`", LIGHT_GREY),
+    "writers": (664, 1184, "puts a second, in thousands", 1_000, ("slowest", "writer, %"), {
+        "before": ("`mst_put`, without the line", LIGHT_GREY),
+        "line": ("`mst_put`, with the line", DARK_GREY),
+        "mutex": ("a mutex around `mst_try_put`", "white"),
     }),
 }
 CAPTION = [
@@ -27,11 +28,11 @@ CAPTION = [
     "Readers: a get of the newest version pins it and unpins it, by two atomic steps on words that"
     " all threads share. A get of a pinned version makes no such step.",
     "Writers: one write lock, the turn, serves all, so more writers make no more puts. Those of a"
-    " sharded map do (USING has a picture). Each bar is of one run.",
-    "The bars of writers are from before calls that have waited 30 ms went first; today the slowest"
-    " of eight writers makes some 80 % of the mean (STORE_C).",
+    " sharded map do (USING has a picture). With the line, as it is today, calls that have waited"
+    " 30 ms go first. Each bar is the median of five runs, which differ by up to a factor of two.",
+    "The two halves are of different libraries and loads: compare bars within a half alone.",
     "time of one get: its processor time; that of a get by one reader alone is 1.",
-    "slowest writer: its puts, as a part of those of the fastest writer.",
+    "slowest writer: its puts, as a part of the mean of all writers; the median.",
 ]
 # The heads of the tables that are drawn: what the page says above them is said below the picture.
 HEADS = {"gets a second, by readers": "readers", "puts a second, by writers": "writers"}
@@ -58,7 +59,10 @@ def see_that_the_page_tells_them(found, page):
     """Refuses figures of which docs/STORE_C.md has other rows."""
     for who, (*_, ways) in PANELS.items():
         for how, each in found[who].items():
-            cells = [f"{calls:,} ({beside})" for calls, beside in each.values()]
+            cells = [
+                f"{calls:,} ({beside})" if beside else f"{calls:,}"
+                for calls, beside in each.values()
+            ]
             if row(ways[how][0], *cells) not in page:
                 sys.exit(f"docs/STORE_C.md has other figures of {who} ({how}) than threads.tsv")
 
@@ -93,7 +97,8 @@ def draw_columns(canvas, left, right, most, unit, ways, found):
             y = LOWER - (LOWER - UPPER) * calls / most
             canvas.box(x + 2, y, column - 4, LOWER - y, "thin", ways[how][1])
             canvas.text(x + column / 2, y - 7, f"{calls / unit:.1f}", 16, "middle", halo=True)
-            canvas.text(x + column / 2, LOWER + 68, beside.replace(" %", ""), 16, "middle")
+            beside = beside.partition(",")[0].replace(" %", "")
+            canvas.text(x + column / 2, LOWER + 68, beside, 16, "middle")
             x += column
         canvas.text(left + (place + 0.5) * wide, LOWER + 28, f"{number}", 17, "middle", bold=True)
 
