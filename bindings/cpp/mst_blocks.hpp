@@ -3,7 +3,7 @@
 //
 //     auto [writer, readers] = mst::blocks::open(1000, 1, {"m"});   // two shards of 1,000 rows
 //     auto number = writer.apply(mst::batch().put("apple", "30"));  // 1
-//     auto then = readers[0].snapshot();                            // of exactly one block
+//     auto then = readers[0].snapshot();            // of one block, unless SHA-256 collides
 //     auto root = then.root();                                      // as writer.root()
 //
 // The writer alone makes blocks, and readers take snapshots of them. Each is one thread's at a

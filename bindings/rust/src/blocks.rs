@@ -243,8 +243,8 @@ impl Reader {
     }
 }
 
-/// A reader while it has a snapshot of exactly one block: all reads are of this block. Its pins end
-/// when it is dropped.
+/// A reader while it has a snapshot of exactly one block, unless SHA-256 collides: all reads are of
+/// this block. Its pins end when it is dropped.
 #[derive(Debug)]
 #[must_use = "the pins end when this is dropped"]
 pub struct Snapshot<'a>(&'a mut Reader);
