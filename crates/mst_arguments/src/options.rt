@@ -18,7 +18,7 @@ fn without_plus(numeral: &[u8]) -> &[u8]
     }
 }
 
-// Digits without the zeros that begin them.
+// Digits without the zeros that begin them. Calls nest no deeper than one word has digits.
 fn significant(digits: &[u8]) -> &[u8]
     ensures { result.now ≡ zeroless digits.now }
 {
@@ -98,6 +98,7 @@ fn first<'a>(words: &[&'a str]) -> Option<&'a str>
 }
 
 /// The value of the option: the word after it, or what follows `=` in its own, in front of a `--`.
+/// Calls nest no deeper than a command line has words.
 pub fn value_of<'a>(option: &str, words: &[&'a str]) -> Option<&'a str>
     ensures { option_map (λ w. w.now) result ≡ value_behind option.now words.now }
 {
@@ -116,7 +117,8 @@ pub fn value_of<'a>(option: &str, words: &[&'a str]) -> Option<&'a str>
     }
 }
 
-// Whether the switch is a word in front of a `--`.
+// Whether the switch is a word in front of a `--`. Calls nest no deeper than a command line has
+// words.
 fn has_switch(switch: &str, words: &[&str]) -> bool
     ensures { result ≡ switch_in switch.now words.now }
 {
@@ -151,7 +153,8 @@ fn word_at<'a>(words: &[&'a str], place: usize) -> &'a str
 }
 
 /// The operand at this place, or none: a word that is no `--sharded`, no `--format F` and no
-/// `--format=F`, or any after a `--`. If `is_value`, the first word is the F of an option.
+/// `--format=F`, or any after a `--`. If `is_value`, the first word is the F of an option. Calls
+/// nest no deeper than a command line has words.
 pub fn operand<'a>(words: &[&'a str], is_value: bool, place: usize) -> &'a str
     ensures { result.now ≡ get_or (operands is_value words.now) place [] }
 {
@@ -241,7 +244,8 @@ fn is_new_switch(command: Subcommand, word: &str, words: &[&str]) -> bool
 }
 
 // Whether the words are switches and options of the command, each of them once and an option with
-// its value, and `count` operands. If `is_value`, the first word is the value of an option.
+// its value, and `count` operands. If `is_value`, the first word is the value of an option. Calls
+// nest no deeper than a command line has words.
 fn are_words(command: Subcommand, is_value: bool, count: usize, words: &[&str]) -> bool
     ensures { result ≡ are_all command is_value count words.now }
 {

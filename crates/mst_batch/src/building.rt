@@ -1,6 +1,7 @@
 //! The plan of the tree that items are built into.
-ghost use Rattle.std.specs.Prelude.{◌≡◌, ◌≤◌, List, Contains, length, map, None, Some, IfOk, MatchOption};
+ghost use Rattle.std.specs.Prelude.{◌≡◌, List, Contains, count_by, map, None, Some, IfOk, MatchOption};
 ghost use Rattle.std.specs.List.{AllByRecursion};
+ghost use Rattle.std.specs.Option.{is_some};
 ghost use Rattle.mst_key.specs.declared.format.Format.{Format};
 ghost use Rattle.mst_key.specs.Map.{Pair};
 ghost use Rattle.mst_node.specs.Tree.{tree};
@@ -102,7 +103,9 @@ fn build_node<R: Rows, B: Allocator + Copy>(
 }
 
 /// Whether an item is a pair of the layer.
-fn is_pair_of(item: &Item, layer: u8) -> bool {
+fn is_pair_of(item: &Item, layer: u8) -> bool
+    ensures pair { result ≡ is_some (pair_at layer item.now) }
+{
     match item {
         Item::Pair { place, .. } => place.layer() == layer,
         Item::Subtree { .. } => false,
@@ -112,7 +115,7 @@ fn is_pair_of(item: &Item, layer: u8) -> bool {
 /// How many of the items are pairs of the layer: their node has this many entries.
 #[inline(never)]
 fn count_of(items: &[Item], layer: u8) -> usize
-    ensures few { result ≤ length items.now }
+    ensures count { result ≡ count_by (λ item. is_some (pair_at layer item)) items.now }
 {
     items.iter().filter(|item| is_pair_of(item, layer)).count()
 }

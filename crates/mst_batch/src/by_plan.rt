@@ -5,6 +5,7 @@ ghost use Rattle.mst_path.specs.Takes.{FreeIsBlank, StaysBeside};
 ghost use Rattle.mst_path.specs.Changing.{MapStands};
 ghost use Rattle.mst_path.specs.AfterChange.{AfterChange};
 ghost use Rattle.mst_batch.specs.Applying.{LacksBatch};
+ghost use Rattle.mst_batch.specs.declared.faults.NotApplied.TheVariants as lacking;
 
 use crate::carrying::carry_out;
 use crate::faults::NotApplied;
@@ -14,7 +15,15 @@ use crate::planning::find_plan;
 use crate::releasing::release;
 use mst_arena::{Desk, Root, Rows};
 use mst_key::{Edit, Format};
+use mst_path::NoRoom;
 use std::alloc::Allocator;
+
+/// Why a batch was refused whose plan was made: it lacks nothing but rows.
+fn lack_of(_refused: NoRoom) -> NotApplied
+    ensures no_room { result ≡ lacking.NoRoom }
+{
+    NotApplied::NoRoom
+}
 
 /// Makes a batch of some edits, more than one, in the map that stands at a root, as `apply` does.
 ///
@@ -51,6 +60,6 @@ pub(crate) fn apply_by_plan<R: Rows, A: Allocator, B: Allocator + Copy>(
     release(plan);
     match carried {
         Ok(done) => Ok(done),
-        Err(_) => Err(NotApplied::NoRoom),
+        Err(refused) => Err(lack_of(refused)),
     }
 }

@@ -53,7 +53,8 @@ impl PairPlace {
         self.layer
     }
 
-    /// What is known of the entry that had the key before.
+    /// What is known of the entry that had the key before. It has no clause, as contracts do not
+    /// see the hint.
     pub(crate) fn origin(&self) -> Origin {
         self.origin
     }

@@ -1,5 +1,5 @@
 //! Edits sorted by their keys, of each key the last one, and the pairs of a map with them made.
-ghost use Rattle.std.specs.Prelude.{◌≡◌, ◌++◌, ℕ, List, Option, IfOk, OnOk};
+ghost use Rattle.std.specs.Prelude.{◌≡◌, ◌≤◌, ◌^◌, ◌++◌, ℕ, List, Option, length, IfOk, OnOk};
 ghost use Rattle.mst_key.specs.Map.{Pair, IsAscending, IsMap};
 ghost use Rattle.mst_key.specs.Edits.{AreRising};
 ghost use Rattle.mst_key.specs.History.{batched, value_after};
@@ -48,21 +48,17 @@ fn merged<'b, A: Allocator>(
     Ok(all)
 }
 
-/// The edits sorted by their keys, of each key the last one alone: what is left of a batch.
-///
-/// It leaves each key the value that the edits leave it one after another, and so each map the same
-/// map. For n edits it takes some n log n comparisons of keys, and at most two words of memory an
-/// edit at once; it copies no key. Calls nest as deep as n can be halved. Returns `Memory` only if
-/// a growth was refused.
-pub fn normal_edits<'b, A: Allocator + Copy>(
+/// The edits sorted by their keys, of each key the last one alone. Calls nest no deeper than
+/// `depth`, since each call halves the list.
+fn sorted_edits<'b, A: Allocator + Copy>(
     alloc: A,
     edits: &'b [Edit],
+    depth: u32,
 ) -> Result<Vec<&'b Edit, A>, Memory>
+    requires few { length edits.now ≤ 2 ^ depth }
     ensures rises { IfOk result (λ all. AreRising (listed all.items)) }
     ensures leaves { IfOk result (λ all. (q : List ℕ) (old : Option (List ℕ))
         → value_after (listed all.items) q old ≡ value_after edits.now q old) }
-    ensures map { IfOk result (λ all. (m : List Pair) → IsMap m
-        → batched m (listed all.items) ≡ batched m edits.now) }
 {
     match edits {
         [] => Ok(Vec::new(alloc)),
@@ -73,11 +69,38 @@ pub fn normal_edits<'b, A: Allocator + Copy>(
         }
         _ => {
             let (front, back) = edits.split_at(edits.len() / 2);
-            let first = normal_edits(alloc, front)?;
-            let second = normal_edits(alloc, back)?;
+            let first = sorted_edits(alloc, front, depth - 1)?;
+            let second = sorted_edits(alloc, back, depth - 1)?;
             merged(alloc, first.as_slice(), second.as_slice())
         }
     }
+}
+
+/// How often a number can be halved until 0 is left.
+fn halvings(number: usize) -> u32
+    ensures enough { number ≤ 2 ^ result }
+    ensures most { result ≤ 64 }
+{
+    usize::BITS - number.leading_zeros()
+}
+
+/// The edits sorted by their keys, of each key the last one alone: what is left of a batch.
+///
+/// It leaves each key the value that the edits leave it one after another, and so each map the same
+/// map. For n edits it takes some n log n comparisons of keys, and at most two words of memory an
+/// edit at once; it copies no key. Calls nest no deeper than n can be halved, at most 64 times.
+/// Returns `Memory` only if a growth was refused.
+pub fn normal_edits<'b, A: Allocator + Copy>(
+    alloc: A,
+    edits: &'b [Edit],
+) -> Result<Vec<&'b Edit, A>, Memory>
+    ensures rises { IfOk result (λ all. AreRising (listed all.items)) }
+    ensures leaves { IfOk result (λ all. (q : List ℕ) (old : Option (List ℕ))
+        → value_after (listed all.items) q old ≡ value_after edits.now q old) }
+    ensures map { IfOk result (λ all. (m : List Pair) → IsMap m
+        → batched m (listed all.items) ≡ batched m edits.now) }
+{
+    sorted_edits(alloc, edits, halvings(edits.len()))
 }
 
 /// A copy of a pair, which takes no memory.

@@ -66,7 +66,8 @@ pub fn sow<R: Rows, A: Allocator, B: Allocator>(
     }
 }
 
-/// The row of the entry that had a pair's key before, if it is known.
+/// The row of the entry that had a pair's key before, if it is known. It has no clause: a wrong row
+/// costs time alone, as what is kept for it is then hashed again.
 fn row_before(origin: Origin) -> Option<u32> {
     match origin {
         Origin::Unknown => None,
@@ -75,13 +76,14 @@ fn row_before(origin: Origin) -> Option<u32> {
     }
 }
 
-/// Whether an entry, as far as is known, is as it was before, with the tree before it.
+/// Whether an entry, as far as is known, is as it was before, with the tree before it. It has no
+/// clause, as [`begins_as_before`] has none.
 fn is_as_before<B: Allocator>(entry: &PlanEntry<B>) -> bool {
     matches!(entry.origin, Origin::Kept(_)) && matches!(entry.child, Plan::Kept(_))
 }
 
 /// Whether a node, as far as is known, begins with entries as they were before, so that what is
-/// kept of its text may be of use.
+/// kept of its text may be of use. It has no clause: a wrong answer costs time alone.
 fn begins_as_before<B: Allocator>(entries: &[PlanEntry<B>]) -> bool {
     match entries.first() {
         Some(entry) => is_as_before(entry),

@@ -2,6 +2,7 @@ pub mod RisingKeys
 pub mod TreeEquation
 pub mod UniqueTree
 pub mod LayersByPlace
+mod Heights
 pub mod NodeShapes
 pub mod TopNodes
 pub mod TextBuffers

@@ -1,5 +1,5 @@
 //! The tree of a list of pairs.
-ghost use Rattle.std.specs.Prelude.{◌≡◌, map, IfOk};
+ghost use Rattle.std.specs.Prelude.{◌≡◌, ◌==◌, map, count_by, IfOk};
 ghost use Rattle.mst_key.specs.Layer.{layer_in};
 ghost use Rattle.mst_key.specs.declared.format.Format.{Format};
 ghost use Rattle.mst_key.specs.declared.format.Format.TheVariants.{One};
@@ -37,7 +37,9 @@ fn greatest_of(layers: &[u8]) -> u8
 }
 
 /// How many of the keys with these layers are of one layer.
-fn count_of(layers: &[u8], layer: u8) -> usize {
+fn count_of(layers: &[u8], layer: u8) -> usize
+    ensures count { result ≡ count_by (λ other. other == layer) layers.now }
+{
     layers.iter().filter(|other| **other == layer).count()
 }
 

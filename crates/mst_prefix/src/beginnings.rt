@@ -1,5 +1,5 @@
 //! The texts of nodes up to an entry, kept with the hashes that have taken them in.
-ghost use Rattle.std.specs.Prelude.{◌≡◌, ◌<◌, ◌≤◌, true, false, ◌++◌, ℕ, List, [], length, IfOk, IfSome, slice_get, Some};
+ghost use Rattle.std.specs.Prelude.{◌≡◌, ◌<◌, ◌≤◌, true, false, ◌++◌, ℕ, List, [], length, IfOk, IfSome, slice_get, vec_capacity, Some};
 ghost use Rattle.sha2.specs.Hashers.{Holds256};
 ghost use Rattle.sha2.specs.Sha256.{sha256};
 ghost use Rattle.mst_node.specs.Text.{child_text, counted, held_of, held_text};
@@ -65,6 +65,8 @@ pub(crate) enum Front {
 }
 
 /// The beginnings that are kept, and one text that is being spelled.
+///
+/// The lists of what is kept have the room that `new` gave them: each call leaves it as it was.
 #[derive(Drop)]
 pub(crate) struct Beginnings<A: Allocator> {
     kept: Places<Beginning, A>,
@@ -98,6 +100,10 @@ impl<A: Allocator + Copy> Beginnings<A> {
         digests: u16,
     ) -> Result<Beginnings<A>, Memory>
         ensures sound { IfOk result (λ b. (texts : ℕ → List ℕ) × AreKept texts b) }
+        ensures kept_room { IfOk result (λ b. (vec_capacity b.kept.items ≡ texts)
+            × (vec_capacity b.kept.numbers ≡ rows)) }
+        ensures digests_room { IfOk result (λ b. (vec_capacity b.digests.items ≡ digests)
+            × (vec_capacity b.digests.numbers ≡ rows)) }
     {
         Ok(Beginnings {
             kept: Places::new(alloc, rows, texts)?,
@@ -115,6 +121,7 @@ impl<A: Allocator> Beginnings<A> {
     pub(crate) fn begin(&mut self)
         requires sound { (texts : ℕ → List ℕ) × AreKept texts self.old }
         ensures empty { (hasher : Sha256) → Holds256 hasher [] → TakenWith hasher self.new [] }
+        ensures lists { (self.new.kept ≡ self.old.kept) × (self.new.digests ≡ self.old.digests) }
     {
         self.front = Front::Taken(Some(0));
         self.piece.clear();
@@ -126,6 +133,11 @@ impl<A: Allocator> Beginnings<A> {
     pub(crate) fn move_kept(&mut self, from: u32, to: u32, format: Format)
         ensures same { (hasher : Sha256) (m : List ℕ) → TakenWith hasher self.old m
             → TakenWith hasher self.new m }
+        ensures kept_room { (vec_capacity self.new.kept.items ≡ vec_capacity self.old.kept.items)
+            × (vec_capacity self.new.kept.numbers ≡ vec_capacity self.old.kept.numbers) }
+        ensures digests_room { (vec_capacity self.new.digests.items
+            ≡ vec_capacity self.old.digests.items)
+            × (vec_capacity self.new.digests.numbers ≡ vec_capacity self.old.digests.numbers) }
     {
         self.to = to;
         self.kept.swap(from, to);
@@ -138,6 +150,7 @@ impl<A: Allocator> Beginnings<A> {
     pub(crate) fn take(&mut self, hasher: &mut Sha256, bytes: &[u8])
         ensures took { (m : List ℕ) → TakenWith hasher.old self.old m
             → TakenWith hasher.new self.new (m ++ bytes.now) }
+        ensures lists { (self.new.kept ≡ self.old.kept) × (self.new.digests ≡ self.old.digests) }
     {
         match self.piece.try_extend_from_slice(bytes) {
             Ok(()) => {}
@@ -153,6 +166,10 @@ impl<A: Allocator> Beginnings<A> {
         ensures digest { result ≡ sha256 value.now }
         ensures same { (hasher : Sha256) (m : List ℕ) → TakenWith hasher self.old m
             → TakenWith hasher self.new m }
+        ensures kept { self.new.kept ≡ self.old.kept }
+        ensures digests_room { (vec_capacity self.new.digests.items
+            ≡ vec_capacity self.old.digests.items)
+            × (vec_capacity self.new.digests.numbers ≡ vec_capacity self.old.digests.numbers) }
     {
         digest_of_value(&mut self.digests, self.to, value)
     }
@@ -173,6 +190,7 @@ impl<A: Allocator> Beginnings<A> {
     pub(crate) fn let_go(&mut self, hasher: &mut Sha256)
         ensures taken { (m : List ℕ) → TakenWith hasher.old self.old m → Holds256 hasher.new m }
         ensures empty { (m : List ℕ) → TakenWith hasher.old self.old m → HasNoText self.new }
+        ensures lists { (self.new.kept ≡ self.old.kept) × (self.new.digests ≡ self.old.digests) }
     {
         self.catch_up(hasher);
         hasher.update(self.piece.as_slice());
@@ -259,6 +277,9 @@ impl<A: Allocator> Beginnings<A> {
             → TakenWith hasher.old self.old m → TakenWith hasher.new self.new (m ++ entry) }
         ensures same { result ≡ false → (m : List ℕ) → TakenWith hasher.old self.old m
             → TakenWith hasher.new self.new m }
+        ensures kept_room { (vec_capacity self.new.kept.items ≡ vec_capacity self.old.kept.items)
+            × (vec_capacity self.new.kept.numbers ≡ vec_capacity self.old.kept.numbers) }
+        ensures digests { self.new.digests ≡ self.old.digests }
     {
         let (Some(before), Some(after)) = (self.number(), self.next.checked_add(1)) else {
             return false;
@@ -291,6 +312,9 @@ impl<A: Allocator> Beginnings<A> {
             ++ held_text format (held_of format value.now)) }
         ensures same { result ≡ false → (m : List ℕ)
             → TakenWith hasher.old self.old m → TakenWith hasher.new self.new m }
+        ensures kept_room { (vec_capacity self.new.kept.items ≡ vec_capacity self.old.kept.items)
+            × (vec_capacity self.new.kept.numbers ≡ vec_capacity self.old.kept.numbers) }
+        ensures digests { self.new.digests ≡ self.old.digests }
     {
         let Some(place) = self.found(format, &child, key, value) else {
             return false;
@@ -307,6 +331,9 @@ impl<A: Allocator> Beginnings<A> {
     pub(crate) fn end_piece(&mut self, hasher: &mut Sha256)
         ensures same { (m : List ℕ) → TakenWith hasher.old self.old m
             → TakenWith hasher.new self.new m }
+        ensures kept_room { (vec_capacity self.new.kept.items ≡ vec_capacity self.old.kept.items)
+            × (vec_capacity self.new.kept.numbers ≡ vec_capacity self.old.kept.numbers) }
+        ensures digests { self.new.digests ≡ self.old.digests }
     {
         let (Some(before), Some(after)) = (self.number(), self.next.checked_add(1)) else {
             return self.let_go(hasher);

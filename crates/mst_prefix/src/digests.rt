@@ -1,5 +1,5 @@
 //! Values with their digests, so that a value that did not change is not hashed again.
-ghost use Rattle.std.specs.Prelude.{◌≡◌, IfSome};
+ghost use Rattle.std.specs.Prelude.{◌≡◌, vec_capacity, IfSome};
 ghost use Rattle.sha2.specs.Sha256.{sha256};
 
 use crate::places::Places;
@@ -61,6 +61,8 @@ pub(crate) fn digest_of_value<A: Allocator>(
     value: &[u8],
 ) -> [u8; 32]
     ensures digest { result ≡ sha256 value.now }
+    ensures room { vec_capacity kept.new.items ≡ vec_capacity kept.old.items }
+    ensures rows_room { vec_capacity kept.new.numbers ≡ vec_capacity kept.old.numbers }
 {
     if let Some(digest) = digest_kept(kept, row, value) {
         return digest;

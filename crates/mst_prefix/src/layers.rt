@@ -1,5 +1,5 @@
 //! What is kept of the texts of nodes, layer by layer.
-ghost use Rattle.std.specs.Prelude.{◌≡◌, ◌≤◌, ℕ, List, [], IfOk, Some};
+ghost use Rattle.std.specs.Prelude.{◌≡◌, ◌≤◌, ◌*◌, ◌/◌, ℕ, List, [], IfOk, IfSome, Some, min, vec_capacity};
 ghost use Rattle.sha2.specs.Sha256.{sha256};
 ghost use Rattle.mst_prefix.specs.Kept.{HasTaken, AreSound};
 
@@ -40,6 +40,7 @@ impl<A: Allocator> Model for LayerBeginnings<A> {
 /// A number of 32nds of the rows, or of as many as items can be told apart.
 fn part_of(rows: u32, parts: u32) -> u16
     requires part { parts ≤ 32 }
+    ensures part { result ≡ min rows 65535 * parts / 32 }
 {
     (rows.min(MOST_ITEMS as u32) * parts / PARTS) as u16
 }
@@ -54,6 +55,13 @@ fn room<A: Allocator + Copy>(
     requires texts { texts ≤ 32 }
     requires digests { digests ≤ 32 }
     ensures sound { IfOk result (λ b. AreSound b) }
+    ensures texts_room { IfOk result (λ lent. IfSome lent (λ b.
+        vec_capacity b.value.kept.items ≡ min rows 65535 * texts / 32)) }
+    ensures digests_room { IfOk result (λ lent. IfSome lent (λ b.
+        vec_capacity b.value.digests.items ≡ min rows 65535 * digests / 32)) }
+    ensures rows_room { IfOk result (λ lent. IfSome lent (λ b.
+        (vec_capacity b.value.kept.numbers ≡ rows)
+        × (vec_capacity b.value.digests.numbers ≡ rows))) }
 {
     let texts = part_of(rows, texts);
     let digests = part_of(rows, digests);
@@ -62,7 +70,8 @@ fn room<A: Allocator + Copy>(
 
 impl<A: Allocator + Copy> LayerBeginnings<A> {
     /// Nothing kept yet, for so many rows. Returns `Memory` if a growth was refused; no later call
-    /// takes memory.
+    /// takes memory. It has no clause: contracts see nothing of what is kept, and `room` says how
+    /// much memory each layer's takes.
     ///
     /// With most rows there is room for all entries of 30,000 keys: 15 in 16 keys of a map are of
     /// the lowest layer in format 1, and three in four in format 2, which alone keeps digests.
@@ -89,7 +98,8 @@ impl<A: Allocator> LayerBeginnings<A> {
         }
     }
 
-    /// Takes back what was lent of a layer's texts.
+    /// Takes back what was lent of a layer's texts. No clause says to which layer: what is kept
+    /// elsewhere costs time alone.
     fn take_back(&mut self, layer: u8, lent: Box<Beginnings<A>, A>)
         requires sound { AreSound (Some lent) }
     {

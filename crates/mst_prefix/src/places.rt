@@ -1,5 +1,6 @@
 //! Items that are kept for rows.
-ghost use Rattle.std.specs.Prelude.{◌≡◌, ◌<◌, [], length, IfOk, IfSome, IfNone, MatchOption, slice_get, None, Some};
+ghost use Rattle.std.specs.Prelude.{◌≡◌, ◌<◌, suc, [], length, IfOk, IfSome, IfNone, MatchOption, get_or, slice_get, vec_capacity, None, Some};
+ghost use Rattle.std.specs.List.{swap};
 ghost use Rattle.mst_prefix.specs.Places.{IsPutAt};
 
 use mst_key::Memory;
@@ -9,7 +10,8 @@ use std::alloc::Allocator;
 pub(crate) const MOST_ITEMS: usize = 65_535;
 
 /// Items in a room of their own, at most one for each row. An item stays where it is until another
-/// takes its place; which row it is kept for changes at no cost.
+/// takes its place; which row it is kept for changes at no cost. Both lists have the room that
+/// `new` gave them: each call leaves it as it was.
 ///
 /// No call promises that what was put for a row is found there: who asks looks at the item.
 #[derive(Drop)]
@@ -26,6 +28,8 @@ impl<T: Drop, A: Allocator + Copy> Places<T, A> {
     /// was refused; no later call takes memory.
     pub(crate) fn new(alloc: A, rows: u32, most: u16) -> Result<Places<T, A>, Memory>
         ensures empty { IfOk result (λ p. p.items.items ≡ []) }
+        ensures room { IfOk result (λ p. vec_capacity p.items ≡ most) }
+        ensures rows_room { IfOk result (λ p. vec_capacity p.numbers ≡ rows) }
     {
         let mut numbers = Vec::with_capacity(alloc, rows as usize)?;
         for _ in 0..rows {
@@ -42,7 +46,10 @@ impl<T: Drop, A: Allocator + Copy> Places<T, A> {
 
 impl<T: Drop, A: Allocator> Places<T, A> {
     /// The place of the item that is kept for a row.
-    pub(crate) fn place_of(&self, row: u32) -> Option<usize> {
+    pub(crate) fn place_of(&self, row: u32) -> Option<usize>
+        ensures place { MatchOption result (get_or self.now.numbers.items row 0 ≡ 0)
+            (λ place. get_or self.now.numbers.items row 0 ≡ suc place) }
+    {
         let number = *self.numbers.get(row as usize)?;
         (number as usize).checked_sub(1)
     }
@@ -58,6 +65,10 @@ impl<T: Drop, A: Allocator> Places<T, A> {
     /// The item of each of two rows becomes that of the other.
     pub(crate) fn swap(&mut self, one: u32, other: u32)
         ensures same { self.new.items ≡ self.old.items }
+        ensures swapped { one < length self.old.numbers.items
+            → other < length self.old.numbers.items
+            → self.new.numbers.items ≡ swap self.old.numbers.items one other }
+        ensures rows_room { vec_capacity self.new.numbers ≡ vec_capacity self.old.numbers }
     {
         let (one, other) = (one as usize, other as usize);
         let rows = self.numbers.len();
@@ -72,6 +83,7 @@ impl<T: Drop, A: Allocator> Places<T, A> {
         requires there { place < length self.old.items.items }
         ensures put { IsPutAt place item self.old.items.items self.new.items.items }
         ensures rows { self.new.numbers ≡ self.old.numbers }
+        ensures room { vec_capacity self.new.items ≡ vec_capacity self.old.items }
     {
         self.items[place] = item;
     }
@@ -83,6 +95,8 @@ impl<T: Drop, A: Allocator> Places<T, A> {
         ensures put { IfSome result
             (λ place. IsPutAt place item self.old.items.items self.new.items.items) }
         ensures none { IfNone result (self.new.items.items ≡ self.old.items.items) }
+        ensures room { vec_capacity self.new.items ≡ vec_capacity self.old.items }
+        ensures rows_room { vec_capacity self.new.numbers ≡ vec_capacity self.old.numbers }
     {
         match self.place_of(row) {
             Some(place) if place < self.items.len() => {
@@ -101,6 +115,8 @@ impl<T: Drop, A: Allocator> Places<T, A> {
         ensures put { IfSome result
             (λ place. IsPutAt place item self.old.items.items self.new.items.items) }
         ensures none { IfNone result (self.new.items.items ≡ self.old.items.items) }
+        ensures room { vec_capacity self.new.items ≡ vec_capacity self.old.items }
+        ensures rows_room { vec_capacity self.new.numbers ≡ vec_capacity self.old.numbers }
     {
         if row >= self.numbers.len() {
             return None;
@@ -120,6 +136,8 @@ impl<T: Drop, A: Allocator> Places<T, A> {
         ensures put { IfSome result
             (λ place. IsPutAt place item self.old.items.items self.new.items.items) }
         ensures none { IfNone result (self.new.items.items ≡ self.old.items.items) }
+        ensures room { vec_capacity self.new.items ≡ vec_capacity self.old.items }
+        ensures rows_room { vec_capacity self.new.numbers ≡ vec_capacity self.old.numbers }
     {
         let place = if self.turn < self.items.len() {
             self.turn

@@ -117,7 +117,9 @@ fn value_for<'a, B: Allocator>(node: &'a Node<B>, key: &Key) -> Option<&'a Value
 }
 
 /// Follows the texts and the nodes from a node down, up to the first text that is not its node's.
-/// If each text is its node's, the claimed value is compared with that of the node's entry.
+/// If each text is its node's, the claimed value is compared with that of the node's entry. Each
+/// call takes one text of the proof and goes to a child, so calls nest no deeper than the proof's
+/// texts, at most 255, and no deeper than the tree's layers.
 fn walk<A: Allocator + Copy>(
     alloc: A,
     format: Format,

@@ -100,6 +100,8 @@ fn is_wanted<R: Rows, A: Allocator>(
 fn room_for(limit: usize) -> usize
     requires some { 0 < limit }
     ensures some { 0 < result }
+    ensures most { result ≤ 128 }
+    ensures all { limit ≤ 128 → result ≡ limit }
 {
     if limit <= MOST_AT_ONCE { limit } else { 1 }
 }

@@ -20,10 +20,14 @@ const MOST_SPLITS: usize = 1023;
 fn rise(low: &Key, splits: &[Key]) -> bool
     ensures rise { result ≡ true ↔ AreSplits low.now splits.now }
 {
-    match splits {
-        [] => true,
-        [first, rest @ ..] => is_above(first, low) && rise(first, rest),
+    let mut below = low;
+    for split in splits {
+        if !is_above(split, below) {
+            return false;
+        }
+        below = split;
     }
+    true
 }
 
 // Says that a key is within its limits, as all are by their type.

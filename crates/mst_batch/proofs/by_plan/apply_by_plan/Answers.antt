@@ -7,6 +7,7 @@ use Rattle.mst_arena.specs.Lives.{free_count}
 use Rattle.mst_arena.specs.Standing.{Stands}
 use Rattle.mst_path.specs.Changing.{MapStands}
 use Rattle.mst_path.specs.AfterChange.{AfterChange}
+use Rattle.mst_batch.specs.Applying.{LacksBatch}
 use Rattle.mst_batch.specs.Beside.{AreMarks}
 use Rattle.mst_batch.specs.Carrying.{IsPlanOf}
 use Rattle.mst_batch.specs.Plans.{plan_of}
@@ -60,13 +61,15 @@ returns-in-Ok-carried-clause-changed g c =
     c.in-Ok-carried.ensures.changed (λ n. batched n c.args.edits.now) (planned g at)
 
 pub returns-clause-lacks : goal.returns-clause-lacks
-returns-clause-lacks g c m st =
+returns-clause-lacks g c =
     let at = (goal.at.returns-clause-lacks g c).After-as_slice in
-    subst (λ (x : Content). (change : List Pair → List Pair)
+    subst (λ why. LacksBatch why c.args.format (g.R.Rows.content c.args.rows.now) c.args.desk.now
+    c.args.root.now c.args.edits.now) (sym c.lack_of.ensures.no_room)
+    (λ m st. subst (λ (x : Content). (change : List Pair → List Pair)
     → IsPlanOf c.args.format x c.args.desk.now c.args.root.now c.as_slice.result.now
     (plan_of c.in-Ok.plan) change → (n : List Pair) → Stands c.args.format x c.args.root.now n
     → free_count c.args.desk.now.lives < cost c.args.format n (change n)) (same_rows g at)
-    c.in-Err-carried.ensures.no_room (λ n. batched n c.args.edits.now) (planned g at) m st
+    c.in-Err-carried.ensures.no_room (λ n. batched n c.args.edits.now) (planned g at) m st)
 
 -- ---- what a search finds
 

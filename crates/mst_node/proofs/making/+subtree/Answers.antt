@@ -1,12 +1,12 @@
-use Rattle.std.proofs.Common.{◌≡◌, ◌≢◌, [], length, ℕ, ◌<◌, ◌∙◌, sym, ap, arith, map, rules}
+use Rattle.std.proofs.Common.{◌≡◌, ◌≢◌, ◌≤◌, ◌+◌, [], length, ℕ, ◌<◌, ◌∙◌, sym, ap, subst, arith, map, rules}
 use Rattle.std.proofs.lemmas.List.{map-append}
 use Rattle.std.proofs.lemmas.Bool.Decides.{nat_tests}
-use Rattle.std.proofs.lemmas.Grind.{common_steps}
 use Rattle.std.specs.Prelude.{slice_range}
 use Rattle.mst_node.specs.Tree.{Tree, tree, greatest, node, entries_of, last}
 use Rattle.mst_node.specs.Shape.{TreeEntry, tree_entry, with_entries}
 use Rattle.mst_key.specs.Layer.{layer_in}
 use Rattle.mst_node.proofs.TreeEquation.{tree-no_pairs, has_some, tree_some, step_at, step_other, some_other, last_gap}
+use Rattle.mst_node.proofs.Heights.{height_of, height_some, low_none, low_more}
 use Rattle.mst_node.proofs.LayersByPlace.{layers-part, layers-length, layer-at}
 use Rattle.mst_node.proofs.making.+subtree.Goals as goal
 use Rattle.mst_node.proofs.making.+subtree.Goals.{then-layers-i+in_ok-child+in_ok-push, else-layers-i}
@@ -27,19 +27,30 @@ loop-i-init g t c =
     c.greatest_of-top.ensures.greatest ∙ ap greatest c.requires.layers in
     record {
       gap = omega arith;
+      low = low_none (layer_in c.args.format) c.args.pairs.now 0 c.greatest_of-top.result;
       entries = rw c.in_ok-entries.ensures.items;
       some = λ _. rw top (has_some (layer_in c.args.format) c.args.pairs.now some);
     }
 
 pub subtree-requires : goal.subtree-requires
-subtree-requires g t c κs within = (
-  grind (arith, common_steps),
-  (
-    search rules,
-    layers-part (layer_in c.args.format) c.args.pairs.now c.args.layers.now
-        c.loop-i.start c.loop-i.i c.requires.layers,
-  ),
-)
+subtree-requires g t c κs within =
+    let m = c.args.pairs.now in
+    let some : 0 < length m = grind (arith, nat_tests, c.if-is_empty.ensures) in
+    let top : c.greatest_of-top.result ≡ greatest (map (λ p. layer_in c.args.format p.0) m) =
+    c.greatest_of-top.ensures.greatest ∙ ap greatest c.requires.layers in (
+      omega (
+        arith,
+        c.decreases,
+        top,
+        height_some (layer_in c.args.format) m some,
+        c.loop-i.invariant.low,
+      ),
+      (
+        search rules,
+        layers-part (layer_in c.args.format) m c.args.layers.now c.loop-i.start c.loop-i.i
+            c.requires.layers,
+      ),
+    )
 
 pub loop-i-preserved : goal.loop-i-preserved
 loop-i-preserved g t c =
@@ -48,6 +59,9 @@ loop-i-preserved g t c =
     let within : c.loop-i.i < length m = omega arith in
     let place = layer-at (layer_in c.args.format) m c.args.layers.now c.loop-i.i x c.requires.layers
     within c.index-pairs-i.is in
+    let top : c.greatest_of-top.result ≡ greatest
+    (map (λ p. layer_in c.args.format p.0) c.args.pairs.now) =
+    c.greatest_of-top.ensures.greatest ∙ ap greatest c.requires.layers in
     elim c.if-layers-i.branch [
       | then-layers-i+in_ok-child+in_ok-push w ↦
           let at : layer_in c.args.format x.0 ≡ c.greatest_of-top.result =
@@ -58,6 +72,8 @@ loop-i-preserved g t c =
           w.entry_of.ensures.entry c.args.format ∙ ap entry_is w.in_ok-child.ensures.tree in
           record {
             gap = omega (arith, w.start-is);
+            low = rw w.start-is
+                (low_none (layer_in c.args.format) m (c.loop-i.i + 1) c.greatest_of-top.result);
             entries = rw (w.start-is, w.entries-is, w.in_ok-push.ensures.items, map-append)
                 (step_at c.args.format m x c.loop-i.start c.loop-i.i _
                 (map (tree_entry c.args.format) c.loop-i.entries.items)
@@ -70,6 +86,10 @@ loop-i-preserved g t c =
           λ e. w.if-layers-i.false (place ∙ e) in
           record {
             gap = omega (arith, w.start-is);
+            low = rw w.start-is
+                (low_more (layer_in c.args.format) m x c.loop-i.start c.loop-i.i
+                c.greatest_of-top.result c.loop-i.invariant.gap within c.index-pairs-i.is top other
+                c.loop-i.invariant.low);
             entries =
                 rw (w.start-is, w.entries-is)
                 (step_other c.args.format m x c.loop-i.start c.loop-i.i _ _ _ c.loop-i.invariant.gap
@@ -82,8 +102,16 @@ loop-i-preserved g t c =
 pub subtree-requires-2 : goal.subtree-requires-2
 subtree-requires-2 g t c κs within =
     let m = c.args.pairs.now in
-    let start = c.loop-i.start in (
-      grind (arith, common_steps),
+    let start = c.loop-i.start in
+    let some : 0 < length m = grind (arith, nat_tests, c.if-is_empty.ensures) in
+    let top : c.greatest_of-top.result ≡ greatest (map (λ p. layer_in c.args.format p.0) m) =
+    c.greatest_of-top.ensures.greatest ∙ ap greatest c.requires.layers in
+    let end : c.loop-i.i ≡ length m = omega (arith, c.loop-i-test.false) in
+    let low : height_of (layer_in c.args.format) (slice_range m start (length m))
+    ≤ c.greatest_of-top.result =
+    subst (λ (n : ℕ). height_of (layer_in c.args.format) (slice_range m start n)
+    ≤ c.greatest_of-top.result) end c.loop-i.invariant.low in (
+      omega (arith, c.decreases, top, height_some (layer_in c.args.format) m some, low),
       (
         search rules,
         ap (λ (n : ℕ). slice_range c.args.layers.now start n)

@@ -1,18 +1,22 @@
-use Rattle.std.proofs.Common.{length, ◌≡◌, ◌≤◌, [], map, drop}
+use Rattle.std.proofs.Common.{◌≡◌, ◌≤◌, [], map, drop}
 use Rattle.std.specs.Prelude.{slice_range}
 use Rattle.mst_key.specs.Layer.{layer_in}
 use Rattle.mst_node.specs.Tree.{tree, entries_of}
 use Rattle.mst_node.specs.Shape.{tree_entry, with_entries}
 use Rattle.mst_node.proofs.TreeEquation.{Has}
+use Rattle.mst_node.proofs.Heights.{height_of}
 use Rattle.mst_node.proofs.making.+subtree.Given as goal
 
+-- layers fall from a node to its gaps
 abbrev pub decreases-subtree : goal.decreases-subtree
-decreases-subtree g l = length l.pairs.now
+decreases-subtree g l = height_of (layer_in l.format) l.pairs.now
 
--- the entries so far stand in front of those that the gap so far and the other pairs make
+-- the entries so far stand in front of those that the gap so far and the other pairs make, and the
+-- gap is below the layer
 abbrev pub invariant-loop-i : goal.invariant-loop-i
 invariant-loop-i g l = record {
   gap : l.start ≤ l.i;
+  low : height_of (layer_in l.format) (slice_range l.pairs l.start l.i) ≤ l.top;
   entries : with_entries (map (tree_entry l.format) l.entries.items)
       (entries_of (layer_in l.format) (tree l.format) l.top (slice_range l.pairs l.start l.i)
       (drop l.i l.pairs)) ≡ entries_of (layer_in l.format) (tree l.format) l.top [] l.pairs;

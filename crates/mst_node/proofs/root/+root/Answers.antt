@@ -1,11 +1,13 @@
-use Rattle.std.proofs.Common.{◌≡◌, ◌≢◌, ◌<◌, ◌+◌, ◌-◌, [], length, take, drop, ℕ, List, Some, ◌∙◌, sym, ap, arith, length-drop}
+use Rattle.std.proofs.Common.{◌≡◌, ◌≢◌, ◌≤◌, ◌<◌, ◌+◌, ◌-◌, [], length, take, drop, ℕ, List, Some, ◌∙◌, sym, ap, subst, arith, length-drop}
 use Rattle.std.proofs.lemmas.Bool.Decides.{nat_tests}
 use Rattle.std.proofs.lemmas.List.{length-take}
 use Rattle.std.specs.Prelude.{slice_range}
 use Rattle.sha2.specs.Sha256.{sha256}
 use Rattle.mst_key.specs.Layer.{layer_in}
+use Rattle.mst_node.specs.Top.{IsTop}
 use Rattle.mst_node.specs.Text.{child_digest, counted, held_of, held_text, heading}
 use Rattle.mst_node.proofs.TreeEquation.{tree-no_pairs, has_some, some_other, gap_more, gap_none}
+use Rattle.mst_node.proofs.Heights.{height_of, height_some, low_none, low_more}
 use Rattle.mst_node.proofs.TopNodes.{at_layer-le, text_some, text_at, text_other, text_end, child_digest_some}
 use Rattle.mst_node.proofs.root.+root.Goals as goal
 use Rattle.mst_node.proofs.root.+root.Goals.{digest_of-then-layer-top, digest_of-else-layer-top}
@@ -24,6 +26,7 @@ pub digest_of-loop-i-init : goal.digest_of-loop-i-init
 digest_of-loop-i-init t c =
     record {
       within = omega arith;
+      low = low_none (layer_in c.args.format) c.args.pairs.now 0 c.args.top.layer;
       some =
           λ _. rw c.requires.top.layer
           (has_some (layer_in c.args.format) c.args.pairs.now c.requires.some);
@@ -36,6 +39,64 @@ digest_of-loop-i-init t c =
             c.requires.some c.requires.top.layer c.requires.top.count),
       );
     }
+
+pub digest_of-gap_digest-child-requires : goal.digest_of-gap_digest-child-requires
+digest_of-gap_digest-child-requires t c =
+    let start = c.loop-i.start in
+    let i = c.loop-i.i in
+    let rest = drop start c.args.pairs.now in (
+      omega (
+        arith,
+        c.requires.top.layer,
+        height_some (layer_in c.args.format) c.args.pairs.now c.requires.some,
+        c.loop-i.invariant.low,
+      ),
+      (
+        omega (
+          arith,
+          c.requires.few,
+          length-take (i - start) rest,
+          length-drop start c.args.pairs.now,
+        ),
+        c.loop-i.invariant.gap_top,
+      ),
+    )
+
+pub digest_of-gap_digest-requires : goal.digest_of-gap_digest-requires
+digest_of-gap_digest-requires t c =
+    let m = c.args.pairs.now in
+    let start = c.loop-i.start in
+    let rest = drop start m in
+    let end : c.loop-i.i ≡ length m = omega (arith, c.loop-i-test.false) in
+    let low : height_of (layer_in c.args.format) (slice_range m start (length m))
+    ≤ c.args.top.layer = subst (λ (n : ℕ). height_of (layer_in c.args.format)
+    (slice_range m start n) ≤ c.args.top.layer) end c.loop-i.invariant.low in (
+      omega (
+        arith,
+        c.requires.top.layer,
+        height_some (layer_in c.args.format) m c.requires.some,
+        low,
+      ),
+      (
+        omega (
+          arith,
+          c.requires.few,
+          length-take (length m - start) rest,
+          length-drop start m,
+        ),
+        subst (λ (n : ℕ). IsTop c.args.format (slice_range m start n) c.loop-i.gap) end
+            c.loop-i.invariant.gap_top,
+      ),
+    )
+
+pub gap_digest-digest_of-requires : goal.gap_digest-digest_of-requires
+gap_digest-digest_of-requires t c = (
+  omega arith,
+  (
+    grind (arith, nat_tests, c.if-is_empty.ensures),
+    (c.requires.few, c.requires.top),
+  ),
+)
 
 pub digest_of-with-gap-requires : goal.digest_of-with-gap-requires
 digest_of-with-gap-requires t c =
@@ -71,6 +132,7 @@ digest_of-loop-i-preserved t c =
           let held = w.entry.ensures.entry front c.loop-i.invariant.fed.1 in
           record {
             within = omega (arith, w.start-is);
+            low = rw w.start-is (low_none (layer_in c.args.format) m (i + 1) c.args.top.layer);
             some = λ z. absurd (omega (arith, z, w.start-is));
             gap_top = rw (w.start-is, w.gap-is, gap_none m (i + 1))
                 (w.none-gap-then-layer-top.ensures.top c.args.format);
@@ -90,6 +152,10 @@ digest_of-loop-i-preserved t c =
           λ e. w.if-layer-top.false (c.layer_in-layer.ensures.layer ∙ e) in
           record {
             within = omega (arith, w.start-is);
+            low = rw w.start-is
+                (low_more (layer_in c.args.format) m x start i c.args.top.layer
+                c.loop-i.invariant.within within c.index-pairs-i.is c.requires.top.layer other
+                c.loop-i.invariant.low);
             some = λ z. some_other c.args.format m x i _ within c.index-pairs-i.is other
                 (c.loop-i.invariant.some (sym w.start-is ∙ z));
             gap_top =

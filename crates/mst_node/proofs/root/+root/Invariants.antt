@@ -1,4 +1,4 @@
-use Rattle.std.proofs.Common.{◌≡◌, ◌≤◌, ◌+◌, ◌*◌, ℕ, List, length, ◌++◌, drop}
+use Rattle.std.proofs.Common.{◌≡◌, ◌≤◌, ◌+◌, ◌*◌, ℕ, List, ◌++◌, drop}
 use Rattle.std.specs.Prelude.{slice_range}
 use Rattle.sha2.specs.Hashers.{Holds256}
 use Rattle.mst_key.specs.Layer.{layer_in}
@@ -7,19 +7,22 @@ use Rattle.mst_node.specs.Text.{text}
 use Rattle.mst_node.specs.Top.{IsTop}
 use Rattle.mst_node.proofs.TreeEquation.{Has}
 use Rattle.mst_node.proofs.TopNodes.{entries_text}
+use Rattle.mst_node.proofs.Heights.{height_of}
 use Rattle.mst_node.proofs.root.+root.Given as goal
 
+-- layers fall from a node to its gaps
 abbrev pub decreases-digest_of : goal.decreases-digest_of
-decreases-digest_of l = 2 * length l.pairs.now
+decreases-digest_of l = 2 * height_of (layer_in l.format) l.pairs.now
 
 abbrev pub decreases-gap_digest : goal.decreases-gap_digest
-decreases-gap_digest l = 2 * length l.pairs.now + 1
+decreases-gap_digest l = 2 * height_of (layer_in l.format) l.pairs.now + 1
 
 -- the hasher holds the front of the text, which goes on with the entries that the gap so far and
--- the other pairs make
+-- the other pairs make, and the gap is below the layer
 abbrev pub invariant-digest_of-loop-i : goal.invariant-digest_of-loop-i
 invariant-digest_of-loop-i l = record {
   within : l.start ≤ l.i;
+  low : height_of (layer_in l.format) (slice_range l.pairs l.start l.i) ≤ l.top.layer;
   some : l.start ≡ 0 → Has (layer_in l.format) l.top.layer (drop l.i l.pairs);
   gap_top : IsTop l.format (slice_range l.pairs l.start l.i) l.gap;
   fed : (front : List ℕ) × Holds256 l.hasher front
