@@ -44,10 +44,11 @@
  *     and may be null;
  *   - during a call no other thread writes what the call reads (key, value, bounds, edits), or
  *     touches what it may write (the hand, rooms, and where it tells lengths and numbers);
- *   - malloc, realloc and free are of one allocator and align to 16 bytes. They return: neither an
- *     exception nor longjmp leads out of them, and no thread is cancelled within a call
- *     (pthread_cancel with asynchronous cancellation). A thread whose cancellation is deferred may
- *     be cancelled where a call that waits sleeps: then nothing is written;
+ *   - malloc, posix_memalign, realloc and free are of one allocator, and malloc and realloc align to
+ *     16 bytes. They return: neither an exception nor longjmp leads out of them, and no thread is
+ *     cancelled within a call (pthread_cancel with asynchronous cancellation). A thread whose
+ *     cancellation is deferred may be cancelled where a call that waits sleeps: then nothing is
+ *     written;
  *   - a thread has stack left for a call: 16 KiB are enough over maps of random keys. Keys that
  *     were chosen to make a tree deep, of at most 129 layers, take less than 128 KiB, and a call
  *     then nests less than 140 functions;
@@ -559,9 +560,9 @@ typedef struct mst_handle {
  * is one shard more than splits. mst_split below writes a split.
  *
  * Returns MST_OK; MST_UNKNOWN_FORMAT for another format; MST_BAD_SPLITS; MST_BAD_SHAPE if rows or
- * count are out of their limits; MST_MEMORY, also before the order of the splits or the shape is
- * looked at, if there is none for their list. If it does not return MST_OK, all hands are empty.
- * But of more than 32 hands none is looked at: they stay as they are.
+ * count are out of their limits; MST_MEMORY, which is asked for only after these tests. If it does
+ * not return MST_OK, all hands are empty. But of more than 32 hands none is looked at: they stay as
+ * they are.
  */
 int32_t mst_sharded_open(uint32_t format, uint32_t rows, const uint8_t *splits,
                          size_t splits_length, mst_handle *handles, size_t count);
@@ -721,7 +722,8 @@ int32_t mst_sharded_remove(mst_handle *handle, const uint8_t *key, size_t key_le
 
 /*
  * As mst_sharded_try_apply, but waits for the turn of each shard as mst_put does: no shard gets its
- * edits twice.
+ * edits twice. If there is no memory for the lists after it has waited, *shard is the number of the
+ * shard that it waited for: those before it have their edits, and a further call goes on there.
  *
  *     size_t place, shard = 0;
  *     int32_t told = mst_sharded_apply(handle, edits, length, &place, &shard);
@@ -729,7 +731,12 @@ int32_t mst_sharded_remove(mst_handle *handle, const uint8_t *key, size_t key_le
 int32_t mst_sharded_apply(mst_handle *handle, const uint8_t *edits, size_t length,
                           size_t *place, size_t *shard);
 
-/* As mst_sharded_try_migrate, but waits for the turn of each shard as mst_put does. */
+/*
+ * As mst_sharded_try_migrate, but waits for the turn of each shard as mst_put does. After each wait
+ * it begins again at the first shard, so a shard may get several versions. If it is refused, those
+ * before *stopped are migrated, and some behind it may be; if there is no memory for the list after
+ * it has waited, *stopped is the number of the shard that it waited for.
+ */
 int32_t mst_sharded_migrate(mst_handle *handle, uint32_t format, size_t *stopped);
 
 /* ---- blocks of a sharded map ---- */
@@ -837,11 +844,12 @@ int32_t mst_blocks_try_snapshot(mst_blocks_handle *reader);
 int32_t mst_blocks_release(mst_blocks_handle *reader);
 
 /*
- * As mst_get: a snapshot reads its block, a reader the current version of the key's shard. Two such
- * reads of a reader need not be of one block. Returns what mst_get returns; right after MST_BAD_KEY
- * comes MST_WRONG_STATE for the writer.
+ * As mst_get: the writer reads its last block, a snapshot its block, a reader the current version of
+ * the key's shard. Two such reads of a reader need not be of one block. Returns what mst_get
+ * returns, or for the writer MST_OVERTAKEN if another than the writer has written to the key's
+ * shard, which no call makes so.
  */
-int32_t mst_blocks_get(mst_blocks_handle *reader, const uint8_t *key, size_t key_length,
+int32_t mst_blocks_get(mst_blocks_handle *hand, const uint8_t *key, size_t key_length,
                        uint8_t *room, size_t room_length);
 
 /*
@@ -934,10 +942,11 @@ int32_t mst_blocks_group_open(mst_blocks_handle *writer, mst_blocks_group **grou
  * tells *place, of an edit among these, and *shard as that does. What is not told is as it was.
  *
  * If no block is being made when the call comes, it makes one of its edits at once. Calls that come
- * meanwhile sleep. Then the first of them makes one block of all that wait, up to 1,048,576 bytes
- * of edits, and so on. In a block the edits of each call follow those of the calls that came before
- * it. So a call may make the edits of others with its own; if that block is refused, or there is no
- * memory for it, it makes one block for each of its calls.
+ * meanwhile sleep. Then the first of them, or a call that comes before it is awake, makes one block
+ * of all that wait, up to 1,048,576 bytes of edits, and so on. In a block the edits of each call
+ * follow those of the calls that came before it. So a call may make the edits of others with its
+ * own; if that block is refused, or there is no memory for it, it makes one block for each of its
+ * calls.
  *
  * If a block of several calls is refused, each of them gets a block of its own, in the same order.
  * So a call is refused only if mst_blocks_apply would refuse its edits alone, after those of the

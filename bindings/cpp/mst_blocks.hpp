@@ -230,6 +230,10 @@ public:
         }
     }
 
+    // Returns the value of the key in the last block, or nothing if the key is absent: so a block can
+    // depend on what the map has.
+    std::optional<std::string> get(std::string_view key) { return value_told(key); }
+
     // Returns the number of the last block; 0 is that of the empty map.
     std::uint64_t number() { return number_told(); }
 

@@ -176,6 +176,14 @@ func (w *BlockWriter) Apply(batch *Batch) (number uint64, err error) {
 	return uint64(made), refusalOfShards(told, place, shard)
 }
 
+// Get returns the value of the key in the last block, if the key is present: so a block can depend
+// on what the map has. The error is ErrClosed, ErrKey, or ErrOvertaken.
+func (w *BlockWriter) Get(key []byte) (value []byte, present bool, err error) {
+	w.of.mutex.Lock()
+	defer w.of.mutex.Unlock()
+	return w.of.get(key)
+}
+
 // Number returns the number of the last block; 0 is that of the empty map. The error is ErrClosed.
 func (w *BlockWriter) Number() (uint64, error) {
 	w.of.mutex.Lock()

@@ -37,6 +37,11 @@ def _addresses():
     return re.findall(r'^(\w+) = "(.*)"$', table, re.MULTILINE)
 
 
+def _version():
+    """The version as wheels spell it: of one between two releases 0.4.0.dev0 (PEP 440)."""
+    return re.sub("-dev$", ".dev0", _field("version"))
+
+
 def _list(name):
     listed = re.search(rf"^{name} = \[(.*?)\]", _project(), re.MULTILINE | re.DOTALL).group(1)
     return re.findall(r'"(.*?)"', listed)
@@ -64,7 +69,7 @@ def _record(contents, name):
 
 def build_wheel(wheel_directory, config_settings=None, metadata_directory=None):
     """The hook of PEP 517: writes the wheel into the folder, and returns its name."""
-    name, version = _field("name"), _field("version")
+    name, version = _field("name"), _version()
     folder = os.environ.get("MST_STORE_DIR") or os.path.join(HERE, "..", "out")
     library = _read(os.path.join(folder, "libmst_store.so"))
     tag = "py3-none-" + _platform(library)

@@ -264,6 +264,13 @@ class BlockWriter:
         _answer(code)
         return int(number.value)
 
+    def get(self, key: Octets) -> Optional[bytes]:
+        """Returns the value of the key in the last block, or None if the key is absent: so a block
+        can depend on what the map has."""
+        key = _octets(key)
+        with self._held.lock:
+            return self._held.get(key)
+
     def number(self) -> int:
         """Returns the number of the last block; 0 is that of the empty map."""
         with self._held.lock:

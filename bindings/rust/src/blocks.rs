@@ -115,6 +115,15 @@ fn root_of(hand: &mut BlocksHand) -> [u8; ROOT_LENGTH] {
     root
 }
 
+fn value_of(hand: &mut BlocksHand, key: &[u8]) -> Result<Option<Vec<u8>>, Error> {
+    let mut room = [0; VALUE_LONGEST];
+    // Safety: each pointer is valid for the length that goes with it, and the room is no other's.
+    let code = unsafe {
+        raw::mst_blocks_get(hand, key.as_ptr(), key.len(), room.as_mut_ptr(), room.len())
+    };
+    reads::value(code, &room).map_err(Error::of)
+}
+
 fn shards_of(hand: &mut BlocksHand) -> usize {
     // Safety: the hand is valid, and holds something, so the answer is 1 to 1,024.
     unsafe { raw::mst_blocks_shards(hand) as usize }
@@ -163,6 +172,12 @@ impl Writer {
         }
     }
 
+    /// Returns the value of the key in the last block, or None if the key is absent: so a block can
+    /// depend on what the map has.
+    pub fn get(&mut self, key: &[u8]) -> Result<Option<Vec<u8>>, Error> {
+        value_of(&mut self.hand, key)
+    }
+
     /// Returns the number of the last block; 0 is that of the empty map.
     pub fn number(&mut self) -> u64 {
         number_of(&mut self.hand)
@@ -195,19 +210,7 @@ impl Reader {
     /// Returns the value that the key has now, or None if the key is absent. Two such reads need
     /// not be of one block.
     pub fn get(&mut self, key: &[u8]) -> Result<Option<Vec<u8>>, Error> {
-        let mut room = [0; VALUE_LONGEST];
-        // Safety: each pointer is valid for the length that goes with it, and the room is no
-        // other's.
-        let code = unsafe {
-            raw::mst_blocks_get(
-                &mut self.hand,
-                key.as_ptr(),
-                key.len(),
-                room.as_mut_ptr(),
-                room.len(),
-            )
-        };
-        reads::value(code, &room).map_err(Error::of)
+        value_of(&mut self.hand, key)
     }
 
     /// Returns a snapshot of one block, or None while a block is just being published.

@@ -57,6 +57,7 @@ fn makes(writer: &mut Writer, map: &mut Map, seed: &mut u64) -> Told {
             None => map.remove(&key),
         };
     }
+    assert!((0..=255).all(|byte| writer.get(&[byte]) == Ok(map.get(&vec![byte]).cloned())));
     (writer.number(), writer.root())
 }
 

@@ -1,5 +1,7 @@
 pub mod BlocksMade
 pub mod BoxParts
+pub mod CodesApart
 pub mod HandValues
 pub mod LotsDealt
 pub mod SplitPacking
+pub mod SplitRising

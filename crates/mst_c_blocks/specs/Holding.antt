@@ -1,13 +1,14 @@
 -- What the calls of a hand's writer, reader or snapshot do.
-use Rattle.std.specs.Prelude.{◌≡◌, ℕ, ◌+◌, List, length, Bool, true, false, Option, Some, None, Result, Ok, Err}
+use Rattle.std.specs.Prelude.{◌≡◌, ◌≢◌, ℕ, ◌+◌, List, length, Bool, true, false, Option, Some, None, Result, Ok, Err}
 use Rattle.mst_key.specs.Map.{map_get}
 use Rattle.mst_sharded_proof.specs.Theorem.{HasShardedRoot}
-use Rattle.mst_store.specs.Passes.{Answers, format_seen}
-use Rattle.mst_shards.specs.BlockHistory.{Whole, IsNumber, IsOneBlock}
+use Rattle.mst_store.specs.Passes.{Answers, Looks, format_seen}
+use Rattle.mst_shards.specs.BlockHistory.{Blocks, Whole, IsNumber, IsOneBlock}
 use Rattle.mst_shards.specs.Directory.{OfClean}
 use Rattle.mst_shards.specs.Sharding.{Routes, map_of}
 use Rattle.mst_snapshots.specs.Reading.{PinsWhole}
-use Rattle.mst_blocks.specs.Writing.{last_block, block_map, IsWriter}
+use Rattle.mst_blocks.specs.Blocks.{last_made, LeavesAll}
+use Rattle.mst_blocks.specs.Writing.{last_block, block_map, IsWriter, HasMade}
 use Rattle.mst_c_blocks.specs.declared.role_box.Role.{Role}
 use Rattle.mst_c_blocks.specs.declared.role_box.Role.TheVariants.{Away, Writer, Reader, Snapshot}
 use Rattle.mst_c_blocks.specs.declared.asking.Unread.{Unread}
@@ -69,12 +70,21 @@ Releases (Snapshot s) done now = (done ≡ true) × (now ≡ Reader s)
 
 -- ---- reads
 
--- The value of a key: a reader's pass of the key's shard answers, for which it looks once; a
--- snapshot has it from the map of its block; the writer answers nothing
+-- a writer that looks has the map of its last block still, and has made the blocks that it had made
+pub record StaysWriter (w v : Whole) : Type 0 where
+  pub map : block_map v ≡ block_map w
+  pub left : LeavesAll w.sharding.shards v.sharding.shards w.directory v.directory
+  pub made : (blocks : Blocks) → HasMade blocks w → HasMade blocks v
+
+-- The value of a key: the writer has it from the map of its last block, or tells that another has
+-- written to the key's shard; a reader's pass of that shard answers, for which it looks once; a
+-- snapshot has it from the map of its block
 abbrev pub Gets : List ℕ → Role → Option (Option (List ℕ)) → Role → Type 0
 Gets key Away answer now = ⊥
-Gets key (Writer w) None now = now ≡ Writer w
-Gets key (Writer w) (Some answer) now = ⊥
+Gets key (Writer w) None now = (v : Whole) × (now ≡ Writer v) × StaysWriter w v
+    × Routes key (λ x y. Looks x y × (length y.seen ≢ last_made x)) w.sharding v.sharding
+Gets key (Writer w) (Some answer) now = (v : Whole) × (now ≡ Writer v) × StaysWriter w v
+    × (answer ≡ map_get (block_map w) key)
 Gets key (Reader r) None now = ⊥
 Gets key (Reader r) (Some answer) now = (q : Whole) × (now ≡ Reader q)
     × Routes key (λ x y. Answers (λ _ m. map_get m key) x answer y) r.sharding q.sharding

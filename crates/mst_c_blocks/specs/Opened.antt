@@ -1,15 +1,12 @@
 -- What C is told when a sharded map with blocks is opened.
-use Rattle.std.specs.Prelude.{◌≡◌, ◌<◌, ℕ, ℤ, List, [], length, get_or, Option, Some, None}
+use Rattle.std.specs.Prelude.{◌≡◌, ◌<◌, ℕ, List, [], length, get_or, Option, Some, None}
 use Rattle.mst_key.specs.declared.format.Format.{Format}
 use Rattle.mst_words.specs.declared.view.Shape.{Shape}
 use Rattle.mst_store.specs.Passes.{IsShape}
 use Rattle.mst_shards.specs.BlockHistory.{Whole, whole, IsNumber}
 use Rattle.mst_shards.specs.Opening.{Shards, HasShards, Dealt, lot}
 use Rattle.mst_shards.specs.Sharding.{IsSplits}
-use Rattle.mst_shards.specs.declared.faults.ShardsFault.{ShardsFault}
-use Rattle.mst_shards.specs.declared.faults.ShardsFault.TheVariants.{Splits, Shape as BadShape, Memory}
 use Rattle.mst_blocks.specs.Writing.{last_block, IsWriterOf, HasMade}
-use Rattle.mst_c.specs.Codes.{memory, bad_shape, bad_splits}
 use Rattle.mst_c.specs.Formats.{format_named}
 use Rattle.mst_c_blocks.specs.declared.role_box.Role.{Role}
 use Rattle.mst_c_blocks.specs.declared.role_box.Role.TheVariants.{Writer, Reader}
@@ -63,8 +60,3 @@ pub record BlocksOpened (format rows : ℕ) (bytes : List ℕ) (hands : List Pad
 abbrev pub NoneHeld : List PaddedBlocksHand → Type 0
 NoneHeld hands =
     (k : ℕ) (h : PaddedBlocksHand) → k < length hands → (get_or hands k h).hand.held ≡ None
-
-abbrev pub fault_code : ShardsFault → ℤ
-fault_code Splits = bad_splits
-fault_code BadShape = bad_shape
-fault_code (Memory refused) = memory

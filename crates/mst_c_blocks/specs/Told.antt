@@ -3,7 +3,7 @@ use Rattle.std.specs.Prelude.{◌≡◌, ℕ, ℤ, pos, nat_lt, if◌then◌else
 use Rattle.mst_key.specs.Bytes.{IsKey}
 use Rattle.mst_c.specs.Codes.{short_room, bad_key, closed, wrong_state}
 use Rattle.mst_c.specs.Told.{value_code, room_after, done_code}
-use Rattle.mst_c_blocks.specs.Codes.{moving}
+use Rattle.mst_c_blocks.specs.Codes.{moving, overtaken}
 use Rattle.mst_c_blocks.specs.declared.role_box.Role.{Role}
 use Rattle.mst_c_blocks.specs.Holding.{shards_in, Numbers, HasRoot, Tries, Releases, Gets}
 
@@ -78,13 +78,13 @@ CloseTold (Some r) code hand = (code ≡ pos 0) × (hand ≡ None)
 
 abbrev pub get_code : ℕ → Option (Option (List ℕ)) → ℤ
 get_code room (Some answer) = value_code room answer
-get_code room None = wrong_state
+get_code room None = overtaken
 
 abbrev pub get_room : List ℕ → Option (Option (List ℕ)) → List ℕ
 get_room room (Some answer) = room_after room answer
 get_room room None = room
 
--- -7 for an empty hand, -5 for what is no key, otherwise the answer of the reader or the snapshot
+-- -7 for an empty hand, -5 for what is no key, otherwise the answer, or -29 if the writer has none
 abbrev pub GetTold : Option Role → List ℕ → List ℕ → ℤ → List ℕ → Option Role → Type 0
 GetTold None key room code room' hand = Nothing closed None room code room' hand
 GetTold (Some r) key room code room' hand =

@@ -1,5 +1,5 @@
-//! What a reader or a snapshot of a sharded map answers, and how one turns into the other. Each
-//! question takes what a hand holds, and gives it back with the answer.
+//! What the writer, a reader or a snapshot of a sharded map answers, and how a reader turns into a
+//! snapshot. Each question takes what a hand holds, and gives it back with the answer.
 ghost use Rattle.std.specs.Prelude.{◌≤◌, length, Ok, Err, IfOk, IfErr};
 ghost use Rattle.std.specs.Option.{option_copied};
 ghost use Rattle.mst_key.specs.Map.{map_next, map_range};
@@ -7,8 +7,10 @@ ghost use Rattle.mst_c_blocks.specs.Holding.{HasRoot, Tries, Gets, Reads, Lists}
 ghost use Rattle.mst_c_blocks.specs.Proving.{HasProof, HasDirectory};
 ghost use Rattle.mst_c_blocks.specs.Reading.{OfMap, HasFormat};
 ghost use Rattle.mst_c_blocks.specs.States.{IsThere};
+ghost use Rattle.mst_c_blocks.specs.declared.role_box.Role.TheVariants as role;
 
 use crate::role_box::Role;
+use mst_blocks::Writer;
 use mst_key::{Format, Key, Memory, Value};
 use std::alloc::Global;
 
@@ -57,7 +59,18 @@ pub(crate) fn try_of(role: Role) -> (Role, Option<bool>)
     }
 }
 
-/// The value of a key. The writer has no answer.
+/// The value of a key in the writer's last block. There is no answer if another has written to the
+/// key's shard.
+fn last_value(mut writer: Writer<Global>, key: &Key) -> (Writer<Global>, Option<Option<Value>>)
+    ensures gets { Gets key.now (role.Writer writer) result.1 (role.Writer result.0) }
+{
+    match writer.get(key) {
+        Ok(found) => (writer, Some(found)),
+        Err(_) => (writer, None),
+    }
+}
+
+/// The value of a key. Only the writer may have no answer.
 pub(crate) fn value_of(role: Role, key: &Key) -> (Role, Option<Option<Value>>)
     requires there { IsThere role }
     ensures gets { Gets key.now role result.1 result.0 }
@@ -65,7 +78,10 @@ pub(crate) fn value_of(role: Role, key: &Key) -> (Role, Option<Option<Value>>)
 {
     match role {
         Role::Away => unreachable!(),
-        Role::Writer(writer) => (Role::Writer(writer), None),
+        Role::Writer(writer) => {
+            let (writer, found) = last_value(writer, key);
+            (Role::Writer(writer), found)
+        }
         Role::Reader(mut reader) => {
             let found = reader.get(key);
             (Role::Reader(reader), Some(found))

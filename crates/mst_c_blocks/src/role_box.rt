@@ -158,7 +158,7 @@ impl RoleBox {
         }
     }
 
-    /// The value of a key, of a reader or a snapshot.
+    /// The value of a key. Only the writer may have no answer: if another has written.
     pub(crate) fn get(&mut self, key: &Key) -> Option<Option<Value>>
         ensures gets { Gets key.now self.old result self.new }
     {

@@ -2,7 +2,7 @@
 ghost use Rattle.std.specs.Prelude.{◌≡◌, length, None};
 ghost use Rattle.mst_c_blocks.specs.Told.{number_code, number_after, try_code as code_of_try, get_code, get_room, ShardsTold, NumberTold, TryTold, ReleaseTold, CloseTold, GetTold};
 
-use crate::codes::MOVING;
+use crate::codes::{MOVING, OVERTAKEN};
 use crate::hand::{BlocksHand, give, take};
 use mst_c::codes::{BAD_KEY, CLOSED, WRONG_STATE};
 use mst_c::telling::{done_code, tell};
@@ -95,14 +95,15 @@ pub fn close(alloc: Global, hand: &mut BlocksHand) -> i32
     0
 }
 
-/// The code of a reader's or a snapshot's value. It stands first in the room then, if it fits.
+/// The code of a value. It stands first in the room then, if it fits. The writer has none if
+/// another has written.
 fn tell_value(found: Option<Option<Value>>, room: &mut [u8]) -> i32
     ensures code { result ≡ get_code (length room.old) found }
     ensures room { room.new ≡ get_room room.old found }
 {
     match found {
         Some(value) => tell(&value, room),
-        None => WRONG_STATE,
+        None => OVERTAKEN,
     }
 }
 

@@ -1,4 +1,6 @@
+pub mod CodesApart
 pub mod ShardedBox
 pub mod ShardedDealt
 pub mod ShardedPacking
+pub mod ShardedRising
 pub mod ShardedValues

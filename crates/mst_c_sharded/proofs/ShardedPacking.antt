@@ -3,6 +3,7 @@ use Rattle.std.proofs.Common.{◌≡◌, ℕ, ◌<◌, List, [], ◌∷◌, ◌+
 use Rattle.std.proofs.Math.Seq.{drop-append_seam, take-append_seam}
 use Rattle.mst_key.specs.Bytes.{IsKey}
 use Rattle.mst_sharded_proof.specs.Shards.{least, AreSplits}
+use Rattle.mst_shards.specs.Sharding.{IsSplits}
 use Rattle.mst_c_sharded.specs.ShardedSplits.{splits_bytes, PacksSplits}
 
 -- the first number of a list, and the rest
@@ -97,3 +98,15 @@ packs_none bytes before rest is some none ss packs =
     let w : Goes ss before rest = goes_on before ss rest (sym packs.packed ∙ is) in
     no_more bytes rest before w.more w.left (subst (AreSplits least) w.is packs.are.rising) some
     none
+
+-- keys that pack to bytes which pack splits are those splits
+pub packs_these : (bytes : List ℕ) (ks : List (List ℕ)) (rest : List ℕ) → length rest ≡ 0
+    → bytes ≡ splits_bytes ks ++ rest → (ss : List (List ℕ)) × PacksSplits bytes ss
+    → PacksSplits bytes ks
+packs_these bytes ks [] none is packs =
+    let packed : bytes ≡ splits_bytes ks = is ∙ append-nil (splits_bytes ks) in
+    record {
+      packed = packed;
+      are = subst IsSplits (one_packing packs.0 ks (sym packs.1.packed ∙ packed)) packs.1.are;
+    }
+packs_these bytes ks (b ∷ rest) none is packs = absurd (omega (arith, none))

@@ -1,13 +1,10 @@
 -- What C is told when a sharded map is opened.
-use Rattle.std.specs.Prelude.{◌≡◌, ◌<◌, ◌+◌, ℕ, ℤ, List, length, get_or, Some, None}
+use Rattle.std.specs.Prelude.{◌≡◌, ◌<◌, ◌+◌, ℕ, List, length, get_or, Some, None}
 use Rattle.mst_key.specs.declared.format.Format.{Format}
 use Rattle.mst_words.specs.declared.view.Shape.{Shape}
 use Rattle.mst_store.specs.Passes.{IsShape}
 use Rattle.mst_shards.specs.Sharding.{IsSplits}
 use Rattle.mst_sharded.specs.Opening.{Shards, HasShards, new_handle}
-use Rattle.mst_shards.specs.declared.faults.ShardsFault.{ShardsFault}
-use Rattle.mst_shards.specs.declared.faults.ShardsFault.TheVariants.{Splits, Shape as BadShape, Memory}
-use Rattle.mst_c.specs.Codes.{memory, bad_shape, bad_splits}
 use Rattle.mst_c_sharded.specs.declared.handle_box.Sharing.TheVariants.{Handle}
 use Rattle.mst_c_sharded.specs.declared.hand.PaddedShardedHand.{PaddedShardedHand}
 use Rattle.mst_c.specs.Formats.{format_named}
@@ -40,8 +37,3 @@ pub record ShardsOpened (format rows : ℕ) (bytes : List ℕ) (hands : List Pad
 abbrev pub NoneHeld : List PaddedShardedHand → Type 0
 NoneHeld hands = (k : ℕ) (h : PaddedShardedHand) → k < length hands → (get_or hands k h).hand.held
     ≡ None
-
-abbrev pub fault_code : ShardsFault → ℤ
-fault_code Splits = bad_splits
-fault_code BadShape = bad_shape
-fault_code (Memory refused) = memory

@@ -1,5 +1,5 @@
 //! Opening a sharded map for C.
-ghost use Rattle.std.specs.Prelude.{◌≡◌, ◌≢◌, ◌↔◌, ◌⊎◌, ◌<◌, ◌≤◌, ℕ, List, true, pos, length, get_or, vec_len, Some, None, IsSome, IfOk, OnOk, IsErrOf};
+ghost use Rattle.std.specs.Prelude.{◌≡◌, ◌≢◌, ◌↔◌, ◌⊎◌, ◌<◌, ◌≤◌, ℕ, List, true, pos, length, get_or, vec_len, Some, None, IsSome, IfOk};
 ghost use Rattle.mst_store.specs.Passes.{IsShape};
 ghost use Rattle.mst_shards.specs.Sharding.{Sharding, IsSplits};
 ghost use Rattle.mst_sharded.specs.Opening.{Shards, HasShards, new_handles, seats_of};
@@ -8,19 +8,19 @@ ghost use Rattle.mst_c_sharded.specs.declared.handle_box.Sharing.TheVariants.{Ha
 ghost use Rattle.mst_c_sharded.specs.declared.hand.PaddedShardedHand.{PaddedShardedHand};
 ghost use Rattle.mst_c.specs.Formats.{format_named as named};
 ghost use Rattle.mst_c.specs.Opened.{IsSize};
-ghost use Rattle.mst_c_sharded.specs.ShardedOpened.{HandsOpened, ShardsOpened, NoneHeld, fault_code as code_of_fault};
+ghost use Rattle.mst_c_sharded.specs.ShardedOpened.{HandsOpened, ShardsOpened, NoneHeld};
 ghost use Rattle.mst_c_sharded.specs.ShardedSplits.{splits_bytes, PacksSplits};
 
 use crate::hand::PaddedShardedHand;
 use crate::handle_box::hand_out_padded;
-use crate::splits::list_splits;
+use crate::splits::{list_splits, pack_splits};
 use crate::telling::close;
 use mst_c::codes::{BAD_SHAPE, BAD_SPLITS, MEMORY, UNKNOWN_FORMAT};
 use mst_c::formats::format_named;
 use mst_c::opening::MOST_PASSES;
 use mst_key::{Format, Key, Memory};
 use mst_sharded::{AllSeats, Sharded, ShardsFault, SharedHandle};
-use mst_store::Shape;
+use mst_store::{Shape, is_shape};
 use std::alloc::Global;
 use std::sync::Arc;
 
@@ -98,18 +98,17 @@ fn open_map(
     alloc: Global,
     splits: Vec<Key, Global>,
     shape: Shape,
-) -> Result<Vec<SharedHandle<Global>, Global>, ShardsFault>
+) -> Result<Vec<SharedHandle<Global>, Global>, Memory>
+    requires splits { IsSplits splits.items }
+    requires shape { IsShape shape }
     ensures handles { IfOk result (λ handles. (s : Shards) × HasShards splits.items shape s
         × (handles.items ≡ new_handles s)) }
-    ensures limits { OnOk result (IsSplits splits.items × IsShape shape) }
-    ensures splits { IsErrOf result ShardsFault.Splits → ¬ (IsSplits splits.items) }
-    ensures shape { IsErrOf result ShardsFault.Shape
-        → IsSplits splits.items × ¬ (IsShape shape) }
 {
-    let (map, seats) = Sharded::open(alloc, splits, shape)?;
-    match share(alloc, map, seats) {
-        Ok(handles) => Ok(handles),
-        Err(refused) => Err(ShardsFault::Memory(refused)),
+    match Sharded::open(alloc, splits, shape) {
+        Ok((map, seats)) => share(alloc, map, seats),
+        Err(ShardsFault::Splits) => unreachable!(),
+        Err(ShardsFault::Shape) => unreachable!(),
+        Err(ShardsFault::Memory(refused)) => Err(refused),
     }
 }
 
@@ -134,16 +133,6 @@ fn hand_handles(
     MEMORY
 }
 
-fn open_code(fault: ShardsFault) -> i32
-    ensures code { result ≡ code_of_fault fault }
-{
-    match fault {
-        ShardsFault::Splits => BAD_SPLITS,
-        ShardsFault::Shape => BAD_SHAPE,
-        ShardsFault::Memory(_) => MEMORY,
-    }
-}
-
 /// Opens a sharded map of these splits, and hands its handles out.
 fn open_of(
     alloc: Global,
@@ -151,22 +140,70 @@ fn open_of(
     shape: Shape,
     hands: &mut [PaddedShardedHand],
 ) -> i32
-    requires passes { IsShape shape → shape.passes ≡ length hands.old }
+    requires splits { IsSplits splits.items }
+    requires shape { IsShape shape }
+    requires passes { shape.passes ≡ length hands.old }
     requires empty { NoneHeld hands.old }
     ensures opened { result ≡ pos 0 → HandsOpened splits.items shape hands.new }
     ensures empty { result ≢ pos 0 → NoneHeld hands.new }
-    ensures splits { result ≡ bad_splits → ¬ (IsSplits splits.items) }
-    ensures shape { result ≡ bad_shape → IsSplits splits.items × ¬ (IsShape shape) }
-    ensures range { (result ≡ pos 0) ⊎ (result ≡ bad_splits) ⊎ (result ≡ bad_shape)
-        ⊎ (result ≡ memory) }
+    ensures range { (result ≡ pos 0) ⊎ (result ≡ memory) }
 {
     match open_map(alloc, splits, shape) {
         Ok(handles) => hand_handles(alloc, handles, hands),
-        Err(fault) => open_code(fault),
+        Err(_) => MEMORY,
     }
 }
 
-/// Opens a sharded map in a format. All hands are empty before.
+/// Opens a sharded map of the splits that the bytes pack, and hands its handles out.
+fn open_packed(alloc: Global, packed: &[u8], shape: Shape, hands: &mut [PaddedShardedHand]) -> i32
+    requires packs { (ss : List (List ℕ)) × PacksSplits packed.now ss }
+    requires shape { IsShape shape }
+    requires passes { shape.passes ≡ length hands.old }
+    requires empty { NoneHeld hands.old }
+    ensures opened { result ≡ pos 0 → (ss : List (List ℕ)) × (packed.now ≡ splits_bytes ss)
+        × HandsOpened ss shape hands.new }
+    ensures empty { result ≢ pos 0 → NoneHeld hands.new }
+    ensures range { (result ≡ pos 0) ⊎ (result ≡ memory) }
+{
+    match list_splits(alloc, packed) {
+        Ok(splits) => open_of(alloc, splits, shape, hands),
+        Err(_) => MEMORY,
+    }
+}
+
+/// Opens a sharded map of the splits that the bytes pack, if its shards may have this shape. No
+/// memory is taken before that is known.
+fn open_shaped(
+    alloc: Global,
+    format: Format,
+    rows: u32,
+    packed: &[u8],
+    hands: &mut [PaddedShardedHand],
+) -> i32
+    requires packs { (ss : List (List ℕ)) × PacksSplits packed.now ss }
+    requires empty { NoneHeld hands.old }
+    ensures opened { result ≡ pos 0 → (ss : List (List ℕ)) × (packed.now ≡ splits_bytes ss)
+        × HandsOpened ss (record { rows = rows; passes = length hands.new; format = format })
+        hands.new }
+    ensures empty { result ≢ pos 0 → NoneHeld hands.new }
+    ensures size { result ≡ bad_shape ↔ ¬ (IsSize rows (length hands.old)) }
+    ensures range { (result ≡ pos 0) ⊎ (result ≡ bad_shape) ⊎ (result ≡ memory) }
+{
+    let passes = passes_for(hands.len());
+    let shape = Shape {
+        rows,
+        passes,
+        format,
+    };
+    if is_shape(shape) {
+        open_packed(alloc, packed, shape, hands)
+    } else {
+        BAD_SHAPE
+    }
+}
+
+/// Opens a sharded map in a format. All hands are empty before. The splits are tested before the
+/// shape, and both before memory is taken.
 fn open_in(
     alloc: Global,
     format: Format,
@@ -180,24 +217,17 @@ fn open_in(
         hands.new }
     ensures empty { result ≢ pos 0 → NoneHeld hands.new }
     ensures splits { result ≡ bad_splits
-        → (ss : List (List ℕ)) → PacksSplits packed.now ss → ⊥ }
-    ensures size { result ≡ bad_shape → ((ss : List (List ℕ)) × PacksSplits packed.now ss)
+        ↔ ((ss : List (List ℕ)) → PacksSplits packed.now ss → ⊥) }
+    ensures size { result ≡ bad_shape ↔ ((ss : List (List ℕ)) × PacksSplits packed.now ss)
         × ¬ (IsSize rows (length hands.old)) }
     ensures range { (result ≡ pos 0) ⊎ (result ≡ bad_splits) ⊎ (result ≡ bad_shape)
         ⊎ (result ≡ memory) }
 {
-    let splits = match list_splits(alloc, packed) {
-        Ok(Some(splits)) => splits,
-        Ok(None) => return BAD_SPLITS,
-        Err(_) => return MEMORY,
-    };
-    let passes = passes_for(hands.len());
-    let shape = Shape {
-        rows,
-        passes,
-        format,
-    };
-    open_of(alloc, splits, shape, hands)
+    if pack_splits(packed) {
+        open_shaped(alloc, format, rows, packed, hands)
+    } else {
+        BAD_SPLITS
+    }
 }
 
 /// As `mst_sharded_open` of `mst_exports` says.
@@ -212,8 +242,8 @@ pub fn open(
     ensures empty { result ≢ pos 0 → NoneHeld hands.new }
     ensures format { result ≡ unknown_format ↔ (named format ≡ None) }
     ensures splits { result ≡ bad_splits
-        → IsSome (named format) × ((ss : List (List ℕ)) → PacksSplits packed.now ss → ⊥) }
-    ensures size { result ≡ bad_shape → IsSome (named format)
+        ↔ IsSome (named format) × ((ss : List (List ℕ)) → PacksSplits packed.now ss → ⊥) }
+    ensures size { result ≡ bad_shape ↔ IsSome (named format)
         × ((ss : List (List ℕ)) × PacksSplits packed.now ss)
         × ¬ (IsSize rows (length hands.old)) }
     ensures range { (result ≡ pos 0) ⊎ (result ≡ unknown_format) ⊎ (result ≡ bad_splits)

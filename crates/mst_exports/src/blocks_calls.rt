@@ -18,10 +18,11 @@ use std::alloc::Global;
 /// Opens a sharded map of the empty map in format 1 or 2, each shard with `rows` rows, and makes
 /// block 0. Puts its writer into the first of the hands, and a reader into each of the others. What
 /// a hand held before is closed. The splits stand in a buffer: each is a byte for its length, and
-/// its bytes. Returns 0; -3 for another format; -26 if the buffer has bytes that are no keys, or
-/// keys that do not rise strictly from above that of one zero byte, or more than 1,023 of them; -10
-/// if a store cannot have that many rows or passes; -9 if a growth was refused; and no other
-/// number. If it does not return 0, all hands are empty.
+/// its bytes. Returns 0; exactly for another format -3; otherwise -26 exactly if the buffer has
+/// bytes that are no keys, or keys that do not rise strictly from above that of one zero byte, or
+/// more than 1,023 of them; otherwise -10 exactly if a store cannot have that many rows or passes;
+/// otherwise -9 if a growth was refused; and no other number. If it does not return 0, all hands
+/// are empty.
 #[unsafe(no_mangle)]
 pub extern "C" fn mst_blocks_open(
     alloc: Global,
@@ -34,8 +35,8 @@ pub extern "C" fn mst_blocks_open(
     ensures empty { result ≢ pos 0 → NoneHeld hands.new }
     ensures format { result ≡ unknown_format ↔ (format_named format ≡ None) }
     ensures splits { result ≡ bad_splits
-        → IsSome (format_named format) × ((ss : List (List ℕ)) → PacksSplits splits.now ss → ⊥) }
-    ensures size { result ≡ bad_shape → IsSome (format_named format)
+        ↔ IsSome (format_named format) × ((ss : List (List ℕ)) → PacksSplits splits.now ss → ⊥) }
+    ensures size { result ≡ bad_shape ↔ IsSome (format_named format)
         × ((ss : List (List ℕ)) × PacksSplits splits.now ss)
         × ¬ (IsSize rows (count hands.old)) }
     ensures range { (result ≡ pos 0) ⊎ (result ≡ unknown_format) ⊎ (result ≡ bad_splits)
@@ -112,8 +113,9 @@ pub extern "C" fn mst_blocks_release(alloc: Global, hand: &mut BlocksHand) -> i3
     telling::release(alloc, hand)
 }
 
-/// As `mst_get`: of a snapshot from its block, of a reader from the current version of the key's
-/// shard. Returns -7, -5, -8 for the writer, -1, -2.
+/// As `mst_get`: of the writer from its last block, of a snapshot from its block, of a reader from
+/// the current version of the key's shard. Returns -7, -5, -1, -2, and of the writer -29 if another
+/// has written to that shard.
 #[unsafe(no_mangle)]
 pub extern "C" fn mst_blocks_get(
     alloc: Global,

@@ -18,10 +18,11 @@ use std::alloc::Global;
 
 /// Opens a sharded map of the empty map in format 1 or 2, each shard with `rows` rows, and puts a
 /// handle into each of the hands. What a hand held before is closed. The splits stand in a buffer:
-/// each is a byte for its length, and its bytes. Returns 0; -3 for another format; -26 if the
-/// buffer has bytes that are no keys, or keys that do not rise strictly from above that of one zero
-/// byte, or more than 1,023 of them; -10 if a store cannot have that many rows or passes; -9 if a
-/// growth was refused; and no other number. If it does not return 0, all hands are empty.
+/// each is a byte for its length, and its bytes. Returns 0; exactly for another format -3;
+/// otherwise -26 exactly if the buffer has bytes that are no keys, or keys that do not rise
+/// strictly from above that of one zero byte, or more than 1,023 of them; otherwise -10 exactly if
+/// a store cannot have that many rows or passes; otherwise -9 if a growth was refused; and no other
+/// number. If it does not return 0, all hands are empty.
 #[unsafe(no_mangle)]
 pub extern "C" fn mst_sharded_open(
     alloc: Global,
@@ -34,8 +35,8 @@ pub extern "C" fn mst_sharded_open(
     ensures empty { result ≢ pos 0 → NoneHeld hands.new }
     ensures format { result ≡ unknown_format ↔ (format_named format ≡ None) }
     ensures splits { result ≡ bad_splits
-        → IsSome (format_named format) × ((ss : List (List ℕ)) → PacksSplits splits.now ss → ⊥) }
-    ensures size { result ≡ bad_shape → IsSome (format_named format)
+        ↔ IsSome (format_named format) × ((ss : List (List ℕ)) → PacksSplits splits.now ss → ⊥) }
+    ensures size { result ≡ bad_shape ↔ IsSome (format_named format)
         × ((ss : List (List ℕ)) × PacksSplits splits.now ss)
         × ¬ (IsSize rows (count hands.old)) }
     ensures range { (result ≡ pos 0) ⊎ (result ≡ unknown_format) ⊎ (result ≡ bad_splits)

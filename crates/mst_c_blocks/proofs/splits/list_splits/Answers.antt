@@ -1,14 +1,16 @@
-use Rattle.std.proofs.Common.{rules, ◌≡◌, ◌<◌, ◌++◌, List, ℕ, length, sym, subst, ap, ◌∙◌}
+use Rattle.std.proofs.Common.{rules, ◌≡◌, ◌<◌, ◌++◌, List, [], ℕ, length, sym, subst, ap, ◌∙◌, append-nil}
+use Rattle.mst_shards.specs.Sharding.{IsSplits}
 use Rattle.mst_c_blocks.specs.Splits.{splits_bytes}
-use Rattle.mst_c_blocks.proofs.SplitPacking.{packs_none, packs_more}
+use Rattle.mst_c_blocks.proofs.SplitPacking.{packs_none, packs_more, packs_these}
 use Rattle.mst_c_blocks.proofs.splits.list_splits.Goals as goal
 
--- no key stands next
-pub returns-in_default-clause-none : goal.returns-in_default-clause-none
-returns-in_default-clause-none c =
+-- a key stands next
+pub unreachable-requires : goal.unreachable-requires
+unreachable-requires c =
     let some : 0 < length c.loop-rest.rest.now = search rules in
+    let packs = c.requires.packs in
     packs_none c.args.packed.now c.loop-rest.list.items c.loop-rest.rest.now c.loop-rest.invariant
-    some c.in_default.ensures.none
+    some c.in_default.ensures.none packs.0 packs.1
 
 -- the next key is one more
 pub loop-rest-preserved : goal.loop-rest-preserved
@@ -19,3 +21,12 @@ loop-rest-preserved c =
     (c.loop-rest.invariant
     ∙ ap (λ (bytes : List ℕ). splits_bytes before ++ bytes) c.in-Some.ensures.some
     ∙ sym (packs_more before c.in-Some.key c.in-Some.behind.now))
+
+-- no byte is left
+pub returns : goal.returns
+returns c =
+    let none : length c.loop-rest.rest.now ≡ 0 = search rules in
+    record {
+      splits = packs_these c.args.packed.now c.loop-rest.list.items c.loop-rest.rest.now none
+          c.loop-rest.invariant c.requires.packs;
+    }

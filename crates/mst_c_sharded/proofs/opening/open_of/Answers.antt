@@ -18,7 +18,7 @@ hand_handles-requires-clause-count c =
       all,
       dealt_length map,
       dealt.1.handles,
-      c.requires.passes c.in-Ok.ensures.limits.1,
+      c.requires.passes,
     )
 
 -- and each hand has the one of its number
@@ -31,15 +31,15 @@ returns-in-Ok-clause-opened c =
       arith,
       same,
       dealt.1.handles,
-      c.requires.passes c.in-Ok.ensures.limits.1,
+      c.requires.passes,
     ) in
     let fits : SFits w32 c.hand_handles.result = search rules in
     (λ yes.
     let done : c.hand_handles.result ≡ pos 0 = sym (to_z-of_z fits) ∙ yes in
     record {
       map = map;
-      are = c.in-Ok.ensures.limits.0;
-      is = c.in-Ok.ensures.limits.1;
+      are = c.requires.splits;
+      is = c.requires.shape;
       shards = dealt.1;
       handles = λ k h below. c.hand_handles.ensures.all done k none h below
           ∙ ap (λ (x : Sharding). Some (Handle x))

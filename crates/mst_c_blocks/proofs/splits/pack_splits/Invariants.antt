@@ -1,0 +1,6 @@
+use Rattle.mst_c_blocks.proofs.SplitRising.{Decides}
+use Rattle.mst_c_blocks.proofs.splits.pack_splits.Given as goal
+
+-- what is left decides
+abbrev pub invariant-loop : goal.invariant-loop
+invariant-loop l = Decides l.fn.packed l.low l.counter l.rest
