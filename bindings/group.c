@@ -1,26 +1,27 @@
 /*
- * Group commit: threads that share one writer of blocks. A thread that finds nobody leading leads:
- * it takes what waits, in the order of arrival, and makes one block of it, while those that come
- * meanwhile stand in a queue and sleep. Then it tells all whose edits it made, and hands the lead
- * to the first in the queue. So each thread that leads makes the block of its own edits, and under
- * load a block has the edits of all that came while the one before was made. If that block is
- * refused, or there is no memory for it, the same thread makes one for each of its requests.
+ * Group commit: threads that share one writer of blocks. A thread that comes while nobody leads
+ * leads: it takes what waits, in the order of arrival, and makes one block of it and its own edits,
+ * while those that come meanwhile stand in a queue. Then it tells all whose edits it made, leaves
+ * the lead, and calls the first in the queue to take it. A thread that comes before that one is
+ * awake takes it instead, with all that waits: so no block waits for a thread to wake up. A thread
+ * that leads makes the block of its own edits, and under load a block has the edits of all that
+ * came while the one before was made. If that block is refused, or there is no memory for it, the
+ * same thread makes one for each of its requests.
  *
- * A request stands on the stack of the thread that asks. Whoever leads marks those that it took as
- * done, under the lock, and touches none of them once it has let go of the lock.
+ * A request stands on the stack of the thread that asks. A post tells that thread that it is called
+ * to lead, at most once, and a post that another thread made its edits; the thread takes each of
+ * them before it returns. Posts need no lock, so whom they wake finds it free.
  */
 #define _POSIX_C_SOURCE 200112L
 #include "buffers.h"
 #include "mst_store.h"
 #include <pthread.h>
+#include <semaphore.h>
 #include <stdlib.h>
 #include <string.h>
 
 /* The most bytes of edits in a block of several requests. */
 enum { BLOCK_MOST = 1 << 20 };
-
-/* Where a request stands. */
-enum stage { WAITS, LEADS, DONE };
 
 struct request {
     const uint8_t *edits;
@@ -30,8 +31,8 @@ struct request {
     int is_batch; /* whether none of its edits is bad: one that is cut short would take bytes from
                      the request behind it */
     int32_t told;
-    enum stage stage;
-    pthread_cond_t moved; /* its thread sleeps here until the stage is another */
+    int is_called;        /* whether its thread was called to lead */
+    sem_t *posts;         /* its thread sleeps here */
     struct request *next; /* in the queue, and later in the block */
 };
 
@@ -39,7 +40,7 @@ struct mst_blocks_group {
     mst_blocks_handle writer; /* of the thread that leads */
     pthread_mutex_t lock;     /* of what follows */
     int is_led;
-    struct request *first, *last; /* the queue; empty if nobody leads */
+    struct request *first, *last; /* the queue; if nobody leads, its first was called */
 };
 
 /* ---- the queue, under the lock ---- */
@@ -59,31 +60,29 @@ static int is_followed(const struct request *last, size_t bytes) {
         && next->length <= BLOCK_MOST - bytes;
 }
 
-/* Takes the first request, and those behind it that go into its block, as a list. */
-static struct request *dequeue(mst_blocks_group *group) {
-    struct request *first = group->first, *last = first;
-    for (size_t bytes = first->length; is_followed(last, bytes); bytes += last->length)
+/* The last request that goes into the block of the first. */
+static struct request *last_in_block(const mst_blocks_group *group) {
+    struct request *last = group->first;
+    for (size_t bytes = last->length; is_followed(last, bytes); bytes += last->length)
         last = last->next;
+    return last;
+}
+
+/* The caller leads: takes the requests of the next block, as a list. */
+static struct request *dequeue(mst_blocks_group *group) {
+    struct request *first = group->first, *last = last_in_block(group);
+    group->is_led = 1;
     group->first = last->next;
     last->next = NULL;
     return first;
 }
 
-static void move(struct request *request, enum stage stage) {
-    request->stage = stage;
-    pthread_cond_signal(&request->moved);
-}
-
-/* The first that waits leads next. */
-static void hand_on(mst_blocks_group *group) {
-    group->is_led = group->first != NULL;
-    if (group->is_led)
-        move(group->first, LEADS);
-}
-
-static void tell(struct request *requests) {
-    for (struct request *one = requests; one != NULL; one = one->next)
-        move(one, DONE);
+/* The caller leads no more. Returns the first that waits, if there is one, to be called. */
+static struct request *leave(mst_blocks_group *group) {
+    group->is_led = 0;
+    if (group->first != NULL)
+        group->first->is_called = 1;
+    return group->first;
 }
 
 /* ---- blocks, by the thread that leads, without the lock ---- */
@@ -135,51 +134,104 @@ static void make(mst_blocks_group *group, struct request *requests) {
         make_alone(group, one);
 }
 
-/* ---- the calls ---- */
+/* ---- who leads, and who waits ---- */
 
-/* Under the lock, which is open while the block is made. */
-static void lead(mst_blocks_group *group) {
-    struct request *requests = dequeue(group);
-    pthread_mutex_unlock(&group->lock);
-    make(group, requests);
-    pthread_mutex_lock(&group->lock);
-    hand_on(group);
-    tell(requests);
+/*
+ * Where this thread sleeps. It is in one call at a time, and leaves no post there. It is not on the
+ * stack with the request: who posts may still look at it when the call has returned.
+ */
+static sem_t *posts_here(void) {
+    static _Thread_local sem_t posts;
+    static _Thread_local int is_open;
+    if (!is_open)
+        sem_init(&posts, 0, 0);
+    is_open = 1;
+    return &posts;
 }
 
-/* Returns once the request is done. */
-static void ask(mst_blocks_group *group, struct request *own) {
+/* Waits for a post. */
+static void await(struct request *own) {
+    while (sem_wait(own->posts) != 0) /* a signal may cut it short */
+        ;
+}
+
+/* Tells all of the block but the own request that they are done, and touches them no more. */
+static void tell(struct request *block, const struct request *own) {
+    for (struct request *one = block, *next; one != NULL; one = next) {
+        next = one->next;
+        if (one != own)
+            sem_post(one->posts);
+    }
+}
+
+static void lead(mst_blocks_group *group, struct request *block, const struct request *own) {
+    make(group, block);
+    pthread_mutex_lock(&group->lock);
+    struct request *called = leave(group);
+    pthread_mutex_unlock(&group->lock);
+    tell(block, own);
+    if (called != NULL)
+        sem_post(called->posts);
+}
+
+/*
+ * Puts the request into the queue. Returns the requests of the next block if its thread leads: if
+ * nobody does, and that block has the request.
+ */
+static struct request *enter(mst_blocks_group *group, struct request *own) {
+    struct request *block = NULL;
     pthread_mutex_lock(&group->lock);
     enqueue(group, own);
-    if (!group->is_led)
-        hand_on(group);
-    while (own->stage == WAITS)
-        pthread_cond_wait(&own->moved, &group->lock);
-    if (own->stage == LEADS)
-        lead(group);
+    if (!group->is_led && last_in_block(group) == own)
+        block = dequeue(group);
     pthread_mutex_unlock(&group->lock);
+    return block;
 }
+
+/*
+ * Waits until the request is done, or its thread was called. Then returns the requests of the next
+ * block, unless another thread has come first, and has this one in its block.
+ */
+static struct request *await_turn(mst_blocks_group *group, struct request *own) {
+    struct request *block = NULL;
+    await(own);
+    if (!own->is_called)
+        return NULL;
+    pthread_mutex_lock(&group->lock);
+    if (group->first == own)
+        block = dequeue(group);
+    pthread_mutex_unlock(&group->lock);
+    if (block == NULL)
+        await(own);
+    return block;
+}
+
+/* ---- the calls ---- */
 
 /* A thread that is cancelled goes on: others have its request in their hands. */
 int32_t mst_blocks_group_apply(mst_blocks_group *group, const uint8_t *edits, size_t length,
                                size_t *place, size_t *shard, uint64_t *number) {
-    struct request own = {edits, length, place, shard, number, is_batch(edits, length), MST_OK,
-                          WAITS, PTHREAD_COND_INITIALIZER, NULL};
+    struct request own = {.edits = edits, .length = length, .place = place, .shard = shard,
+                          .number = number, .is_batch = is_batch(edits, length),
+                          .posts = posts_here()};
     int before;
     pthread_setcancelstate(PTHREAD_CANCEL_DISABLE, &before);
-    ask(group, &own);
-    pthread_cond_destroy(&own.moved);
+    struct request *block = enter(group, &own);
+    if (block == NULL)
+        block = await_turn(group, &own);
+    if (block != NULL)
+        lead(group, block, &own);
     pthread_setcancelstate(before, &before);
     return own.told;
 }
 
-/* Whether the hand holds a writer: it alone does not read. Otherwise the refusal. */
+/* Whether the hand holds a writer: it alone has a number and no format. Otherwise the refusal. */
 static int32_t judge_writer(mst_blocks_handle *hand) {
-    static const uint8_t key[1] = {0};
-    int32_t told = mst_blocks_get(hand, key, sizeof key, NULL, 0);
-    if (told == MST_CLOSED)
-        return MST_CLOSED;
-    return told == MST_WRONG_STATE ? MST_OK : MST_WRONG_STATE;
+    uint64_t number;
+    int32_t told = mst_blocks_number(hand, &number);
+    if (told != MST_OK)
+        return told;
+    return mst_blocks_format(hand) == MST_WRONG_STATE ? MST_OK : MST_WRONG_STATE;
 }
 
 int32_t mst_blocks_group_open(mst_blocks_handle *writer, mst_blocks_group **group) {

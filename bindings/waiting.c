@@ -256,12 +256,18 @@ int32_t mst_sharded_apply(mst_handle *handle, const uint8_t *edits, size_t lengt
     return told;
 }
 
-/* A shard that is in the format already is not moved again: each try goes on where one stopped. */
+/*
+ * Each try begins at the first shard. One that is in the format already gets another version then,
+ * which takes no row and no memory.
+ */
 int32_t mst_sharded_migrate(mst_handle *handle, uint32_t format, size_t *stopped) {
     struct waited waited = {0, 0};
+    size_t at = SIZE_MAX; /* the shard that the last try stopped at, if one did */
     int32_t told;
-    while ((told = mst_sharded_try_migrate(handle, format, stopped)) == MST_BUSY)
+    while ((told = mst_sharded_try_migrate(handle, format, &at)) == MST_BUSY)
         wait_more(&waited);
+    if (told != MST_OK && at != SIZE_MAX)
+        *stopped = at;
     return told;
 }
 
