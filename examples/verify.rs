@@ -1,6 +1,12 @@
 //! A present key, an absent key and a forged proof, by the C library, from Rust.
 //!
 //!     rustc --edition 2021 verify.rs -L native=../crates/mst_verifier/out -l static=mst_verifier
+//!
+//! Without the kit, by the hand-written verifier in C:
+//!
+//!     cc -O2 -I../include -c ../verifiers/c/mst_verifier.c
+//!     ar rc libmst_verifier.a mst_verifier.o
+//!     rustc --edition 2021 verify.rs -L . -l static=mst_verifier
 
 extern "C" {
     fn mst_verify(

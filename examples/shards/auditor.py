@@ -4,8 +4,8 @@ published checkpoint.
     auditor.py [--format F] PORT FOLDER
 
 It holds nothing of the map. It asks the gatherer for the directory's proof, and the worker that has
-the key's shard for the shard's. Where one of them keeps another checkpoint meanwhile, or a worker
-is away, it asks again.
+the key's shard for the shard's, which is the second part of its own map's proof. Where one of them
+keeps another checkpoint meanwhile, or a worker is away, it asks again.
 """
 import argparse
 import os
@@ -31,11 +31,12 @@ def main(port, folder, format):
 
         def found():
             checkpoint = checkpoints.last(client)
-            listed = ask(directory, checkpoint, "directory", bound)
-            held = ask(os.path.join(folder, worker), checkpoint, shard, key)
+            listed = ask(directory, checkpoint, bound)
+            held = ask(os.path.join(folder, worker), checkpoint, key)
             if listed is None or held is None:
                 return None
-            return held[0], splits.two_part(format, bound, listed[1], held[1])
+            of_shard = splits.parts(held[1])[2]
+            return held[0], splits.two_part(format, bound, listed[1], of_shard)
 
         return checkpoints.until(client, found)
 

@@ -1,25 +1,25 @@
-"""What is published at the Redis server of each checkpoint: of each shard its root digest and its
-version, and the root digest of the whole."""
+"""What is published at the Redis server of each checkpoint: of each shard its root digest and the
+number of its worker's block, and the root digest of the whole."""
 import time
 
 LAST, END, WHOLES, LISTED, SECONDS = "last", "end", "wholes", "listed", "seconds"
-VERSION_BYTES = 8
+NUMBER_BYTES = 8
 
 
 def told_of(number):
     return f"checkpoint {number}"
 
 
-def tell_shard(client, number, shard, root, version):
-    """Publishes a shard's root digest, and the number of its version."""
-    client.hset(told_of(number), shard, root + version.to_bytes(VERSION_BYTES, "big"))
+def tell_shard(client, number, shard, root, block):
+    """Publishes a shard's root digest, and the number of the block that it is of."""
+    client.hset(told_of(number), shard, root + block.to_bytes(NUMBER_BYTES, "big"))
 
 
 def shards(client, number):
-    """What shards have published so far: of each its root digest and its version."""
+    """What shards have published so far: of each its root digest and the number of its block."""
     told = client.hgetall(told_of(number))
     return {
-        int(shard): (both[:-VERSION_BYTES], int.from_bytes(both[-VERSION_BYTES:], "big"))
+        int(shard): (both[:-NUMBER_BYTES], int.from_bytes(both[-NUMBER_BYTES:], "big"))
         for shard, both in told.items()
     }
 
@@ -52,12 +52,12 @@ def last(client):
 
 
 def tell_seconds(client, worker, seconds):
-    """Publishes how long a worker has spent in batches so far."""
+    """Publishes how long a worker has spent in making blocks so far."""
     client.hset(SECONDS, worker, seconds)
 
 
 def seconds(client):
-    """How long each worker has spent in batches, as far as it was published."""
+    """How long each worker has spent in making blocks, as far as it was published."""
     return [float(it) for it in client.hvals(SECONDS)]
 
 

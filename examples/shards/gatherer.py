@@ -34,7 +34,7 @@ def roots(client, checkpoint):
 def main(port, folder, format):
     client, listed = connect(port), {}
     writer, *readers = open_store(ROWS, passes=3, format=format)
-    versions = Versions({"directory": readers})
+    versions = Versions([it.pinned for it in readers])
     versions.serve(os.path.join(folder, "gatherer"))
     for checkpoint in itertools.count(1):
         told = checkpoints.until(client, lambda: roots(client, checkpoint))
@@ -43,7 +43,7 @@ def main(port, folder, format):
         changed = {shard: root for shard, root in told.items() if listed.get(shard) != root}
         writer.apply(splits.directory_pair(shard, root) for shard, root in changed.items())
         listed.update(changed)
-        versions.pin(checkpoint)
+        versions.keep(checkpoint)
         checkpoints.tell_whole(client, checkpoint, writer.root(), len(changed))
         versions.let_go_before(checkpoint)
 

@@ -25,6 +25,12 @@ def shards_of(worker):
     return range(worker * share, (worker + 1) * share)
 
 
+def splits_of(worker):
+    """The splits between the shards that a worker holds."""
+    held = shards_of(worker)
+    return SPLITS[held.start : held.stop - 1]
+
+
 def worker_of(shard):
     """The worker that holds a shard."""
     return shard // (SHARDS // WORKERS)
@@ -34,6 +40,11 @@ def directory_pair(shard, root):
     """What the directory has of a shard: the lower bound is the key, the root digest and the upper
     bound are the value."""
     return LOWER[shard], root + UPPER[shard]
+
+
+def root_in(listed):
+    """The root digest in what a directory has of a shard."""
+    return listed[:32]
 
 
 def two_part(format, bound, listed, held):

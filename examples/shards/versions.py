@@ -1,7 +1,7 @@
-"""The versions of stores at checkpoints: pinned in one process, and asked for by others.
+"""The versions of a map at checkpoints: kept in one process, and asked for by others.
 
-A process keeps the versions of a checkpoint until that of the next is published, so of each store
-two passes take turns to pin. Questions come over a Unix socket, one a connection.
+A process keeps the version of a checkpoint until that of the next is published, so two readers take
+turns. Questions come over a Unix socket, one a connection.
 """
 import contextlib
 import multiprocessing.connection
@@ -12,31 +12,33 @@ AWAY = (FileNotFoundError, ConnectionError, EOFError)
 
 
 class Versions:
-    """The pinned versions of some stores, each of which has a name and two passes that read."""
+    """The versions of a map that are kept. `takes` are a call of each of two readers: a context
+    with the current version."""
 
-    def __init__(self, readers):
-        self.readers, self.pins, self.lock = readers, {}, threading.Lock()
+    def __init__(self, takes):
+        self.takes, self.kept, self.lock = takes, {}, threading.Lock()
 
-    def pin(self, checkpoint):
-        """Pins each store's current version as that of a checkpoint."""
+    def keep(self, checkpoint):
+        """Keeps the current version as that of a checkpoint, and returns it."""
         with self.lock:
-            self.pins[checkpoint] = contextlib.ExitStack()
-            for pair in self.readers.values():
-                self.pins[checkpoint].enter_context(pair[checkpoint % 2].pinned())
+            end = contextlib.ExitStack()
+            then = end.enter_context(self.takes[checkpoint % 2]())
+            self.kept[checkpoint] = then, end
+            return then
 
     def let_go_before(self, checkpoint):
-        """Ends the pins of all checkpoints before this one."""
+        """Keeps no more the versions of all checkpoints before this one."""
         with self.lock:
-            for older in [it for it in self.pins if it < checkpoint]:
-                self.pins.pop(older).close()
+            for older in [it for it in self.kept if it < checkpoint]:
+                _, end = self.kept.pop(older)
+                end.close()
 
-    def answer(self, checkpoint, name, key):
-        """The key's value or None, and its proof, of a store at a checkpoint; None if that is not
-        pinned."""
+    def answer(self, checkpoint, key):
+        """The key's value or None, and its proof, at a checkpoint; None if that is not kept."""
         with self.lock:
-            if checkpoint not in self.pins:
+            if checkpoint not in self.kept:
                 return None
-            then = self.readers[name][checkpoint % 2]
+            then, _ = self.kept[checkpoint]
             return then.get(key), then.prove(key)
 
     def serve(self, path):
@@ -54,8 +56,8 @@ class Versions:
 
 
 def ask(path, *question):
-    """What the process at this path answers to a checkpoint, a store's name and a key; None too
-    while no process is there."""
+    """What the process at this path answers to a checkpoint and a key; None too while no process is
+    there."""
     with contextlib.suppress(*AWAY), multiprocessing.connection.Client(path) as other:
         other.send(question)
         return other.recv()

@@ -1,11 +1,11 @@
-"""A worker, in a process of its own: it holds some of the shards, each in a store of its own.
+"""A worker, in a process of its own: it holds some of the shards, as one map with blocks.
 
     worker.py [--format F] [--rows N] PORT FOLDER NUMBER
 
-It reads the streams of its shards from their beginning, and makes the changes of each by batches.
-At a checkpoint it pins its shards' versions, publishes their root digests, and waits until that of
-the whole is published. The batches depend on the log alone. So a worker that begins again makes the
-same versions.
+It reads the streams of its shards from their beginning. What they say up to a checkpoint is one
+block: made whole or not at all, with the number of the checkpoint. The worker keeps a snapshot of
+it, publishes its shards' root digests, and waits until that of the whole is published. A block
+depends on the log alone. So a worker that begins again makes the same blocks.
 """
 import argparse
 import itertools
@@ -19,72 +19,60 @@ import checkpoints
 import shard_log
 import splits
 from change_log import connect
-from mst_store import open_store
+from mst_store import open_blocks
 from versions import Versions
 
-# The least edits that make a version, but for the last ones before a checkpoint.
-BATCH = 4096
+
+def take(entries, checkpoint, edits):
+    """Adds the edits of entries to others, up to the marker of a checkpoint. Returns the place of
+    the last entry taken, and whether it is the marker."""
+    for place, entry in entries:
+        marker = shard_log.marker_in(entry)
+        if marker is not None:
+            if marker != checkpoint:
+                raise ValueError(f"the log has checkpoint {marker} in place of {checkpoint}")
+            return place, True
+        edits += shard_log.edits_in(entry)
+    return place, False
 
 
-class Shard:
-    """A shard's store, its place in the log, and the edits from before that place that still have
-    to be made."""
-
-    def __init__(self, rows, format):
-        self.writer, *self.readers = open_store(rows, passes=3, format=format)
-        self.place, self.edits, self.seconds = shard_log.BEGINNING, [], 0.0
-
-    def take(self, entries, checkpoint):
-        """Takes entries up to the marker of a checkpoint. Returns whether it came."""
-        for self.place, entry in entries:
-            marker = shard_log.marker_in(entry)
-            if marker is not None:
-                if marker != checkpoint:
-                    raise ValueError(f"the log has checkpoint {marker} in place of {checkpoint}")
-                self.make()
-                return True
-            self.edits += shard_log.edits_in(entry)
-            if len(self.edits) >= BATCH:
-                self.make()
-        return False
-
-    def make(self):
-        """Makes the edits that wait, if there are any, as one version."""
-        if self.edits:
-            begun = time.perf_counter()
-            self.writer.apply(self.edits)
-            self.seconds += time.perf_counter() - begun
-            self.edits = []
-
-
-def advance(client, shards, checkpoint):
-    """Takes each shard up to the marker of a checkpoint. Returns False where the map ends before
-    it."""
-    behind = dict(shards)
+def edits_to(client, places, checkpoint):
+    """The edits of each shard from its place to the marker of a checkpoint, which is its place
+    then; None where the map ends before it."""
+    behind, edits = set(places), []
     while behind:
-        places = {number: shard.place for number, shard in behind.items()}
-        came = list(shard_log.read(client, places))
-        for number, entries in came:
-            if behind[number].take(entries, checkpoint):
-                del behind[number]
+        came = list(shard_log.read(client, {it: places[it] for it in behind}))
+        for shard, entries in came:
+            places[shard], is_there = take(entries, checkpoint, edits)
+            if is_there:
+                behind.remove(shard)
         if not came and checkpoints.has_ended(client):
-            return False
-    return True
+            return None
+    return edits
+
+
+def publish(client, checkpoint, block, shards):
+    """Publishes the root digests of these shards in a snapshot of their block."""
+    number = block.number()
+    for shard, (_, listed) in zip(shards, block.directory()):
+        checkpoints.tell_shard(client, checkpoint, shard, splits.root_in(listed), number)
 
 
 def main(port, folder, number, rows, format):
-    client = connect(port)
-    shards = {it: Shard(rows, format) for it in splits.shards_of(number)}
-    versions = Versions({it: shard.readers for it, shard in shards.items()})
+    client, seconds = connect(port), 0.0
+    places = dict.fromkeys(splits.shards_of(number), shard_log.BEGINNING)
+    writer, *readers = open_blocks(rows, 2, splits.splits_of(number), format)
+    versions = Versions([it.snapshot for it in readers])
     versions.serve(os.path.join(folder, f"worker {number}"))
     for checkpoint in itertools.count(1):
-        if not advance(client, shards, checkpoint):
+        edits = edits_to(client, places, checkpoint)
+        if edits is None:
             return
-        versions.pin(checkpoint)
-        checkpoints.tell_seconds(client, number, sum(it.seconds for it in shards.values()))
-        for it, shard in shards.items():
-            root, version = shard.writer.root(), shard.writer.version()
-            checkpoints.tell_shard(client, checkpoint, it, root, version)
+        begun = time.perf_counter()
+        writer.apply(edits)
+        seconds += time.perf_counter() - begun
+        checkpoints.tell_seconds(client, number, seconds)
+        publish(client, checkpoint, versions.keep(checkpoint), places)
         if checkpoints.until(client, lambda: checkpoints.whole(client, checkpoint)) is None:
             return
         versions.let_go_before(checkpoint)
