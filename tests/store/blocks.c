@@ -148,7 +148,8 @@ static void wrong_states(void) {
     answers_nothing(writer);
     EXPECT(mst_blocks_try_snapshot(writer) == MST_WRONG_STATE);
     EXPECT(mst_blocks_snapshot(writer) == MST_WRONG_STATE);
-    EXPECT(mst_blocks_get(writer, TEXT("a"), room, 64) == MST_WRONG_STATE);
+    EXPECT(has(writer, "a", "12345") && mst_blocks_get(writer, TEXT("b"), room, 64) == MST_ABSENT);
+    EXPECT(mst_blocks_get(writer, TEXT("a"), room, 4) == MST_SHORT_ROOM);
     EXPECT(mst_blocks_get(writer, NULL, 0, room, 64) == MST_BAD_KEY);
     EXPECT(mst_blocks_root(writer, root, 31) == MST_SHORT_ROOM);
     EXPECT(mst_blocks_root(writer, root, 32) == 32 && mst_blocks_shards(writer) == 2);

@@ -60,6 +60,8 @@ block made(mst::blocks::writer &writer, const block &before, std::mt19937 &chanc
     next.number = writer.apply(edits);
     next.root = writer.root();
     EXPECT(next.number == before.number + 1 && next.number == writer.number());
+    auto key = one_byte(chance() % 256);
+    EXPECT(writer.get(key) == found(next.map, key));
     return next;
 }
 

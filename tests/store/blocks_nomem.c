@@ -9,12 +9,12 @@
 static uint8_t proof[65536];
 
 /* How many openings were refused before one was not. Nothing is leaked. */
-static long openings(void) {
+static long openings(uint32_t format) {
     for (long n = 0; n < 4000; n++) {
         mst_blocks_handle hands[3] = {MST_BLOCKS_HANDLE_CLOSED};
         live = 0;
         count_from(n);
-        int32_t told = mst_blocks_open(1, 16, TEXT("\1b\1c"), hands, 3);
+        int32_t told = mst_blocks_open(format, 16, TEXT("\1b\1c"), hands, 3);
         count_on();
         for (int i = 0; i < 3; i++) {
             int32_t closed = mst_blocks_close(&hands[i]);
@@ -115,7 +115,8 @@ static long asked_for(mst_blocks_handle *then, enum question what) {
 }
 
 /* Snapshots and their short answers ask for no memory: the first growth would be refused. */
-static void without_memory(mst_blocks_handle *writer, mst_blocks_handle *reader) {
+static void without_memory(uint32_t format, mst_blocks_handle *writer,
+                           mst_blocks_handle *reader) {
     uint8_t key[MST_KEY_LONGEST];
     size_t told = 7;
     asked = 0;
@@ -125,21 +126,21 @@ static void without_memory(mst_blocks_handle *writer, mst_blocks_handle *reader)
     EXPECT(mst_blocks_try_snapshot(reader) == MST_OK && have_one_root(writer, reader));
     EXPECT(has_number(writer, 2) && has_number(reader, 2) && have(reader, 2));
     EXPECT(mst_blocks_next(reader, NULL, 0, key, sizeof key, &told, room, 64) == 1 && told == 2);
-    EXPECT(mst_blocks_format(reader) == 1 && mst_blocks_release(reader) == MST_OK);
+    EXPECT(mst_blocks_format(reader) == (int32_t)format && mst_blocks_release(reader) == MST_OK);
     EXPECT(mst_blocks_snapshot(reader) == MST_OK && asked == 0);
     count_on();
 }
 
-int main(void) {
+static void of_format(uint32_t format) {
     mst_blocks_handle hands[2] = {MST_BLOCKS_HANDLE_CLOSED, MST_BLOCKS_HANDLE_CLOSED};
-    long opened = openings();
+    long opened = openings(format);
     EXPECT(opened > 0);
     live = 0;
     count_from(-1);
-    EXPECT(mst_blocks_open(1, 64, TEXT("\1b\1m"), hands, 2) == MST_OK);
+    EXPECT(mst_blocks_open(format, 64, TEXT("\1b\1m"), hands, 2) == MST_OK);
     long refused = blocks(&hands[0], &hands[1]);
     EXPECT(refused > 10);
-    without_memory(&hands[0], &hands[1]);
+    without_memory(format, &hands[0], &hands[1]);
     long proofs = asked_for(&hands[1], PROOF), ranges = asked_for(&hands[1], RANGE);
     EXPECT(proofs > 0 && ranges > 0 && asked_for(&hands[1], DIRECTORY) > 0);
     EXPECT(mst_blocks_close(&hands[0]) == MST_OK && mst_blocks_close(&hands[1]) == MST_OK);
@@ -147,5 +148,10 @@ int main(void) {
     EXPECT(live == 0);
     printf("%ld openings, %ld blocks, %ld proofs and %ld ranges refused\n", opened, refused, proofs,
            ranges);
+}
+
+int main(void) {
+    of_format(1);
+    of_format(2);
     return ended("blocks_nomem");
 }

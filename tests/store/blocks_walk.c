@@ -70,16 +70,23 @@ static void reads_now(mst_blocks_handle *reader) {
     }
 }
 
-/* The pairs of a snapshot from a key on, and the next one above it. */
+/*
+ * The pairs of a snapshot from a key on, below another or all, at most as many as a limit, and the
+ * next one above the first key.
+ */
 static void lists(mst_blocks_handle *then, const struct block *block, int first) {
     size_t count = 0, bytes = 0, begins = 0, next_length = 77;
-    uint8_t from = (uint8_t)first;
-    EXPECT(mst_blocks_range(then, &from, 1, NULL, 0, KEYS, pairs, sizeof pairs, &count, &bytes)
+    uint8_t from = (uint8_t)first, to = (uint8_t)random_below(KEYS);
+    size_t of_to = random_below(2);
+    uint32_t limit = random_below(2) ? UINT32_MAX : random_below(20);
+    EXPECT(mst_blocks_range(then, &from, 1, &to, of_to, limit, pairs, sizeof pairs, &count, &bytes)
            == MST_OK);
-    for (int key = first; key < KEYS; key++) {
+    EXPECT(count <= limit);
+    for (int key = first; key < (of_to ? to : KEYS) && limit > 0; key++) {
         mst_pair pair;
         if (block->values[key] < 0)
             continue;
+        limit--;
         EXPECT(begins < bytes);
         begins = mst_pair_at(pairs, begins, &pair);
         EXPECT(pair.key_length == 1 && pair.key[0] == key
@@ -133,6 +140,23 @@ static void reads(uint32_t format) {
     }
 }
 
+/* Another map, to which other blocks have led, has the same root digest once it has these pairs. */
+static void has_the_root_of_its_pairs(uint32_t format, const uint8_t *splits, size_t end) {
+    mst_blocks_handle other = MST_BLOCKS_HANDLE_CLOSED;
+    EXPECT(mst_blocks_open(format, 512, splits, end, &other, 1) == MST_OK);
+    for (int key = KEYS - 1; key >= 0; key -= MOST / 2) {
+        length = 0;
+        for (int at = key; at > key - MOST / 2; at--) {
+            uint8_t own = (uint8_t)at, value = (uint8_t)now.values[at];
+            length = mst_edit_put(edits, length, &own, 1, &value, 1);
+            if (now.values[at] < 0)
+                length = mst_edit_remove(edits, length, &own, 1);
+        }
+        EXPECT(made_by(&other) == MST_OK);
+    }
+    EXPECT(have_one_root(&hands[0], &other) && mst_blocks_close(&other) == MST_OK);
+}
+
 static void against_an_array(uint32_t format, long blocks) {
     uint8_t splits[(SHARDS - 1) * MST_SPLIT_LONGEST];
     size_t end = 0;
@@ -150,6 +174,7 @@ static void against_an_array(uint32_t format, long blocks) {
         reads(format);
         makes_block();
     }
+    has_the_root_of_its_pairs(format, splits, end);
     for (int at = 0; at < HANDS; at++) {
         EXPECT(mst_blocks_close(&hands[at]) == MST_OK);
         pins[at] = 0;

@@ -1,21 +1,19 @@
 /*
- * Calls of two passes of a small store when the heap is full: those that take no memory go on, and
- * ask for none; the others return MST_MEMORY, and leave all as it was.
+ * Calls of two passes of a store when the heap is full, of a small one and of 1,000 and 20,000 rows:
+ * those that take no memory go on, and ask for none; the others return MST_MEMORY, and leave all as
+ * it was.
  */
 #include "heap.h"
 #include "calls.h"
 
-#define ROWS 8
-#define ROWS_OF_MANY 64 /* for twenty keys, and as many nodes, twice */
-#define WRITES 1000
-
+static uint32_t rows; /* of the store */
 static mst_pass passes[2] = {MST_PASS_CLOSED, MST_PASS_CLOSED};
 static mst_pass *one = &passes[0], *other = &passes[1];
 static uint8_t room[MST_VALUE_LONGEST];
 static size_t before;
 
 /* Opens a store, and takes what is left of the heap. */
-static void opens(uint32_t rows) {
+static void opens(void) {
     EXPECT(mst_open(1, rows, passes, 2) == MST_OK);
     before = held;
     grant(0);
@@ -29,7 +27,7 @@ static void closes(void) {
 }
 
 static void calls_go_on(void) {
-    opens(ROWS);
+    opens();
     asked = 0;
     EXPECT(puts_at(one, "a", "1", NULL) && puts_at(other, "abc", "x", NULL));
     EXPECT(has(one, "abc", "x") && begins_with(other, "a") && has_root(one, root_of_both));
@@ -43,7 +41,7 @@ static void calls_go_on(void) {
 /* While the other pass writes. */
 static void a_pinned_pass_goes_on(void) {
     uint8_t root[MST_ROOT_LENGTH];
-    opens(ROWS);
+    opens();
     asked = 0;
     EXPECT(puts_at(other, "a", "1", NULL) && mst_root(other, root, sizeof root) == 32);
     EXPECT(mst_pin(one) == MST_OK && puts_at(other, "a", "2", "1"));
@@ -55,7 +53,7 @@ static void a_pinned_pass_goes_on(void) {
 }
 
 static void writes_that_wait_go_on(void) {
-    opens(ROWS);
+    opens();
     asked = 0;
     EXPECT(mst_put(one, TEXT("a"), TEXT("1"), room, sizeof room) == MST_ABSENT);
     EXPECT(mst_remove(one, TEXT("a"), room, sizeof room) == 1 && room[0] == '1');
@@ -66,7 +64,7 @@ static void writes_that_wait_go_on(void) {
 
 /* A migration finds no memory, but to the format that stands. */
 static void a_migration_finds_none(void) {
-    opens(ROWS);
+    opens();
     EXPECT(puts_at(one, "1", "a", NULL));
     EXPECT(mst_try_migrate(other, 2) == MST_MEMORY);
     asked = 0;
@@ -78,7 +76,7 @@ static void a_migration_finds_none(void) {
 /* Nor does a batch, but one of no edits. */
 static void a_batch_finds_none(void) {
     static const struct edit edits[] = {{"a", "1"}, {"abc", "x"}};
-    opens(ROWS);
+    opens();
     EXPECT(applies(one, edits, 2) == MST_MEMORY);
     asked = 0;
     EXPECT(applies(other, NULL, 0) == MST_OK && asked == 0);
@@ -86,30 +84,50 @@ static void a_batch_finds_none(void) {
     closes();
 }
 
-/* Puts at twenty keys, or each seventh time a remove, by the passes in turns. */
-static void many_writes(void) {
-    opens(ROWS_OF_MANY);
+/* What takes memory finds none in a map of many nodes either, and leaves it as it was. */
+static void much_finds_none(uint64_t version) {
+    static const struct edit edits[] = {{"a", "1"}, {"abc", "x"}};
+    uint8_t root[MST_ROOT_LENGTH];
+    EXPECT(mst_root(one, root, sizeof root) == MST_ROOT_LENGTH);
+    EXPECT(lists(one, 2) == MST_MEMORY && proves_both(other) == MST_MEMORY);
+    EXPECT(applies(one, edits, 2) == MST_MEMORY && mst_try_migrate(other, 2) == MST_MEMORY);
+    EXPECT(has_root(other, root) && has_version(other, version) && mst_format(one) == 1);
+}
+
+/* Puts at so many keys, or each seventh time a remove, by the passes in turns. */
+static void many_writes(uint32_t its_rows, uint32_t keys, uint32_t writes) {
+    rows = its_rows;
+    opens();
     asked = 0;
-    for (uint32_t number = 0; number < WRITES; number++) {
+    for (uint32_t number = 0; number < writes; number++) {
         mst_pass *pass = number % 2 == 0 ? one : other;
-        uint8_t key = (uint8_t)(number % 20), value[2] = {(uint8_t)(number >> 8), (uint8_t)number};
-        int32_t told = number % 7 == 0 ? mst_try_remove(pass, &key, 1, room, sizeof room)
-            : mst_try_put(pass, &key, 1, value, sizeof value, room, sizeof room);
+        uint32_t at = number % keys;
+        uint8_t key[2] = {(uint8_t)(at >> 8), (uint8_t)at};
+        uint8_t value[2] = {(uint8_t)(number >> 8), (uint8_t)number};
+        int32_t told = number % 7 == 0 ? mst_try_remove(pass, key, 2, room, sizeof room)
+            : mst_try_put(pass, key, 2, value, sizeof value, room, sizeof room);
         EXPECT(told == MST_ABSENT || told == sizeof value);
         EXPECT(asked == 0 && held == before);
     }
-    EXPECT(has_version(one, WRITES));
+    EXPECT(has_version(one, writes));
+    much_finds_none(writes);
     closes();
 }
 
 int main(void) {
+    static const uint32_t sizes[] = {8, 1000, 20000};
     count_from(-1);
-    calls_go_on();
-    a_pinned_pass_goes_on();
-    writes_that_wait_go_on();
-    a_migration_finds_none();
-    a_batch_finds_none();
-    many_writes();
+    for (size_t i = 0; i < sizeof sizes / sizeof *sizes; i++) {
+        rows = sizes[i];
+        calls_go_on();
+        a_pinned_pass_goes_on();
+        writes_that_wait_go_on();
+        a_migration_finds_none();
+        a_batch_finds_none();
+    }
+    many_writes(64, 20, 1000); /* for each key and each node, twice */
+    many_writes(1000, 600, 6000);
+    many_writes(20000, 16000, 50000);
     counting = 0;
     return ended("full_heap");
 }

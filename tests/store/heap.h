@@ -5,11 +5,13 @@
 #ifndef HEAP_H
 #define HEAP_H
 
+#include <errno.h>
 #include <malloc.h>
 #include <stdint.h>
 #include <stdlib.h>
 
 extern void *__libc_malloc(size_t size);
+extern void *__libc_memalign(size_t unit, size_t size);
 extern void *__libc_realloc(void *at, size_t size);
 extern void __libc_free(void *at);
 
@@ -42,6 +44,15 @@ void *malloc(size_t size) {
         take(at);
     }
     return at;
+}
+
+int posix_memalign(void **at, size_t unit, size_t size) {
+    *at = refuses(size) ? NULL : __libc_memalign(unit, size);
+    if (counting && *at) {
+        live++;
+        take(*at);
+    }
+    return *at ? 0 : ENOMEM;
 }
 
 void *realloc(void *old, size_t size) {

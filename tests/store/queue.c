@@ -1,12 +1,17 @@
 /*
  * The queue of a group, without a store: which requests are made as one block, in which order, and
- * by which thread; what each is told; refused edits, refused memory, threads that are cancelled.
+ * by which thread, also if one comes before the one that was called is awake; what each is told;
+ * refused edits, refused memory, threads that are cancelled or have a signal.
  *
  *     queue [REQUESTS]        of each of eight threads that write without a pause
+ *
+ * With a number no signals are sent: helgrind takes a wait that one cuts short for a fault.
  */
 #include "queue.h"
 #include "tests.h"
 #include <sched.h>
+#include <signal.h>
+#include <unistd.h>
 
 enum { LONG_BYTES = 5 << 18 };
 
@@ -67,10 +72,10 @@ static void begin_all(int count) {
     atomic_store(&grants, 0);
     called = 0;
     blocks = 0;
-    close_gate();
+    close_gate(&writing);
     puts_key(0, "first");
     begin(0);
-    while (!someone_waits())
+    while (waiting_at(&writing) == 0)
         sched_yield();
     for (int at = 1; at < count; at++) {
         begin(at);
@@ -80,7 +85,7 @@ static void begin_all(int count) {
 }
 
 static void end_all(int count) {
-    open_gate();
+    open_gate(&writing);
     for (int at = 0; at < count; at++)
         EXPECT(pthread_join(asks[at].thread, NULL) == 0);
     EXPECT(queued() == 0 && !group->is_led && !entered_by_two);
@@ -267,13 +272,77 @@ static void cancelled(void) {
     begin_all(4);
     EXPECT(pthread_cancel(asks[0].thread) == 0 && pthread_cancel(asks[1].thread) == 0);
     EXPECT(pthread_cancel(asks[3].thread) == 0);
-    open_gate();
+    open_gate(&writing);
     for (int at = 0; at < 4; at++) {
         EXPECT(pthread_join(asks[at].thread, &ended_by) == 0);
         EXPECT(ended_by == (at == 2 ? NULL : PTHREAD_CANCELED) && asks[at].is_told);
         EXPECT(is_made(at, at == 0 ? 1 : 2));
     }
     EXPECT(called == 2 && queued() == 0 && !group->is_led);
+}
+
+/* Two wait. Thread 0 has left the lead, but the first of the two sleeps on. */
+static void begin_called(void) {
+    begin_all(3);
+    close_gate(&posting);
+    open_gate(&writing);
+    while (waiting_at(&posting) < 1)
+        sched_yield();
+}
+
+/*
+ * Who comes then makes a block of all three. The first of the two wakes up while it is made, and
+ * waits on, although one more has come meanwhile.
+ */
+static void before_the_called(void) {
+    for (int at = 1; at < 5; at++)
+        puts_key(at, "k");
+    begin_called();
+    close_gate(&writing);
+    begin(3);
+    while (waiting_at(&writing) < 1)
+        sched_yield();
+    begin(4);
+    while (queued() < 1)
+        sched_yield();
+    open_gate(&posting);
+    usleep(5000);
+    end_all(5);
+    EXPECT(called == 3 && is_of(1, 1, 3) && is_by(1, 3) && calls[1].last == 3 && is_by(2, 4));
+    EXPECT(is_made(0, 1) && is_made(1, 2) && is_made(2, 2) && is_made(3, 2) && is_made(4, 3));
+}
+
+/* But it waits if that block would not have its edits. */
+static void behind_the_called(void) {
+    for (int at = 1; at < 4; at++)
+        puts_bytes(at, BLOCK_MOST / 2);
+    begin_called();
+    begin(3);
+    while (queued() < 3)
+        sched_yield();
+    open_gate(&posting);
+    end_all(4);
+    EXPECT(called == 3 && is_of(1, 1, 2) && is_by(1, 1) && is_alone(2, 3) && is_by(2, 3));
+    EXPECT(is_made(0, 1) && is_made(1, 2) && is_made(2, 2) && is_made(3, 3));
+}
+
+static void passes(int signal) {
+    (void)signal;
+}
+
+/* A signal ends no wait. */
+static void signalled(void) {
+    struct sigaction action = {.sa_handler = passes};
+    EXPECT(sigaction(SIGUSR1, &action, NULL) == 0);
+    puts_key(1, "k");
+    begin_all(2);
+    for (int times = 0; times < 5; times++) {
+        usleep(2000);
+        EXPECT(pthread_kill(asks[1].thread, SIGUSR1) == 0);
+    }
+    EXPECT(!atomic_load(&asks[1].is_told) && queued() == 1);
+    end_all(2);
+    EXPECT(called == 2 && is_by(1, 1) && is_made(0, 1) && is_made(1, 2));
 }
 
 /* ---- threads that write without a pause ---- */
@@ -285,7 +354,7 @@ static void *writes(void *given) {
     struct asks *own = given;
     uint8_t key = (uint8_t)(own - asks), bad = 'x', value = 0;
     uint64_t before = 0;
-    pass_gate();
+    pass_gate(&writing);
     for (unsigned at = 0; at < requests; at++) {
         int is_bad = (at + key) % 64 == 0;
         own->number = 0;
@@ -310,10 +379,10 @@ static uint8_t last_value(int at) {
 static void many(void) {
     called = 0;
     blocks = 0;
-    close_gate();
+    close_gate(&writing);
     for (int at = 0; at < THREADS; at++)
         EXPECT(pthread_create(&asks[at].thread, NULL, writes, &asks[at]) == 0);
-    open_gate();
+    open_gate(&writing);
     uint64_t last = 0;
     for (int at = 0; at < THREADS; at++) {
         void *failed = NULL;
@@ -337,6 +406,10 @@ int main(int count, char **words) {
     long_ones();
     of_no_edits();
     cancelled();
+    before_the_called();
+    behind_the_called();
+    if (count == 1)
+        signalled();
     many();
     EXPECT(mst_blocks_group_close(group, &hand) == MST_OK && hand.at == &tag);
     return ended("queue");

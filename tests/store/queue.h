@@ -1,15 +1,19 @@
 /*
  * The writer of a group without a store. Its calls note what they are given, find out if two
  * threads are in them at a time, and hold a thread up for as long as a test wants, so that others
- * come meanwhile. Memory is refused on demand. This stands before all other headers.
+ * come meanwhile; and so do the posts by which threads wake each other. Memory is refused on
+ * demand. This stands before all other headers.
  */
 #ifndef QUEUE_H
 #define QUEUE_H
 
-/* stdlib.h declares it instead */
+/* stdlib.h and semaphore.h declare these instead */
 #define malloc granted
+#define sem_post posted
 #include "../../bindings/group.c"
+#undef sem_post
 #undef malloc
+int sem_post(sem_t *posts);
 #include "../../bindings/buffers.c"
 #include <stdatomic.h>
 
@@ -33,10 +37,17 @@ static uint64_t blocks;
 static uint8_t values[THREADS]; /* of the keys that are bytes below this, as blocks leave them */
 static atomic_int within, entered_by_two;
 
-/* A thread in the writer's call waits while the gate is closed. */
-static pthread_mutex_t gate = PTHREAD_MUTEX_INITIALIZER;
-static pthread_cond_t opened = PTHREAD_COND_INITIALIZER;
-static int is_closed, waits_there;
+/* Threads that come to a gate wait there while it is closed. */
+struct gate {
+    pthread_mutex_t lock;
+    pthread_cond_t opened;
+    int is_closed, waiting;
+};
+
+#define OPEN_GATE {PTHREAD_MUTEX_INITIALIZER, PTHREAD_COND_INITIALIZER, 0, 0}
+
+static struct gate writing = OPEN_GATE; /* in the writer's call */
+static struct gate posting = OPEN_GATE; /* before a post */
 
 /* No bytes are given as none, as a malloc may. */
 void *granted(size_t size) {
@@ -44,33 +55,38 @@ void *granted(size_t size) {
     return is_empty_handed || size == 0 ? NULL : calloc(1, size);
 }
 
-static void pass_gate(void) {
-    pthread_mutex_lock(&gate);
-    waits_there = is_closed;
-    while (is_closed)
-        pthread_cond_wait(&opened, &gate);
-    pthread_mutex_unlock(&gate);
+static void pass_gate(struct gate *gate) {
+    pthread_mutex_lock(&gate->lock);
+    gate->waiting++;
+    while (gate->is_closed)
+        pthread_cond_wait(&gate->opened, &gate->lock);
+    gate->waiting--;
+    pthread_mutex_unlock(&gate->lock);
 }
 
-static void close_gate(void) {
-    pthread_mutex_lock(&gate);
-    is_closed = 1;
-    waits_there = 0;
-    pthread_mutex_unlock(&gate);
+static void close_gate(struct gate *gate) {
+    pthread_mutex_lock(&gate->lock);
+    gate->is_closed = 1;
+    pthread_mutex_unlock(&gate->lock);
 }
 
-static void open_gate(void) {
-    pthread_mutex_lock(&gate);
-    is_closed = 0;
-    pthread_cond_broadcast(&opened);
-    pthread_mutex_unlock(&gate);
+static void open_gate(struct gate *gate) {
+    pthread_mutex_lock(&gate->lock);
+    gate->is_closed = 0;
+    pthread_cond_broadcast(&gate->opened);
+    pthread_mutex_unlock(&gate->lock);
 }
 
-static int someone_waits(void) {
-    pthread_mutex_lock(&gate);
-    int is = waits_there;
-    pthread_mutex_unlock(&gate);
-    return is;
+static int waiting_at(struct gate *gate) {
+    pthread_mutex_lock(&gate->lock);
+    int count = gate->waiting;
+    pthread_mutex_unlock(&gate->lock);
+    return count;
+}
+
+int posted(sem_t *posts) {
+    pass_gate(&posting);
+    return sem_post(posts);
 }
 
 static size_t next_edit(const uint8_t *edits, size_t at) {
@@ -109,7 +125,7 @@ int32_t mst_blocks_apply(mst_blocks_handle *writer, const uint8_t *edits, size_t
                          size_t *place, size_t *shard, uint64_t *number) {
     if (atomic_exchange(&within, 1) != 0 || writer->at != &tag)
         atomic_store(&entered_by_two, 1);
-    pass_gate();
+    pass_gate(&writing);
     int32_t told = judge(edits, length, place, shard);
     if (told == MST_OK) {
         put_all(edits, length);
@@ -120,14 +136,17 @@ int32_t mst_blocks_apply(mst_blocks_handle *writer, const uint8_t *edits, size_t
     return told;
 }
 
-int32_t mst_blocks_get(mst_blocks_handle *of, const uint8_t *key, size_t key_length, uint8_t *room,
-                       size_t room_length) {
-    (void)key, (void)room;
+int32_t mst_blocks_number(mst_blocks_handle *of, uint64_t *told) {
+    (void)told;
     if (of->at == NULL)
         return MST_CLOSED;
-    if (key_length != 1 || room_length != 0)
-        return MST_BAD_KEY;
-    return is_reader ? MST_ABSENT : MST_WRONG_STATE;
+    return is_reader ? MST_WRONG_STATE : MST_OK;
+}
+
+/* There is no snapshot. */
+int32_t mst_blocks_format(mst_blocks_handle *of) {
+    (void)of;
+    return MST_WRONG_STATE;
 }
 
 int32_t mst_blocks_close(mst_blocks_handle *of) {

@@ -67,6 +67,9 @@ static int has_versions(mst_handle *handle, uint64_t first, uint64_t second, uin
 
 /* How many calls were refused before one was not. The snapshot goes on after each. */
 static long asked_for(mst_handle *handle, enum question what) {
+    uint64_t pinned[3] = {0, 0, 0};
+    for (size_t at = 0; at < 3; at++)
+        EXPECT(mst_sharded_version_at(handle, at, &pinned[at]) == MST_OK);
     for (long n = 0; n < 400; n++) {
         size_t length = 7;
         long before = live;
@@ -74,7 +77,7 @@ static long asked_for(mst_handle *handle, enum question what) {
         int32_t told = ask(handle, what, &length);
         count_on();
         EXPECT(live == before);
-        EXPECT(reads_as_before(handle) && has_versions(handle, 2, 1, 1));
+        EXPECT(reads_as_before(handle) && has_versions(handle, pinned[0], pinned[1], pinned[2]));
         if (told != MST_MEMORY) {
             EXPECT(told >= 0);
             return n;
@@ -198,6 +201,8 @@ int main(void) {
     EXPECT(asked_for(&handle, DIRECTORY) > 0 && asked_for(&handle, FORMAT) > 0);
     EXPECT(mst_sharded_release(&handle) == MST_OK && migrations(&handle, 2) > 0);
     EXPECT(mst_sharded_snapshot(&handle) == MST_OK && mst_sharded_format(&handle) == 2);
+    /* the directory, which has pairs, is turned to the format too */
+    EXPECT(asked_for(&handle, ROOT) > 1 && asked_for(&handle, ROOT) == 1);
     EXPECT(mst_sharded_release(&handle) == MST_OK);
     long refused = batches(&handle);
     EXPECT(refused > 10);

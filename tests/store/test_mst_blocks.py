@@ -93,6 +93,7 @@ class Blocks(unittest.TestCase):
                 with reader.snapshot() as now:
                     self.shows(now, told, old)
                 self.assertEqual((writer.number(), writer.root()), told)
+                self.assertEqual({key: writer.get(key) for key in old}, old)
             self.assertEqual(writer.apply([(b"a", b"new"), (b"d", b"new"), (b"c", None)]), 2)
             self.shows(then, told, old)
         with other.snapshot() as then:
@@ -111,7 +112,8 @@ class Blocks(unittest.TestCase):
         self.assertEqual((writer.number(), reader.get(b"a")), (0, None))
         self.assertEqual(writer.apply([]), 1)
         self.assertEqual(writer.apply([good, (b"a", b"2")]), 2)
-        self.assertEqual(reader.get(b"a"), b"2")
+        self.assertEqual((reader.get(b"a"), writer.get(b"a")), (b"2", b"2"))
+        self.refused(mst_store.BAD_KEY, writer.get, b"")
 
     def test_openings_that_are_refused(self):
         self.refused(mst_store.UNKNOWN_FORMAT, open_blocks, 16, 1, [], 3)

@@ -112,18 +112,13 @@ impl<A: Allocator + Copy> View<A> {
     }
 
     /// Takes the snapshot out, until it is put back.
-    pub(crate) fn take(&mut self, rt: &impl Abort) -> Snapshot<A> {
+    fn take(&mut self, rt: &impl Abort) -> Snapshot<A> {
         self.snapshot.take().expect(rt, "a snapshot")
     }
 
     /// Puts the snapshot back.
-    pub(crate) fn put(&mut self, snapshot: Snapshot<A>) {
+    fn put(&mut self, snapshot: Snapshot<A>) {
         self.snapshot = Some(snapshot);
-    }
-
-    /// The block.
-    pub(crate) fn block(&self) -> Block {
-        self.block
     }
 
     /// Takes a new snapshot in place of the old one: it has to be of this block, the last one.
@@ -150,19 +145,6 @@ impl<A: Allocator + Copy> View<A> {
     pub(crate) fn finds_all(&mut self, rt: &impl Abort) -> bool {
         let mut snapshot = self.take(rt);
         let right = finds_all(rt, &mut snapshot, &self.block.pairs);
-        self.put(snapshot);
-        right
-    }
-
-    /// Whether its range between two numbers is right. `KEYS` stands for no bound.
-    pub(crate) fn ranges(
-        &mut self,
-        rt: &(impl Abort + AllocGlobal),
-        bounds: (usize, usize),
-        limit: usize,
-    ) -> bool {
-        let mut snapshot = self.take(rt);
-        let right = ranges(rt, &mut snapshot, &self.block.pairs, bounds, limit);
         self.put(snapshot);
         right
     }

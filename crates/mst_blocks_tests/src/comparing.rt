@@ -58,7 +58,7 @@ pub(crate) fn finds_all<A: Allocator + Copy>(
 }
 
 /// Whether these are the first pairs between two numbers, at most this many.
-pub(crate) fn are_between(
+fn are_between(
     rt: &impl Abort,
     found: &[(Key, Value)],
     pairs: &Pairs,

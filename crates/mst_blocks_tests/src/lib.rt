@@ -1,7 +1,7 @@
-//! Tests of blocks of a sharded map and of snapshots of them: what contracts do not say of one run.
-//! Blocks at random against a plain map, root digests of equal content, growths that are refused,
-//! shards that are full, texts of refusals, threads that take snapshots while blocks are published,
-//! and shares of a map.
+//! Tests of blocks of a sharded map and of snapshots of them, of what no other language sees: texts
+//! of refusals, proofs, threads that take snapshots while blocks are published, shares of a map.
+//! Blocks at random, refused growths, full shards and root digests of equal content are tested in C
+//! (`tests/store/blocks_walk.c`, `blocks_nomem.c`, `blocks_full.c`).
 #![tactic(auto)]
 
 #[cfg(test)]
@@ -11,21 +11,13 @@ mod comparing;
 #[cfg(test)]
 mod edits;
 #[cfg(test)]
-mod full_shards;
-#[cfg(test)]
-mod growths;
-#[cfg(test)]
 mod maps;
 #[cfg(test)]
 mod plain;
 #[cfg(test)]
 mod proofs_told;
 #[cfg(test)]
-mod random;
-#[cfg(test)]
 mod refusals;
-#[cfg(test)]
-mod roots;
 #[cfg(test)]
 mod shares;
 #[cfg(test)]

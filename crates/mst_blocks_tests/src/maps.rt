@@ -18,11 +18,6 @@ pub(crate) fn confirm(rt: &impl Abort, right: bool, what: &str) {
     assert!(rt; right, "{what}");
 }
 
-/// Ends the test with the number of the case if something is not as it should be.
-pub(crate) fn confirm_at(rt: &impl Abort, right: bool, case: usize) {
-    assert!(rt; right, "case {case}");
-}
-
 /// The key of these bytes.
 pub(crate) fn key(rt: &impl Abort, bytes: &[u8]) -> Key {
     Key::new(bytes).expect(rt, "1 to 32 bytes")
@@ -32,11 +27,6 @@ pub(crate) fn key(rt: &impl Abort, bytes: &[u8]) -> Key {
 pub(crate) fn put(rt: &impl Abort, bytes: &[u8], value: u8) -> Edit {
     let value = Value::new(&[value]).expect(rt, "at most 64 bytes");
     Edit::Put(key(rt, bytes), value)
-}
-
-/// A remove.
-pub(crate) fn removed(rt: &impl Abort, bytes: &[u8]) -> Edit {
-    Edit::Remove(key(rt, bytes))
 }
 
 /// The shape of the shards of a map with a writer and three readers.

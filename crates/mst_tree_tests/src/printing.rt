@@ -1,7 +1,13 @@
-//! What errors and the faults of texts and of proofs print.
+//! What errors and the faults of texts and of proofs print, and of what kind refused memory is to a
+//! caller who returns errors of the system.
 use crate::cases::{Case, ask};
+use crate::confirming::confirm;
+use crate::pairs::prints;
+use mst_key::Memory;
 use mst_proof::ProofFault;
-use mst_sharded_proof::ShardedFault;
+use mst_sharded_proof::{AuditFault, ShardedFault};
+use std::alloc::AllocError;
+use std::io;
 
 const PRINTED: &[Case] = &[
     Case::KeySizePrints("a key has 1 to 32 bytes"),
@@ -34,4 +40,22 @@ const PRINTED: &[Case] = &[
 #[test]
 fn each_cause_prints_its_words_or_its_number(rt: HostRuntime) {
     ask(&rt, PRINTED);
+}
+
+/// The one fault of an audit that no directory of the tests has; those of the others are printed by
+/// [`audits`](crate::sharding::audits).
+#[test]
+fn too_many_pairs_of_a_directory_print_their_number(rt: HostRuntime) {
+    let is_its = prints(&rt, rt.alloc(), &AuditFault::TooMany, "A1");
+    confirm(&rt, is_its, "A1");
+}
+
+#[test]
+fn refused_memory_is_an_error_of_its_kind(rt: HostRuntime) {
+    let error = io::Error::from(Memory::from(AllocError));
+    confirm(
+        &rt,
+        error.kind() == io::ErrorKind::OutOfMemory,
+        "out of memory",
+    );
 }

@@ -73,6 +73,11 @@ func makes(t *testing.T, writer *mst.BlockWriter, before told, chance *rand.Rand
 	if again, err := writer.Number(); again != number || err != nil {
 		t.Fatal(again, number, err)
 	}
+	key := byte(chance.Intn(256))
+	value, present, err := writer.Get([]byte{key})
+	if wanted, there := known[key]; present != there || string(value) != string(wanted) || err != nil {
+		t.Fatal(key, value, present, err)
+	}
 	return told{number, rootOf(t, writer), known}
 }
 
