@@ -124,6 +124,11 @@ static int32_t migrate(mst_pass *pass, uint64_t number) {
     return mst_migrate(pass, 2);
 }
 
+static int32_t migrate_back(mst_pass *pass, uint64_t number) {
+    (void)number;
+    return mst_migrate(pass, 1);
+}
+
 static void make_edits(uint64_t number, int count) {
     uint8_t key[KEY], value[VALUE];
     edits_length = 0;
@@ -146,8 +151,15 @@ static const struct call calls[] = {
     {"range", range, 0},        {"root", root, 0},         {"prove", prove, 0},
     {"pin", pin_and_unpin, 0},  {"put", put, 0},           {"remove", remove_one, 0},
     {"batch-10", apply, 10},    {"batch-100", apply, 100}, {"batch-1000", apply, 1000},
-    {"free-rows", free_rows, 0}, {"migrate", migrate, 0},
+    {"free-rows", free_rows, 0}, {"migrate", migrate, 0},  {"migrate-back", migrate_back, 0},
 };
+
+/* Makes what a call wants to find. Returns what the store says of it. */
+static int32_t prepare(const struct call *call, mst_pass *pass, uint64_t number) {
+    if (call->edits > 0)
+        make_edits(number, call->edits);
+    return call->make == migrate_back ? mst_migrate(pass, 2) : MST_OK;
+}
 
 /* Undoes what a call did that would not be the same again. */
 static void restore(const struct call *call, mst_pass *pass, uint64_t number) {
@@ -162,10 +174,10 @@ static long time_calls(const struct call *call, long count, struct samples *samp
     long refused = 0;
     for (long i = 0; i < count; i++) {
         uint64_t number = mixed((uint64_t)i + (1u << 30));
-        if (call->edits > 0)
-            make_edits(number, call->edits);
+        int32_t told = prepare(call, &passes[0], number);
         double from = seconds_of(CLOCK_MONOTONIC);
-        int32_t told = call->make(&passes[0], number);
+        if (told != MST_NO_FREE_ROWS)
+            told = call->make(&passes[0], number);
         double took = seconds_of(CLOCK_MONOTONIC) - from;
         if (told == MST_NO_FREE_ROWS) {
             refused++;

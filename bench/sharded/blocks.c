@@ -1,20 +1,22 @@
 /*
- * How long blocks of a sharded map take, and the snapshots that a reader takes while they are made.
+ * How long blocks of a sharded map take, beside LMDB's transactions of as many puts, and the
+ * snapshots that a reader takes while blocks are made.
  *
  *     blocks [KEYS [SHARDS [ROUNDS]]]       1000000 32 100
  *
  * Build it in this folder, after `make -C ../../bindings`:
  *
- *     cc -std=c11 -D_GNU_SOURCE -Wall -Wextra -O2 -I../../include blocks.c \
- *         ../../bindings/out/libmst_store.a -lpthread -o out/blocks
+ *     cc -std=c11 -D_GNU_SOURCE -Wall -Wextra -O2 -I../../include -DWITH_LMDB blocks.c lmdb.c \
+ *         ../../bindings/out/libmst_store.a -lpthread -llmdb -o out/blocks
  *
- * The keys are random, of 16 bytes, with values of 32. Writes a line for each figure, with its name
- * and a tab before it: `fill`, the puts a second of blocks of 10,000 into the empty map; `block of
- * N`, the least milliseconds of a block of N puts of keys that are there; `snapshot`, the least
- * microseconds of a snapshot, with its release, if nothing has changed. And of a reader that takes
- * one snapshot after another while blocks of N are made: `tries`, how many of a thousand had to try
- * again; `waited, median` and `waited, longest`, the microseconds from the first try of such a
- * snapshot to its end.
+ * Without -DWITH_LMDB, lmdb.c and -llmdb it times blocks alone. The keys are random, of 16 bytes,
+ * with values of 32. Writes a line for each figure, with its name and a tab before it: `fill`, the
+ * puts a second of blocks, or transactions, of 10,000 into the empty map; `N, least` and `N,
+ * median`, the milliseconds of one with N puts of keys that are there, which the engines make in
+ * turn, round for round. `snapshot` is the least microseconds of a snapshot, with its release, if
+ * nothing has changed. And of a reader that takes one snapshot after another while blocks of N are
+ * made: `tries`, how many of a thousand had to try again; `waited, median` and `waited, longest`,
+ * the microseconds from the first try of such a snapshot to its end.
  */
 #include "../common.h"
 #include "mst_store.h"
@@ -25,11 +27,11 @@
 #include <stdlib.h>
 #include <string.h>
 
-enum { BLOCK_MOST = 10000, WAITS_MOST = 100000 };
+enum { BLOCK_MOST = 10000, WAITS_MOST = 100000, ROUNDS_MOST = 10000 };
 
 static mst_blocks_handle hands[2];
-static uint8_t edits[BLOCK_MOST * MST_EDIT_LONGEST];
 static double waits[WAITS_MOST];
+static size_t keys = 1000000, shards = 32;
 
 _Noreturn void give_up(const char *what, int told) {
     fprintf(stderr, "%s returned %d\n", what, told);
@@ -40,6 +42,50 @@ static double now(void) {
     return seconds_of(CLOCK_MONOTONIC);
 }
 
+/* ---- what is timed ---- */
+
+static void open_map(size_t count, size_t parts) {
+    static uint8_t splits[SPLITS_ROOM];
+    size_t length = write_splits(splits, parts);
+    int32_t told = mst_blocks_open(1, rows_of(count, parts), splits, length, hands, 2);
+    if (told != MST_OK)
+        give_up("mst_blocks_open", told);
+}
+
+static void close_map(void) {
+    for (int hand = 0; hand < 2; hand++)
+        mst_blocks_close(&hands[hand]);
+}
+
+/* One block. */
+static void put_all(const uint8_t *pairs, size_t count) {
+    static uint8_t edits[BLOCK_MOST * MST_EDIT_LONGEST];
+    static uint64_t last;
+    size_t length = 0, place, shard;
+    uint64_t number;
+    for (size_t i = 0; i < count; i++, pairs += PAIR_LENGTH)
+        length = mst_edit_put(edits, length, pairs, KEY_LENGTH, pairs + KEY_LENGTH, VALUE_LENGTH);
+    int32_t told = mst_blocks_apply(&hands[0], edits, length, &place, &shard, &number);
+    if (told != MST_OK || number != ++last)
+        give_up("mst_blocks_apply", told);
+}
+
+static const struct engine blocks_engine = {
+    .name = "block", .open = open_map, .close = close_map, .put_all = put_all};
+
+static const struct engine *const engines[] = {
+    &blocks_engine,
+#ifdef WITH_LMDB
+    &lmdb_engine,
+#endif
+};
+
+enum { ENGINES = sizeof engines / sizeof *engines };
+
+/* ---- pairs ---- */
+
+static uint8_t pairs[BLOCK_MOST * PAIR_LENGTH];
+
 static void key_of(uint64_t number, uint8_t *key) {
     for (int half = 0; half < 2; half++) {
         uint64_t part = mixed(2 * number + (uint64_t)half);
@@ -48,49 +94,71 @@ static void key_of(uint64_t number, uint8_t *key) {
     }
 }
 
-static void open_map(size_t keys, size_t shards) {
-    static uint8_t splits[SPLITS_ROOM];
-    size_t length = write_splits(splits, shards);
-    int32_t told = mst_blocks_open(1, rows_of(keys, shards), splits, length, hands, 2);
-    if (told != MST_OK)
-        give_up("mst_blocks_open", told);
-}
-
-/* Puts new values at `count` keys as one block, the first of them of this number. */
-static void block(size_t keys, size_t first, size_t count) {
-    static uint64_t last;
-    size_t length = 0, place, shard;
-    uint64_t number;
+/* Pairs of the keys of `count` numbers from this one on, with new values. */
+static void write_pairs(size_t first, size_t count) {
+    static uint64_t value;
+    value++;
     for (size_t i = 0; i < count; i++) {
-        uint8_t key[KEY_LENGTH], value[VALUE_LENGTH] = {0};
-        key_of((first + i) % keys, key);
-        memcpy(value, &last, sizeof last);
-        length = mst_edit_put(edits, length, key, sizeof key, value, sizeof value);
+        uint8_t *pair = pairs + i * PAIR_LENGTH;
+        key_of((first + i) % keys, pair);
+        memset(pair + KEY_LENGTH, 0, VALUE_LENGTH);
+        memcpy(pair + KEY_LENGTH, &value, sizeof value);
     }
-    int32_t told = mst_blocks_apply(&hands[0], edits, length, &place, &shard, &number);
-    if (told != MST_OK || number != ++last)
-        give_up("mst_blocks_apply", told);
 }
 
-static void fill(size_t keys) {
-    double began = now();
-    for (size_t first = 0; first < keys; first += BLOCK_MOST)
-        block(keys, first, keys - first < BLOCK_MOST ? keys - first : BLOCK_MOST);
-    printf("fill\t%.0f\n", (double)keys / (now() - began));
+/* Pairs of keys anywhere. */
+static void draw_pairs(size_t count) {
+    static uint64_t drawn;
+    write_pairs(mixed(drawn++) % keys, count);
 }
 
-/* The least milliseconds of some blocks of so many edits. */
-static double least(size_t keys, size_t count, int rounds) {
-    static size_t next;
-    double found = 1e9;
-    for (int round = 0; round < rounds; round++, next += count) {
+/* ---- blocks and transactions ---- */
+
+static int by_length(const void *one, const void *other) {
+    double a = *(const double *)one, b = *(const double *)other;
+    return (a > b) - (a < b);
+}
+
+static void fill(const struct engine *engine) {
+    double took = 0;
+    engine->open(keys, shards);
+    for (size_t first = 0; first < keys; first += BLOCK_MOST) {
+        size_t count = keys - first < BLOCK_MOST ? keys - first : BLOCK_MOST;
+        write_pairs(first, count);
         double began = now();
-        block(keys, mixed(next) % keys, count);
-        double took = now() - began;
-        found = took < found ? took : found;
+        engine->put_all(pairs, count);
+        took += now() - began;
     }
-    return found * 1e3;
+    printf("%s: fill\t%.0f\n", engine->name, (double)keys / took);
 }
+
+static double took[ENGINES][ROUNDS_MOST];
+
+/* Each engine puts the same pairs, in turn. */
+static void one_round(int round, size_t count) {
+    draw_pairs(count);
+    for (int it = 0; it < ENGINES; it++) {
+        double began = now();
+        engines[it]->put_all(pairs, count);
+        took[it][round] = now() - began;
+    }
+}
+
+static void tell(int it, size_t count, int rounds) {
+    qsort(took[it], (size_t)rounds, sizeof *took[it], by_length);
+    printf("%s: %zu, least\t%.4g\n", engines[it]->name, count, took[it][0] * 1e3);
+    printf("%s: %zu, median\t%.4g\n", engines[it]->name, count, took[it][rounds / 2] * 1e3);
+    fflush(stdout);
+}
+
+static void in_turn(size_t count, int rounds) {
+    for (int round = 0; round < rounds; round++)
+        one_round(round, count);
+    for (int it = 0; it < ENGINES; it++)
+        tell(it, count, rounds);
+}
+
+/* ---- snapshots ---- */
 
 static void still(void) {
     double found = 1e9;
@@ -129,19 +197,16 @@ static void *read_on(void *nothing) {
     return nothing;
 }
 
-static int by_length(const void *one, const void *other) {
-    double a = *(const double *)one, b = *(const double *)other;
-    return (a > b) - (a < b);
-}
-
-static void beside_reader(size_t keys, size_t count, int blocks) {
+static void beside_reader(size_t count, int blocks) {
     pthread_t reader;
     taken = waited = 0;
     atomic_store(&is_done, 0);
     if (pthread_create(&reader, NULL, read_on, NULL) != 0)
         give_up("pthread_create", 0);
-    for (int made = 0; made < blocks; made++)
-        block(keys, mixed((uint64_t)made) % keys, count);
+    for (int made = 0; made < blocks; made++) {
+        draw_pairs(count);
+        put_all(pairs, count);
+    }
     atomic_store(&is_done, 1);
     pthread_join(reader, NULL);
     qsort(waits, waited, sizeof *waits, by_length);
@@ -153,21 +218,21 @@ static void beside_reader(size_t keys, size_t count, int blocks) {
 }
 
 int main(int count, char **words) {
-    size_t keys = count > 1 ? strtoul(words[1], NULL, 10) : 1000000;
-    size_t shards = count > 2 ? strtoul(words[2], NULL, 10) : 32;
-    int rounds = count > 3 ? atoi(words[3]) : 100;
-    if (keys == 0 || shards == 0 || shards > SHARDS_MOST || rounds < 1)
+    size_t rounds = 100, *given[] = {&keys, &shards, &rounds};
+    for (int word = 1; word < count && word <= 3; word++)
+        *given[word - 1] = strtoul(words[word], NULL, 10);
+    if (keys == 0 || shards == 0 || shards > SHARDS_MOST || rounds < 1 || rounds > ROUNDS_MOST / 10)
         give_up("blocks [KEYS [SHARDS [ROUNDS]]]", 0);
-    open_map(keys, shards);
-    fill(keys);
-    printf("block of 1\t%.3f\n", least(keys, 1, 10 * rounds));
-    printf("block of 100\t%.3f\n", least(keys, 100, rounds));
-    printf("block of 1000\t%.2f\n", least(keys, 1000, rounds));
-    printf("block of 10000\t%.1f\n", least(keys, BLOCK_MOST, rounds / 10 + 1));
+    for (int it = 0; it < ENGINES; it++)
+        fill(engines[it]);
+    in_turn(1, 10 * (int)rounds);
+    in_turn(100, 2 * (int)rounds);
+    in_turn(1000, (int)rounds);
+    in_turn(BLOCK_MOST, (int)rounds / 3 + 1);
     still();
-    beside_reader(keys, 1, 100 * rounds);
-    beside_reader(keys, 1000, rounds);
-    for (int hand = 0; hand < 2; hand++)
-        mst_blocks_close(&hands[hand]);
+    beside_reader(1, 100 * (int)rounds);
+    beside_reader(1000, (int)rounds);
+    for (int it = 0; it < ENGINES; it++)
+        engines[it]->close();
     return 0;
 }

@@ -10,6 +10,7 @@
 
 #define KEY_LENGTH 16
 #define VALUE_LENGTH 32
+#define PAIR_LENGTH (KEY_LENGTH + VALUE_LENGTH)
 #define SEATS 4
 #define SHARDS_MOST 1024
 
@@ -20,6 +21,9 @@ struct engine {
     void (*close)(void);
     /* a put that waits for its turn, of a key that had a value or had none */
     void (*put)(int seat, const uint8_t *key, const uint8_t *value);
+    /* puts of so many pairs, each a key and its value, as one version of the whole; null if the
+       engine has none */
+    void (*put_all)(const uint8_t *pairs, size_t count);
     void (*get)(int seat, const uint8_t *key);
     /* a version of the whole, which stays until the end */
     void (*begin)(int seat);

@@ -1,6 +1,7 @@
 /*
  * LMDB, in a folder of LMDB_DIR or /dev/shm and without a sync, so that nothing waits for a disk. A
- * put is a transaction of its own; it has one writer at a time, whatever the parts.
+ * put is a transaction of its own, and puts of many pairs are one; it has one writer at a time,
+ * whatever the parts.
  */
 #include "engine.h"
 #include <lmdb.h>
@@ -63,11 +64,22 @@ static MDB_val bytes(const uint8_t *at, size_t length) {
     return (MDB_val){length, (void *)at};
 }
 
+static void put_in(MDB_txn *txn, const uint8_t *key, const uint8_t *value) {
+    MDB_val at = bytes(key, KEY_LENGTH), given = bytes(value, VALUE_LENGTH);
+    require_done("mdb_put", mdb_put(txn, dbi, &at, &given, 0));
+}
+
 static void put(int seat, const uint8_t *key, const uint8_t *value) {
     (void)seat;
-    MDB_val at = bytes(key, KEY_LENGTH), given = bytes(value, VALUE_LENGTH);
     MDB_txn *txn = writing();
-    require_done("mdb_put", mdb_put(txn, dbi, &at, &given, 0));
+    put_in(txn, key, value);
+    require_done("mdb_txn_commit", mdb_txn_commit(txn));
+}
+
+static void put_all(const uint8_t *pairs, size_t count) {
+    MDB_txn *txn = writing();
+    for (size_t i = 0; i < count; i++, pairs += PAIR_LENGTH)
+        put_in(txn, pairs, pairs + KEY_LENGTH);
     require_done("mdb_txn_commit", mdb_txn_commit(txn));
 }
 
@@ -88,4 +100,5 @@ static void get(int seat, const uint8_t *key) {
     end(seat);
 }
 
-const struct engine lmdb_engine = {"lmdb", open_map, close_map, put, get, begin, end, NULL, NULL};
+const struct engine lmdb_engine = {"lmdb", open_map, close_map, put,  put_all,
+                                   get,    begin,    end,       NULL, NULL};

@@ -62,5 +62,5 @@ static void prove(int seat, const uint8_t *key) {
         give_up("mst_sharded_prove", told);
 }
 
-const struct engine sharded_engine = {"sharded", open_map, close_map, put, get,
-                                      begin,     end,      root,      prove};
+const struct engine sharded_engine = {"sharded", open_map, close_map, put,  NULL,
+                                      get,       begin,    end,       root, prove};

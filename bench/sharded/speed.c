@@ -1,7 +1,7 @@
 /*
- * speed ENGINE KEYS SHARDS CALLS: fills a map and times calls of it. It writes a line for each
- * figure: its name, the number of threads, and the figure. Rates are calls a second of all threads
- * together, times microseconds a call, memory bytes a key.
+ * speed ENGINE KEYS SHARDS CALLS [gets]: fills a map and times calls of it, or gets alone, in
+ * several rounds. It writes a line for each figure: its name, the number of threads, and the figure. Rates are calls a
+ * second of all threads together, times microseconds a call, memory bytes a key.
  */
 #include "../common.h"
 #include "engine.h"
@@ -12,7 +12,7 @@
 #include <time.h>
 #include <unistd.h>
 
-enum { VERSIONS = 1000 };
+enum { VERSIONS = 1000, GET_ROUNDS = 9 };
 
 static const struct engine *engine;
 static size_t keys, calls;
@@ -146,9 +146,15 @@ static void time_versions(void) {
     tell("prove", 1, of_versions(0, prove_within));
 }
 
+static void time_gets(void) {
+    for (int threads = 1; threads <= SEATS; threads++)
+        tell("get", threads, (double)calls * threads / seconds(threads, gets));
+}
+
 int main(int count, char **words) {
-    if (count != 5)
-        give_up("speed ENGINE KEYS SHARDS CALLS", count);
+    int gets_alone = count == 6 && strcmp(words[5], "gets") == 0;
+    if (count != 5 && !gets_alone)
+        give_up("speed ENGINE KEYS SHARDS CALLS [gets]", count);
     engine = &sharded_engine;
 #ifdef WITH_LMDB
     if (strcmp(words[1], "lmdb") == 0)
@@ -162,11 +168,12 @@ int main(int count, char **words) {
     engine->open(keys, strtoul(words[3], NULL, 10));
     tell("fill", SEATS, (double)keys / seconds(SEATS, fill));
     tell("memory", 1, (resident() - before) / (double)keys);
-    for (int threads = 1; threads <= SEATS; threads *= 2)
+    for (int threads = 1; threads <= SEATS && !gets_alone; threads *= 2)
         tell("put", threads, (double)calls * threads / seconds(threads, puts_again));
-    for (int threads = 1; threads <= SEATS; threads++)
-        tell("get", threads, (double)calls * threads / seconds(threads, gets));
-    time_versions();
+    for (int round = 0; round < (gets_alone ? GET_ROUNDS : 1); round++)
+        time_gets();
+    if (!gets_alone)
+        time_versions();
     engine->close();
     return 0;
 }

@@ -28,10 +28,12 @@ def compile_one(compiler: str, source: str) -> str:
     return made
 
 
-def compile_c(program: str, flags: list, sources: list, libraries: list) -> None:
-    """Builds a program of C, and objects, with the store's library."""
+def compile_c(
+    program: str, flags: list, sources: list, libraries: list, archive: str = ARCHIVE
+) -> None:
+    """Builds a program of C, and objects, with the store's library, or one that differs from it."""
     os.makedirs(OUT, exist_ok=True)
-    command = ["cc", "-std=c11", *WARNINGS, *flags, *sources, ARCHIVE, *libraries, "-lpthread"]
+    command = ["cc", "-std=c11", *WARNINGS, *flags, *sources, archive, *libraries, "-lpthread"]
     subprocess.run([*command, "-o", program], check=True, cwd=HERE)
 
 
