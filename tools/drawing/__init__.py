@@ -1,8 +1,9 @@
 """The pictures of docs/pictures, each by the function that draws it."""
-from . import blocks, chosen, crates, engines, put, row, sharded, sharded_threads, sizes
-from . import threads, tree, trust, versions
+from . import blocks, chosen, crates, engines, place, put, recovery, row, sharded, sharded_threads
+from . import sizes, threads, tree, trust, versions
 
 PICTURES = {
+    "place": place.picture,
     "tree": tree.picture,
     "versions": versions.picture,
     "put": put.picture,
@@ -10,6 +11,7 @@ PICTURES = {
     "crates": crates.picture,
     "sharded": sharded.picture,
     "blocks": blocks.picture,
+    "recovery": recovery.picture,
     "sizes": sizes.picture,
     "engines": engines.picture,
     "chosen": chosen.picture,

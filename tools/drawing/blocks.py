@@ -10,23 +10,26 @@ BATCH = (
         ("shard 0", "version 4", "version 5", 256),
         ("shard 1", "version 8", "version 9", 400),
     ],
-    [(228, "before", True), (374, "half of it", False), (520, "all of it", True)],
+    [(216, "before", True), (354, "half of it", False), (496, "all of it", True)],
 )
 BLOCK = (
     "A block, by Writer::apply, in C mst_blocks_apply", [
-        ("shard 0", "version 4", "version 5", 250),
-        ("shard 1", "version 8", "version 9", 278),
-        ("directory", "block 6", "block 7", 406),
+        ("directory", "block 6", "block 7", 430),
+        ("shard 0", "version 4", "version 5", 274),
+        ("shard 1", "version 8", "version 9", 302),
     ],
-    [(224, "block 6", True), (384, "no snapshot", False), (520, "block 7", True)],
+    [(214, "block 6", True), (384, "no snapshot", False), (502, "block 7", True)],
 )
+# How much later a snapshot pins in each lane than in the one above.
+LATER = 18
 LOWER = FIRST + 3 * APART
 SAYS = [
     "Each shard makes its part and publishes it, one shard after the other. A snapshot pins one"
     " shard after the other. One that is taken meanwhile has shard 0 with the batch and shard 1"
     " without it, and its root digest is of a map that nobody wrote.",
     "Both shards and the directory make and hash their parts first, in free rows. Then one step"
-    " publishes each, the directory last. A snapshot pins the directory first. If a shard has"
+    " publishes each, the directory last. A snapshot pins the directory first, then shard by shard."
+    " If a shard has"
     " another root digest than the directory lists, a try gives no snapshot (in C MST_MOVING), and"
     " snapshot tries again.",
 ]
@@ -40,8 +43,8 @@ SNAPSHOTS = [
     ("warm", "square", "warm", "one in between: of a batch it is torn; of a block there is none"),
 ]
 NOTES = [
-    "Time goes from left to right. Shards count from 0. A snapshot of blocks is of exactly one"
-    " block, unless two different texts have one SHA-256.",
+    "Time goes from left to right: the line of a snapshot slants, since it pins one after the other."
+    " A snapshot of blocks is of exactly one block, unless SHA-256 collides.",
 ]
 
 
@@ -56,15 +59,16 @@ def draw_lane(canvas, left, top, lane):
 
 def draw_snapshots(canvas, left, lanes, snapshots):
     """The snapshots, each a line over all lanes with a mark in each."""
-    lower = FIRST + (lanes - 1) * APART + HIGH
+    down = FIRST + 12, FIRST + 12 + (lanes - 1) * APART
     for at, text, is_whole in snapshots:
-        style = "thin" if is_whole else "warm"
-        x = left + at
-        canvas.line([(x, FIRST - 18), (x, lower + 16)], "dashed" if is_whole else "warm")
+        first, slope = left + at, LATER / APART
+        ends = [(first - slope * 30, down[0] - 30),
+                (first + (lanes - 1) * LATER + slope * 30, down[1] + 30)]
+        canvas.line(ends, "dashed" if is_whole else "warm")
         for lane in range(lanes):
-            mark = "disc" if is_whole else "square"
-            canvas.mark(x, FIRST + lane * APART + 12, mark, 6, style)
-        canvas.text(x, FIRST - 26, text, 16, "middle", bold=not is_whole)
+            mark, style = ("disc", "thin") if is_whole else ("square", "warm")
+            canvas.mark(first + lane * LATER, down[0] + lane * APART, mark, 6, style)
+        canvas.text(ends[0][0], FIRST - 26, text, 16, "middle", bold=not is_whole)
 
 
 def says_below(canvas, left, text):
@@ -86,12 +90,12 @@ def draw_legend(canvas, left, top):
 
 def picture():
     title = "A snapshot taken while edits of two shards are being published"
-    canvas = Canvas("blocks", title, LOWER + 400)
+    canvas = Canvas("blocks", title, LOWER + 424)
     for left, (name, lanes, snapshots), says in zip(LEFTS, (BATCH, BLOCK), SAYS):
         canvas.text(left, 34, name, 17, bold=True)
         for place, lane in enumerate(lanes):
             draw_lane(canvas, left, FIRST + place * APART, lane)
         draw_snapshots(canvas, left, len(lanes), snapshots)
         says_below(canvas, left, says)
-    canvas.lines(24, draw_legend(canvas, 24, LOWER + 200) + 4, NOTES)
+    canvas.lines(24, draw_legend(canvas, 24, LOWER + 224) + 4, NOTES)
     return canvas

@@ -1,5 +1,6 @@
 """A canvas of 1,200 pixels that gives an SVG picture with its title above it, and refuses a text
-that is cut or crowded."""
+that is cut or crowded, and a colour without another for dark screens."""
+import re
 from html import escape
 
 WIDTH = 1200
@@ -30,10 +31,6 @@ DARK_GREY, LIGHT_GREY = "#595959", "#dcdcdc"
 AT_NIGHT = {
     "white": "#0d1117", "black": "#e6edf3", INK: "#79c0ff", TINT: "#17395c", WARM: "#ffa657",
     GLOW: "#5c2d0f", DARK_GREY: "#b8b8b8", LIGHT_GREY: "#4a4a4a",
-    # The grounds of groups of crates.
-    "#fff2cc": "#453a12", "#d5ecc2": "#28421c", "#ffdfc6": "#523218", "#e3d6ee": "#3b2b4d",
-    "#d3e4f5": "#1b3850", "#bfe6e2": "#14433e", "#f8d0d0": "#532828", "#e2e2e2": "#3a3a3a",
-    "#e6d8cf": "#46372c",
 }
 # How wide the letters of the widest likely font are, in parts of the size.
 NARROW = {**dict.fromkeys("ijl|'", 0.32), **dict.fromkeys("ft,.:;()[]! Ir", 0.43)}
@@ -161,8 +158,16 @@ class Canvas:
         letters = f"text{{fill:{AT_NIGHT['black']}}}"
         return f"<style>@media (prefers-color-scheme: dark){{{letters}{rules}}}</style>"
 
+    def see_that_colours_turn(self):
+        """Refuses a colour that has no other where the screen is dark."""
+        drawn = "".join([*self.shapes, *(shape for _, _, shape in self.texts)])
+        used = set(re.findall(r'(?:fill|stroke)="([^"]+)"', drawn)) - {"none"}
+        if not used <= set(AT_NIGHT):
+            raise ValueError(f"{self.name}: no colour at night for {sorted(used - set(AT_NIGHT))}")
+
     def svg(self):
         """The picture as the text of an SVG file."""
+        self.see_that_colours_turn()
         place = f"0 {-HEAD} {WIDTH} {self.height + HEAD}"
         head = f'<svg xmlns="http://www.w3.org/2000/svg" viewBox="{place}"'
         name = f'x="20" y="{34 - HEAD}" font-size="19" font-weight="bold"'

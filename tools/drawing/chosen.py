@@ -22,12 +22,9 @@ LOOKS = {
 }
 LAYERS = 3
 CELL, HIGH, TREE = 20, 26, 58
-LEGEND = [
-    ("thick", "random keys"),
-    ("broken", "chosen keys with a tag at the end, made by a secret: they are random again"),
-    ("warm", "keys that an attacker chose, all of layer 0"),
-]
 CAPTION = [
+    "chosen: by an attacker, all of layer 0. with a tag: the same with a tag at the end, made by a"
+    " secret, which makes them random again.",
     "All scales are logarithmic; those of the two times are the same. µs: microseconds."
     " A kilobyte has 1,000 bytes.",
     "Keys of layer 0 are easy to find: 15 of 16 random keys have it in format 1, 3 of 4 in format 2"
@@ -126,7 +123,7 @@ def points_of(kinds, divided):
 def picture():
     found = figures()
     see_that_the_page_tells_them(found)
-    canvas = Canvas("chosen", "Keys that an attacker chooses, and what they cost", 1048)
+    canvas = Canvas("chosen", "Keys that an attacker chooses, and what they cost", 986)
     draw_trees(canvas)
     points = {call: points_of(found[call], divided) for call, _, divided in PANELS}
     for number, (call, title, _) in enumerate(PANELS):
@@ -134,6 +131,5 @@ def picture():
         alike = [points[other] for other, name, _ in PANELS if name.endswith(unit)]
         high = scale([it for kinds in alike for each in kinds.values() for it in each.values()])
         draw_panel(canvas, (left, left + ACROSS, UPPER, LOWER), title, points[call], high)
-    below = canvas.legend(20, LOWER + 108, LEGEND) + 6
-    canvas.lines(20, below, CAPTION + measured("LIMITS.md", "microseconds, 1,000 keys"))
+    canvas.lines(20, LOWER + 100, CAPTION + measured("LIMITS.md", "microseconds, 1,000 keys"))
     return canvas

@@ -1,36 +1,34 @@
 """The time of calls of the store and of other engines, by the number of keys, from
-docs/pictures/engines.tsv, and of puts by the size of a batch, from the tables of docs/SPEED.md."""
-from .canvas import Canvas
+docs/pictures/engines.tsv, of puts by the size of a batch, from the tables of docs/SPEED.md, and of
+the store's get and put as multiples of LMDB's."""
+from .canvas import INK, Canvas
 from .curves import Plot, apart, scale
-from .figures import batches, figures, lanes, measured, see_that_the_page_tells_them
+from .figures import batches, figures, measured, see_that_the_page_tells_them
+from .threads import end_of
 
 LEFT, ACROSS, NEXT, UPPER, HIGH, BELOW = 94, 196, 394, 62, 400, 540
 READS = {"get": "get", "range": "range of 100 pairs", "prove": "prove (the store alone)"}
-TODAY = "store, today"
 LOOKS = {
     "store": ("thick", "square"),
-    TODAY: ("broken", "triangle"),
     "LMDB": ("thin", "disc"),
     "SQLite": ("dotted", "ring"),
     "std::map": ("dashed", "diamond"),
 }
+# The panels of multiples: the call, what it is called, and where the columns begin and end.
+BESIDE = {
+    "get": ("get: the store's time ÷ LMDB's", 94, 560),
+    "put": ("put of a new value: the store's time ÷ LMDB's", 694, 1160),
+}
+BESIDE_UPPER, BESIDE_HIGH, COLUMN = UPPER + 2 * BELOW, 220, 60
 CAPTION = [
-    "ns: nanoseconds of one call, or of one put of a batch; less is better. All scales are"
-    " logarithmic; the six time axes are alike.",
-    "Keys of 16 bytes, values of 32, from C; each the mean of the fastest of 81 rounds. A batch of"
-    " 1 is the put alone. Batches of 100 were not timed here (LIMITS has the store's), so no line"
-    " leads from 10 to 1,000.",
+    "ns: nanoseconds of one call, or of one put of a batch; less is better. The scales of the six"
+    " upper panels are logarithmic, and their time axes alike; those of the lower two begin at 0.",
+    "Keys of 16 bytes, values of 32, from C; each the mean of the fastest round. A batch of 1 is"
+    " the put alone.",
     "Only the store has root digests and proofs: the hashes for these are most of its put.",
-    "store: an earlier library. store, today (broken, triangles): the time of today's, computed"
-    " from two runs: that of the earlier one, times the part of it that today's took when both ran"
-    " side by side.",
 ]
 # The heads of the tables that are drawn: what the page says above them is said below the picture.
-HEADS = {
-    "Nanoseconds of": "times by keys",
-    "nanoseconds, 1,000 keys": "batches",
-    "time with lanes ÷ time without": TODAY,
-}
+HEADS = {"Nanoseconds of": "times by keys", "nanoseconds, 1,000 keys": "batches"}
 # The most by which neighbours on a curve may differ that a line joins.
 JOINED = 12
 
@@ -46,35 +44,44 @@ def panels():
     return [upper, lower]
 
 
-def with_today(title, engines, later):
-    """The times of a panel, and those of today's library where a part is told for each number."""
-    parts = later.get(title, "").split(", ")
-    store = sorted(engines["store"].items())
-    if len(parts) != len(store):
-        return engines
-    return {**engines, TODAY: {keys: ns * float(part) for (keys, ns), part in zip(store, parts)}}
-
-
-def draw_panel(canvas, place, times, panel, later):
+def draw_panel(canvas, place, times, panel):
     """The curves of one panel, with their names where they end."""
     title, unit, says, engines = panel
-    engines = with_today(title, engines, later)
     numbers = sorted({it for each in engines.values() for it in each})
     plot = Plot(canvas, place, (numbers[0], numbers[-1]), times, 20)
     plot.draw_times()
     plot.draw_keys(numbers, unit)
     canvas.text(plot.left - 76, plot.upper - 24, title + ", ns", 17, bold=True)
     canvas.text((plot.left + plot.right) / 2, plot.lower + 56, says, 16, "middle")
-    if title in later and TODAY not in engines:
-        # above the store's curve, at its left
-        for down, line in enumerate((f"{TODAY}:", f"× {later[title]}")):
-            canvas.text(plot.left + 8, plot.upper + 22 + 22 * down, line, 16, bold=True)
-    # The store's then lies above the others, and today's above that.
-    names = sorted(engines, key=lambda it: (it == TODAY, it == "store"))
+    # The store's then lies above the others.
+    names = sorted(engines, key=lambda it: it == "store")
     ends = [plot.draw_curve(sorted(engines[it].items()), LOOKS[it], 6, JOINED)[-1] for it in names]
     for engine, (x, y), high in zip(names, ends, apart([y for _, y in ends], 26)):
         canvas.line([(x + 9, y), (plot.right + 4, high)], "thin")
-        canvas.text(plot.right + 8, high + 6, engine, 16, bold=engine in ("store", TODAY))
+        canvas.text(plot.right + 8, high + 6, engine, 16, bold=engine == "store")
+
+
+def draw_beside(canvas, panel, multiples):
+    """A column for each number of keys, as high as the store's time is a multiple of LMDB's."""
+    title, left, right = panel
+    lower = BESIDE_UPPER + BESIDE_HIGH
+    most = end_of(10 * 1.1 * max(1, *multiples.values())) / 10  # of tenths, with its label
+    canvas.text(left - 76, BESIDE_UPPER - 24, title, 17, bold=True)
+    for part in range(5):
+        y = lower - BESIDE_HIGH * part / 4
+        canvas.line([(left, y), (right, y)], "faint" if part else "thin")
+        canvas.text(left - 12, y + 6, f"{most * part / 4:.4g}", 17, "end")
+    for place, (keys, times) in enumerate(sorted(multiples.items())):
+        middle = left + (right - left) * (place + 0.5) / len(multiples)
+        high = BESIDE_HIGH * times / most
+        canvas.box(middle - COLUMN / 2, lower - high, COLUMN, high, "thin", INK)
+        shown = f"{times:.2f}" if times < 10 else f"{times:.0f}"
+        canvas.text(middle, lower - high - 7, shown, 16, "middle", bold=True, halo=True)
+        canvas.text(middle, lower + 30, f"{keys // 1_000}", 17, "middle")
+    y = lower - BESIDE_HIGH / most
+    canvas.line([(left, y), (right, y)], "dashed")
+    canvas.text(right + 8, y + 6, "1", 16)
+    canvas.text((left + right) / 2, lower + 56, "thousands of keys", 16, "middle")
 
 
 def picture():
@@ -84,13 +91,17 @@ def picture():
         it for row in rows for _, _, _, engines in row for each in engines.values()
         for it in each.values()
     ])
-    canvas = Canvas("engines", "The time of one call: the store, LMDB, SQLite and std::map", 1436)
+    canvas = Canvas("engines", "The time of one call: the store, LMDB, SQLite and std::map", 1660)
     for down, row in enumerate(rows):
         upper = UPPER + down * BELOW
         for across, panel in enumerate(row):
             left = LEFT + across * NEXT
-            draw_panel(canvas, (left, left + ACROSS, upper, upper + HIGH), times, panel, lanes())
-    canvas.lines(20, 1126, CAPTION + [
+            draw_panel(canvas, (left, left + ACROSS, upper, upper + HIGH), times, panel)
+    for call, panel in BESIDE.items():
+        each = figures()[call]
+        multiples = {keys: ns / each["LMDB"][keys] for keys, ns in each["store"].items()}
+        draw_beside(canvas, panel, multiples)
+    canvas.lines(20, BESIDE_UPPER + BESIDE_HIGH + 106, CAPTION + [
         line.replace("Measured", f"Measured, {what}") for head, what in HEADS.items()
         for line in measured("SPEED.md", head)
     ])

@@ -55,41 +55,24 @@ def batches():
     return found
 
 
-LANES = "\n| time with lanes ÷ time without |"
-PUT = r"A put took ([\d.]+ to [\d.]+) of the time"
-
-
-def lanes():
-    """What docs/SPEED.md says of calls of today's library: their time as a part of that without
-    lanes, by what the page calls them."""
-    with open(PAGE, encoding="utf-8") as file:
-        _, found, after = file.read().partition(LANES)
-    put = re.search(PUT, after)
-    if not found or not put:
-        sys.exit("docs/SPEED.md does not say what lanes change in time")
-    told = {CALLS["put"]: put[1]}
-    for line in after.partition("\n\n")[0].split("\n")[2:]:
-        name, *cells = [it.strip() for it in line.strip("|").split("|")]
-        told[name] = ", ".join(cells)
-    return told
-
-
 MEASURED = "*Measured*: "
 
 
 def measured(name, *heads):
-    """What this page of docs/ says last, above the table of each of these heads, of when, where and
-    on which library it was measured. Of tables with one head, that of today is the last."""
+    """What this page of docs/ says last, above each table of each of these heads, of when and where
+    it was measured, without the file of bench/results."""
     lines = []
     with open(os.path.join(TOP, "docs", name), encoding="utf-8") as file:
         page = file.read()
     for head in heads:
-        above, found, _ = page.rpartition(f"\n| {head} |")
-        _, begun, after = above.rpartition("\n" + MEASURED)
-        if not found or not begun:
+        *above, _ = page.split(f"\n| {head} |")
+        if not above or "\n" + MEASURED not in above[0]:
             sys.exit(f"docs/{name} does not say when '{head}' was measured")
-        line = re.sub(r"\[([^]]*)\]\([^)]*\)", r"\1", after.partition("\n")[0])
-        lines.append("Measured: " + line)
+        for place in range(len(above)):
+            text = "".join(above[: place + 1])
+            line = text.rpartition("\n" + MEASURED)[2].partition("\n")[0]
+            line = re.sub(r"[;,] \[`\w+`\]\([^)]*\)", "", line)
+            lines.append("Measured: " + re.sub(r"\[([^]]*)\]\([^)]*\)", r"\1", line))
     return list(dict.fromkeys(lines))
 
 

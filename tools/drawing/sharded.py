@@ -19,7 +19,8 @@ CAPTION = [
     "The proof has the whole node of the directory, so it also shows the bounds and digests of the"
     f" other shards. Of the shard it has the node of {ASKED.decode()}, with the digest of the node"
     " below it.",
-    "Digests, bounds and the first four fields are hexadecimal, with a bound as text in brackets."
+    "In format 1. Digests, bounds and the first four fields are hexadecimal, with a bound as text in"
+    " brackets."
     " Only the beginning of each digest is shown.",
 ]
 
@@ -130,7 +131,7 @@ def picture():
     it = split(1, dict(puts()), splits())
     where = columns(len(it.shards))
     count = len(dict(puts()))
-    title = f"A map of {count} keys in {len(it.shards)} shards, and a proof of it, in format 1"
+    title = f"A map of {count} keys in {len(it.shards)} shards, and the proof of {name(ASKED)}"
     canvas = Canvas("sharded", title, LEGEND + 236)
     draw_directory(canvas, it, where)
     draw_shards(canvas, it, where)

@@ -3,7 +3,7 @@ import os
 import re
 import sys
 
-from .canvas import DARK_GREY, INK, LIGHT_GREY, TINT, Canvas
+from .canvas import DARK_GREY, INK, LIGHT_GREY, TINT, Canvas, width_of
 from .figures import measured, whole
 from .maps import TOP
 
@@ -22,11 +22,12 @@ PARTS = [
     ("W: the rows of the write that is being made", DARK_GREY),
     ("S × W: the version before, which a short read still has", LIGHT_GREY),
 ]
-USED = "in use at most, measured in one store with the mean keys of a shard"
-TITLE = "(1 + L) × M + (1 + S) × W: what the rows of a shard are for"
+USED = "in use at most, measured in a store of mean size: the mean keys of a shard, and edits"
+TITLE = "Most rows of a shard are for pinned versions"
 CAPTION = [
-    "A map of 200,000 random keys in format 1; batches of 500 edits; L = 3, S = 1. Each bar is of"
-    " the fullest shard. The line at its right end: the rows with which the shard is opened.",
+    "Rows needed = (1 + L) × M + (1 + S) × W, here with L = 3 and S = 1. A map of 200,000 random"
+    " keys in format 1; batches of 500 edits. Each bar is of the fullest shard, which has more keys"
+    " than the mean. The line at its right end: the rows with which the shard is opened.",
 ]
 
 
@@ -88,15 +89,21 @@ def draw_bar(canvas, y, number, rows, write, all_rows, opened, used):
         canvas.box(across(place), y, across(place + wide) - across(place), HIGH, "thin", fill)
         place += wide
     canvas.line([(across(opened), y - 8), (across(opened), y + HIGH + 8)], "bold")
-    canvas.text(across(opened) + 8, y + HIGH / 2 + 6, f"{all_rows:,}, so {opened:,}", 16, halo=True)
+    says = f"needs {all_rows:,}; open {opened:,}"
+    if across(opened) + 8 + width_of(says, 16) < RIGHT:
+        canvas.text(across(opened) + 8, y + HIGH / 2 + 6, says, 16, halo=True)
+    else:
+        canvas.text(across(opened), y + HIGH + 26, says, 16, "middle", halo=True)
     canvas.line([(across(used), y - 6), (across(used), y + HIGH + 8)], "warm")
-    canvas.text(across(used), y + HIGH + 26, f"{used:,}", 16, "middle", halo=True)
+    says = f"{used:,} used at mean size"
+    at = "end" if across(used) - width_of(says, 16) > LEFT + 8 else "middle"
+    canvas.text(across(used), y + HIGH + 26, says, 16, at, halo=True)
 
 
 def picture():
     bars = list(example())
     lower = UPPER + len(bars) * APART
-    canvas = Canvas("sizes", TITLE, lower + 314)
+    canvas = Canvas("sizes", TITLE, lower + 340)
     draw_scale(canvas, lower)
     for place, bar in enumerate(bars):
         draw_bar(canvas, UPPER + 10 + place * APART, *bar)

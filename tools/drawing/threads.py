@@ -29,8 +29,7 @@ CAPTION = [
     " all threads share. A get of a pinned version makes no such step.",
     "Writers: one write lock, the turn, serves all, so more writers make no more puts. Those of a"
     " sharded map do (USING has a picture). With the line, as it is today, calls that have waited"
-    " 30 ms go first. Each bar is the median of five runs, which differ by up to a factor of two.",
-    "The two halves are of different libraries and loads: compare bars within a half alone.",
+    " 30 ms go first. Each bar is the median of five runs.",
     "time of one get: its processor time; that of a get by one reader alone is 1.",
     "slowest writer: its puts, as a part of the mean of all writers; the median.",
 ]

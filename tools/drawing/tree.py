@@ -11,7 +11,7 @@ NODES = 168
 PROVED = b"hanoi"
 CAPTION = [
     f"Blue: the nodes of the proof of {PROVED.decode()}, from the top down. The proof is their"
-    " texts, with all their entries; who checks it has the root digest.",
+    " texts, with all their entries; the verifier already has the root digest.",
     "A box is an entry: its key, its value, and how the key's SHA-256 begins, which gives the"
     " layer.",
     "Boxes that touch are one node, with entries of one layer.",

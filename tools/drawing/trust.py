@@ -1,113 +1,108 @@
-"""The layers of trust: what is read and believed, what the checker sees to, and what is tested."""
-import glob
+"""What an answer of the store rests on: what has to be read or believed, what the checker sees to,
+and what is only tested. The numbers of lines are those of docs/BELIEVE.md."""
 import os
+import re
 import sys
 
 from .canvas import Canvas
 from .maps import TOP
 
-LEFT, MIDDLE, RIGHT, HIGH = 24, 404, 804, 88
-BAND, COLUMN = 752, 372
-CONTRACTS, SECOND, THIRD, PORTED, TOOLCHAIN = 70, 194, 318, 442, 566
-# Each box: its style, its place and width, its name, and what is said in it.
-BOXES = [
-    ("thick", LEFT, CONTRACTS, BAND, "contracts", (
-        "what each call promises; one law says what all calls of a store do",
-        "crates/*/src: ensures, requires",
-    )),
-    ("thick", LEFT, SECOND, COLUMN, "definitions", (
-        "what the words of clauses mean",
-        "crates/*/specs",
-    )),
-    ("thin", MIDDLE, SECOND, COLUMN, "code", (
-        "each function has a contract",
-        "crates/*/src",
-    )),
-    ("thin", LEFT, THIRD, COLUMN, "laws and worked cases", (
-        "proved: what a definition implies",
-        "crates/*/src/laws.rt",
-    )),
-    ("thin", MIDDLE, THIRD, COLUMN, "proofs", (
-        "of each clause, step by step",
-        "crates/*/proofs",
-    )),
-    ("thick", LEFT, PORTED, BAND, "statements of the ported crates", (
-        "what SHA-256 is, what an atomic step does, what a list holds",
-        "the toolchain's crates",
-    )),
-    ("thick", LEFT, TOOLCHAIN, BAND, "toolchain", (
-        "its checker and its logic, compilers, library; the C library",
-        "the folder of rt",
-    )),
-    ("dashed", RIGHT, CONTRACTS, COLUMN, "wrong bodies", (
-        "mutation tests of the clauses",
-        "crates/*: must-fail, wrong-bodies",
-    )),
-    ("dashed", RIGHT, SECOND, COLUMN, "tests", (
-        "what no clause says",
-        "crates/*_tests, tests",
-    )),
-    ("thick", RIGHT, PORTED, COLUMN, "what is not in Rattle", (
-        "tested alone; the library's own C too",
-        "bindings, include, verifiers",
-    )),
-    ("thick", RIGHT, TOOLCHAIN, COLUMN, "tools of the gate", (
-        "check three things that rest on code",
-        "tools/step_calls and others",
-    )),
-]
-TITLE = "The layers of trust: what has to be read or believed, and what is checked"
+PAGE = os.path.join(TOP, "docs", "BELIEVE.md")
+# What the page says of how many lines there are to read, by its heading.
+COUNTS = {
+    "### For the store": r"They rest on ([\d,]+) lines",
+    "### To know that the theorem holds": r"Read ([\d,]+) lines",
+    "### For the verifier": r"They rest on ([\d,]+) lines",
+    "## What stands outside of the proofs": r"`bindings/\*\.c`, fewer than ([\d,]+) lines",
+}
+LEFT, RIGHT, COLUMN, BAND, HIGH = 20, 820, 360, 760, 88
+HALF = (BAND - 24) // 2
+THIRD = (BAND - 48) // 3
+ROWS = (70, 206, 342, 478)
+TITLE = "What an answer rests on: definitions to read, two assumptions, and the toolchain"
 LEGEND = [
     ("thick", "read it, or take it on trust"),
-    ("thin", "checked by machine; users need not read it, three things excepted (below)"),
-    ("dashed", "a test: that clauses say enough, or of what they do not say"),
+    ("thin", "checked by machine: users need not read it, but for the three things"),
+    ("dashed", "tested"),
 ]
 NOTES = [
+    "Each arrow means 'rests on'. Lines: those that the contracts reach, without comments, as BELIEVE"
+    " lists them.",
     "The three things: how many steps depend on other passes; that Memory is returned only if"
     " memory was refused; that the linearization point of a call, except of a write, lies within"
-    " the call (BELIEVE, 'What rests on code').",
-    "What is not in Rattle: each library for C has the C files of bindings/ in it (calls that wait,"
-    " pages, buffers). Of the rest, trust what you use: a header, a binding, a verifier by hand.",
+    " the call. Two tools of the gate look at that code.",
 ]
 
 
-def see_that_folders_exist():
-    """Refuses a box that names folders of which there are none."""
-    for _, _, _, _, _, (_, names) in BOXES:
-        for name in names.partition(":")[0].partition(" and ")[0].split(", "):
-            is_path = "toolchain" not in name and "folder" not in name
-            if is_path and not glob.glob(os.path.join(TOP, name)):
-                sys.exit(f"tools/drawing/trust.py names {name}, and there is none")
+def lines_to_read():
+    """How many lines the page says there are to read, for each of its headings."""
+    with open(PAGE, encoding="utf-8") as file:
+        page = file.read()
+    found = []
+    for heading, pattern in COUNTS.items():
+        said = re.search(pattern, page.partition(f"\n{heading}\n")[2])
+        if not said:
+            sys.exit(f"docs/BELIEVE.md does not say how many lines there are under '{heading}'")
+        found.append(said[1])
+    return found
+
+
+def boxes():
+    """The style, place, width, name and lines of each box."""
+    store, theorem, verifier, in_c = lines_to_read()
+    second, third = LEFT + THIRD + 24, LEFT + 2 * (THIRD + 24)
+    return [
+        ("thick", LEFT, ROWS[0], BAND, "contracts of the calls that you use", (
+            "what each call promises; one law says what all calls of a store do",)),
+        ("thick", LEFT, ROWS[1], HALF, "definitions", (
+            f"{store} lines for the store,", f"{theorem} the theorem, {verifier} the verifier")),
+        ("thin", LEFT + HALF + 24, ROWS[1], HALF, "code, laws and proofs", (
+            "each function keeps its contract:", "the checker sees to that")),
+        ("thick", LEFT, ROWS[2], THIRD, "SHA-256", ("is what the crate", "sha2 states")),
+        ("thick", second, ROWS[2], THIRD, "atomic steps", ("are sequentially", "consistent")),
+        ("thick", third, ROWS[2], THIRD, "ported crates", ("keep to what", "they state")),
+        ("thick", LEFT, ROWS[3], BAND, "toolchain", (
+            "its checker and its logic, compilers, library; the C library",)),
+        ("thick", RIGHT, ROWS[0], COLUMN, "three things that rest on code", (
+            "no clause says them,", "two tools look at them")),
+        ("thick", RIGHT, ROWS[1], COLUMN, "not in Rattle", (
+            f"the library's C (under {in_c} lines),", "headers, bindings: tested alone")),
+        ("dashed", RIGHT, ROWS[2], COLUMN, "tests", ("of what no clause says", "crates/*_tests, tests")),
+        ("dashed", RIGHT, ROWS[3], COLUMN, "wrong bodies", (
+            "mutation tests: clauses say enough",)),
+    ]
 
 
 def draw_box(canvas, style, left, top, width, name, says):
     canvas.box(left, top, width, HIGH, style, round=6)
     canvas.text(left + 16, top + 28, name, 18, bold=True, within=width - 24)
-    canvas.text(left + 16, top + 52, says[0], 16, within=width - 24)
-    canvas.text(left + 16, top + 75, says[1], 16, code=True, within=width - 24)
+    for line, text in enumerate(says):
+        canvas.text(left + 16, top + 52 + 24 * line, text, 16, within=width - 24)
 
 
-def draw_arrow(canvas, x, start, end, says):
-    """An arrow from one layer to the next, with what it stands for."""
-    canvas.line([(x, start), (x, end)], arrow=True)
-    canvas.text(x + 12, (start + end) / 2 + 6, says, 16)
+# The arrows from one row to the next: where each stands from left to right, by the row above it.
+ARROWS = {
+    0: (LEFT + HALF / 2, LEFT + HALF * 1.5 + 24),
+    1: (LEFT + THIRD / 2, LEFT + HALF + 74, LEFT + 2.5 * THIRD + 48),
+    2: (LEFT + THIRD / 2, LEFT + 1.5 * THIRD + 24, LEFT + 2.5 * THIRD + 48),
+}
+
+
+def draw_arrows(canvas):
+    for row, places in ARROWS.items():
+        for x in places:
+            canvas.line([(x, ROWS[row] + HIGH), (x, ROWS[row + 1])], arrow=True)
+    y = ROWS[0] + HIGH / 2
+    canvas.line([(LEFT + BAND, y), (RIGHT, y)], arrow=True)
 
 
 def picture():
-    see_that_folders_exist()
-    canvas = Canvas("trust", TITLE, 900)
-    canvas.text(LEFT, 34, "what a proof rests on (top: what callers read)", 17, bold=True)
-    canvas.text(RIGHT, 34, "what else is there", 17, bold=True)
-    for box in BOXES:
+    canvas = Canvas("trust", TITLE, ROWS[3] + HIGH + 250)
+    canvas.text(LEFT, 42, "what a proof rests on (top: what callers read)", 17, bold=True)
+    canvas.text(RIGHT, 42, "what stands beside the proofs", 17, bold=True)
+    draw_arrows(canvas)
+    for box in boxes():
         draw_box(canvas, *box)
-    draw_arrow(canvas, 210, CONTRACTS + HIGH, SECOND, "cite")
-    draw_arrow(canvas, 590, SECOND, CONTRACTS + HIGH, "implements")
-    draw_arrow(canvas, 210, THIRD, SECOND + HIGH, "show what follows from them")
-    draw_arrow(canvas, 590, THIRD, SECOND + HIGH, "prove that it does")
-    draw_arrow(canvas, 210, THIRD + HIGH, PORTED, "rest on")
-    draw_arrow(canvas, 590, THIRD + HIGH, PORTED, "rest on")
-    says = "are checked and built by it; so is all above"
-    draw_arrow(canvas, 210, PORTED + HIGH, TOOLCHAIN, says)
-    top = TOOLCHAIN + HIGH + 42
-    canvas.lines(LEFT, canvas.legend(LEFT, top, LEGEND) + 6, NOTES)
+    low = canvas.legend(LEFT, ROWS[3] + HIGH + 44, LEGEND)
+    canvas.lines(LEFT, low + 4, NOTES)
     return canvas

@@ -3,7 +3,8 @@
 tests/wrong_bodies.tsv has a line for each: its crate, its name, with which kit it was refused, and
 a hash of what its verdict depends on. That is its own text; the functions whose goals judge it,
 with their answers; of its crate and of each crate below what others can cite: code without the
-bodies of functions, definitions, and what lemmas state. If it changes a definition or a clause, or
+bodies of functions, of a crate below without functions that are not public, definitions, and what
+lemmas state. If it changes a definition or a clause, or
 nothing says what judges it, it is the whole text of its crate. Comments, and how lines are broken,
 count for nothing."""
 import contextlib
@@ -17,7 +18,7 @@ import subprocess
 
 from kit import ROOT
 from wrong_bodies.edits import Edit, paths_of
-from wrong_bodies.sources import Sources, functions_of, read
+from wrong_bodies.sources import Sources, functions_of, is_inherent, read
 
 RECORD = "tests/wrong_bodies.tsv"
 HEAD = "crate\twrong body\tkit\thash"
@@ -42,16 +43,38 @@ def without_bodies(text):
     return "\n".join(lines)
 
 
+def is_hidden(before, line):
+    """Whether no crate above can name a function: one of a module, or a method of an `impl` of no
+    trait, that is not public."""
+    if line.lstrip().startswith("pub "):
+        return False
+    return not line.startswith(" ") or is_inherent(before)
+
+
 def without_hidden(text):
-    """Code without what crates above cannot name: a module's own functions and its imports."""
+    """Code without what crates above cannot name: functions that are not public, and imports."""
     lines = text.split("\n")
     for it in functions_of("", text):
         first = it.first
-        if not lines[first].startswith((" ", "pub ")):
-            while first and lines[first - 1].startswith(("#[", "//")):
+        if is_hidden("\n".join(lines[:first]), lines[first]):
+            while first and lines[first - 1].lstrip().startswith(("#[", "//")):
                 first -= 1
             lines[first : it.end + 1] = [""] * (it.end + 1 - first)
-    return "\n".join(it for it in lines if not it.startswith("use "))
+    return re.sub(r"(?ms)^use .*?;$", "", "\n".join(lines))
+
+
+def without_idle(text):
+    """Code without those names of its imports for clauses that no line of it uses."""
+    lines, used = [], "\n".join(it for it in text.split("\n") if "ghost use " not in it)
+    for line in text.split("\n"):
+        listed = re.match(r"( *ghost use .*\{)(.*)\};$", line)
+        names = listed[2].split(", ") if listed else [line.removesuffix(";").split(" as ")[-1]]
+        names = [it for it in names if all(part in used for part in it.split(" as ")[-1].split("◌"))]
+        if listed and names:
+            lines.append(f"{listed[1]}{', '.join(names)}}};")
+        elif names or "ghost use " not in line:
+            lines.append(line)
+    return "\n".join(lines)
 
 
 def stated(text, is_own):
@@ -87,14 +110,35 @@ def lemma_files(folder):
     return [it for it in files(folder, "proofs", "antt") if not it.endswith(answers)]
 
 
+def own_modules(folder):
+    """The modules of proofs/ that no crate above can import: those that Lib.antt has without
+    `pub`."""
+    path = f"{folder}/proofs/Lib.antt"
+    return re.findall(r"(?m)^mod (\w+)$", read(path)) if os.path.exists(path) else []
+
+
+def lemma_text(crate, is_own):
+    """What the lemmas of a crate state, for crates above without those of its own modules."""
+    hidden, parts = [] if is_own else own_modules(crate.folder), []
+    for file in lemma_files(crate.folder):
+        place, text = os.path.relpath(file, f"{crate.folder}/proofs"), read(file)
+        if place.split(os.sep)[0].removesuffix(".antt") in hidden:
+            continue
+        if place == "Lib.antt" and hidden:
+            text = re.sub(r"(?m)^mod \w+\n?", "", text)
+        parts.append(bare(stated(text, is_own), "--"))
+    return parts
+
+
 def shown_text(crate, is_own):
     """What a crate's own proofs, or those of crates above, can cite of a crate."""
     parts = []
     for file in files(crate.folder, "src", "rt"):
         text = read(file) if is_own else without_hidden(read(file))
-        parts.append(bare(without_bodies(text), "//"))
+        text = "\n".join(it for it in text.split("\n") if not it.lstrip().startswith("//"))
+        parts.append(bare(without_idle(without_bodies(text)), "//"))
     parts += [bare(read(it), "--") for it in files(crate.folder, "specs", "antt")]
-    return parts + [bare(stated(read(it), is_own), "--") for it in lemma_files(crate.folder)]
+    return parts + lemma_text(crate, is_own)
 
 
 @functools.lru_cache(maxsize=None)

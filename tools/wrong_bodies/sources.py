@@ -27,6 +27,13 @@ class Function:
         return (self.path, self.cycle) if self.cycle else (self.path, self.owner, self.name)
 
 
+def is_inherent(text):
+    """Whether the last impl or trait of a text is an impl of no trait."""
+    heads = re.findall(r"(?m)^(?:pub )?(impl|trait)\b([^{]*)\{", text)
+    kind, head = heads[-1] if heads else ("", "")
+    return kind == "impl" and not re.search(r"\bfor (?!<)", re.sub(r"(?s)\bwhere\b.*", "", head))
+
+
 def opening_of(lines, first, indent):
     """The line that opens the body of the function whose head begins at `first`, or None if it
     has no body."""

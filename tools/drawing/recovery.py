@@ -1,0 +1,60 @@
+"""What goes on when a writer has died: the steps of docs/OPERATING.md by which a map moves to a new
+store."""
+from .canvas import Canvas
+
+LEFT, RIGHT, FIRST, APART, HIGH = 210, 1184, 108, 62, 46
+TITLE = "A writer has died: reads go on, and the map moves to a new store"
+# When the writer dies, and when each step of the page begins.
+DIES, STOP, PIN, LOAD, COMPARE, SWITCH = 330, 452, 566, 666, 806, 936
+STEPS = [
+    (DIES, "a writer dies"), (STOP, "1 stop"), (PIN, "2 pin"), (LOAD, "3 load"),
+    (COMPARE, "4 compare"), (SWITCH, "5 switch over"),
+]
+# Of each lane its name, and what goes on: where it begins and ends, its style, and what it is.
+LANES = [
+    ("the dead thread", [
+        (LEFT, DIES, "thin", "writes"), (DIES, RIGHT, "warm", "has the turn, the write lock, for good"),
+    ]),
+    ("other writers", [
+        (LEFT, DIES, "thin", "write"), (DIES, SWITCH, "warm", "MST_BUSY, or wait without end"),
+        (SWITCH, RIGHT, "thick", "write to the new one"),
+    ]),
+    ("readers", [
+        (LEFT, SWITCH, "thin", "read, as fast as before"),
+        (SWITCH, RIGHT, "thick", "read the new one"),
+    ]),
+    ("the spare pass", [
+        (PIN, SWITCH, "thin", "pins the last version"),
+    ]),
+    ("the new store", [
+        (LOAD, COMPARE, "thick", "one batch"), (COMPARE, SWITCH, "thick", "same root?"),
+        (SWITCH, RIGHT, "thick", "in use"),
+    ]),
+]
+LOOKS = [
+    ("thin", "the old store"), ("warm", "no more writes to the old store"),
+    ("thick", "the new store, with a map of the same root digest"),
+]
+NOTES = [
+    "Time goes from left to right. The write that was cut off is whole in the map, or not at all."
+    " The pass of the dead thread is never closed, so the old store keeps its memory.",
+]
+
+
+def draw_lane(canvas, top, name, parts):
+    canvas.text(20, top + HIGH / 2 + 6, name, 17, bold=True, within=LEFT - 30)
+    for begin, end, style, says in parts:
+        canvas.box(begin, top, end - begin, HIGH, style)
+        canvas.text(begin + 10, top + HIGH / 2 + 6, says, 16, within=end - begin - 14)
+
+
+def picture():
+    lower = FIRST + len(LANES) * APART
+    canvas = Canvas("recovery", TITLE, lower + 190)
+    for place, (x, says) in enumerate(STEPS):
+        canvas.line([(x, FIRST - 14), (x, lower - 4)], "dashed")
+        canvas.text(x, FIRST - 26 - 26 * (place == 0), says, 16, "middle", bold=place == 0)
+    for place, (name, parts) in enumerate(LANES):
+        draw_lane(canvas, FIRST + place * APART, name, parts)
+    canvas.lines(20, canvas.legend(20, lower + 32, LOOKS) + 4, NOTES)
+    return canvas
