@@ -140,6 +140,25 @@ static void reads(uint32_t format) {
     }
 }
 
+/* A block that gives a key this value, or removes it if that is -1. */
+static void sets(mst_blocks_handle *by, int key, int value) {
+    uint8_t own = (uint8_t)key, byte = (uint8_t)value;
+    length = value < 0 ? mst_edit_remove(edits, 0, &own, 1)
+        : mst_edit_put(edits, 0, &own, 1, &byte, 1);
+    EXPECT(made_by(by) == MST_OK);
+}
+
+/* The root digest is another while a key has another value, or none, and then the same again. */
+static void has_a_root_of_each_pair(mst_blocks_handle *of) {
+    for (int key = 0; key < KEYS; key++) {
+        int value = now.values[key];
+        sets(of, key, value < 0 ? 1 : key % 2 ? -1 : value ^ 1);
+        EXPECT(!have_one_root(&hands[0], of));
+        sets(of, key, value);
+        EXPECT(have_one_root(&hands[0], of));
+    }
+}
+
 /* Another map, to which other blocks have led, has the same root digest once it has these pairs. */
 static void has_the_root_of_its_pairs(uint32_t format, const uint8_t *splits, size_t end) {
     mst_blocks_handle other = MST_BLOCKS_HANDLE_CLOSED;
@@ -154,7 +173,9 @@ static void has_the_root_of_its_pairs(uint32_t format, const uint8_t *splits, si
         }
         EXPECT(made_by(&other) == MST_OK);
     }
-    EXPECT(have_one_root(&hands[0], &other) && mst_blocks_close(&other) == MST_OK);
+    EXPECT(have_one_root(&hands[0], &other));
+    has_a_root_of_each_pair(&other);
+    EXPECT(mst_blocks_close(&other) == MST_OK);
 }
 
 static void against_an_array(uint32_t format, long blocks) {
