@@ -2,11 +2,10 @@
 
 tests/wrong_bodies.tsv has a line for each: its crate, its name, with which kit it was refused, and
 a hash of what its verdict depends on. That is its own text; the functions whose goals judge it,
-with their answers; of its crate and of each crate below what others can cite: code without the
-bodies of functions, of a crate below without functions that are not public, definitions, and what
-lemmas state. If it changes a definition or a clause, or
-nothing says what judges it, it is the whole text of its crate. Comments, and how lines are broken,
-count for nothing."""
+with their answers; and of its crate and of each crate below what these lead to
+(`wrong_bodies/cited.py`): clauses of functions without their bodies, types with their models,
+definitions, and what lemmas state. If nothing says what judges it, it is the whole text of its
+crate, and what that leads to. Comments, and how lines are broken, count for nothing."""
 import contextlib
 import fcntl
 import functools
@@ -17,6 +16,7 @@ import re
 import subprocess
 
 from kit import ROOT
+from wrong_bodies.cited import Cited, Scope
 from wrong_bodies.edits import Edit, paths_of
 from wrong_bodies.sources import Sources, functions_of, is_inherent, read
 
@@ -52,8 +52,9 @@ def is_hidden(before, line):
 
 
 def without_hidden(text):
-    """Code without what crates above cannot name: functions that are not public, and imports."""
-    lines = text.split("\n")
+    """Code without what crates above cannot name: functions that are not public, and imports. Nor
+    can they tell a field of the crate from one of its module."""
+    lines = text.replace("pub(crate) ", "").split("\n")
     for it in functions_of("", text):
         first = it.first
         if is_hidden("\n".join(lines[:first]), lines[first]):
@@ -96,14 +97,6 @@ def stated(text, is_own):
     return "\n".join(kept)
 
 
-def own_text(crate):
-    """The whole text of a crate: its code, its definitions and its proofs."""
-    parts = [bare(read(it), "//") for it in files(crate.folder, "src", "rt")]
-    for part in ("specs", "proofs"):
-        parts += [bare(read(it), "--") for it in files(crate.folder, part, "antt")]
-    return parts
-
-
 def lemma_files(folder):
     """The files of lemmas: those of proofs/ in whose folder no function's answers stand."""
     answers = ("Answers.antt", "Invariants.antt", "Proof.antt")
@@ -117,64 +110,71 @@ def own_modules(folder):
     return re.findall(r"(?m)^mod (\w+)$", read(path)) if os.path.exists(path) else []
 
 
-def lemma_text(crate, is_own):
-    """What the lemmas of a crate state, for crates above without those of its own modules."""
-    hidden, parts = [] if is_own else own_modules(crate.folder), []
-    for file in lemma_files(crate.folder):
-        place, text = os.path.relpath(file, f"{crate.folder}/proofs"), read(file)
-        if place.split(os.sep)[0].removesuffix(".antt") in hidden:
-            continue
-        if place == "Lib.antt" and hidden:
-            text = re.sub(r"(?m)^mod \w+\n?", "", text)
-        parts.append(bare(stated(text, is_own), "--"))
-    return parts
-
-
-def shown_text(crate, is_own):
-    """What a crate's own proofs, or those of crates above, can cite of a crate."""
-    parts = []
+def shown_code(crate, is_own):
+    """What its own proofs, or those of crates above, can cite of the code of a crate, by file."""
     for file in files(crate.folder, "src", "rt"):
         text = read(file) if is_own else without_hidden(read(file))
-        text = "\n".join(it for it in text.split("\n") if not it.lstrip().startswith("//"))
-        parts.append(bare(without_idle(without_bodies(text)), "//"))
-    parts += [bare(read(it), "--") for it in files(crate.folder, "specs", "antt")]
-    return parts + lemma_text(crate, is_own)
+        yield file, without_idle(without_bodies(text))
 
 
-@functools.lru_cache(maxsize=None)
-def shown(crate, is_own=False):
-    """A hash of what a crate's own proofs, or those of crates above, can cite of a crate."""
-    return hash_of([crate.name, *shown_text(crate, is_own)])
+def shown_definitions(crate, is_own):
+    """The definitions of a crate, and what its lemmas state, for crates above but for those of its
+    own modules, by file."""
+    for file in files(crate.folder, "specs", "antt"):
+        yield file, read(file)
+    hidden = [] if is_own else own_modules(crate.folder)
+    for file in lemma_files(crate.folder):
+        place = os.path.relpath(file, f"{crate.folder}/proofs")
+        if place.split(os.sep)[0].removesuffix(".antt") not in hidden:
+            yield file, stated(read(file), is_own)
 
 
 def hash_of(parts):
     return hashlib.sha256("\0".join(parts).encode()).hexdigest()[:16]
 
 
-def judged_by(edit, sources):
-    """The functions that judge a wrong body, with those that share a proof with them: their texts
-    and answers."""
+def judges_of(edit, sources):
+    """The functions that judge a wrong body, with those that share a proof with them."""
     keys = {it.key() for it in edit.judges}
-    judges = [it for it in sources.functions if it.key() in keys]
-    return [bare(sources.text_of(it), "//") for it in judges] + [
-        bare(sources.proofs_of(it), "--") for it in judges
-    ]
+    return [it for it in sources.functions if it.key() in keys]
+
+
+def texts_of_judges(crate, edit, sources):
+    """The texts of the functions that judge a wrong body, and of their answers, each with what its
+    names stand for, and whether it has bodies. What the edit writes has the names of their files."""
+    said = read(edit.path)
+    for it in judges_of(edit, sources):
+        scope = Scope(crate.name, None, sources.texts[it.path])
+        yield f"{it.owner} {bare(sources.text_of(it), '//')}", scope, True
+        yield said, scope, True
+        answers = sources.proofs_of(it)
+        yield bare(answers, "--"), Scope(crate.name, "", answers), False
+
+
+def texts_of_crate(crate):
+    """The same of all of a crate."""
+    for file in files(crate.folder, "src", "rt"):
+        yield bare(read(file), "//"), Scope(crate.name, None, read(file)), True
+    for part in ("specs", "proofs"):
+        for file in files(crate.folder, part, "antt"):
+            yield bare(read(file), "--"), Scope(crate.name, "", read(file)), False
 
 
 def hashes(crate):
     """The hash of what the verdict on each wrong body of a crate depends on, by its name."""
-    sources, whole = Sources(crate.folder), None
-    below = [shown(it) for it in sorted(crate.below(), key=lambda it: it.name)]
-    below.append(shown(crate, True))
-    found = {}
+    sources, cited, found = Sources(crate.folder), Cited(crate), {}
+    whole = list(texts_of_crate(crate))
+    all_reached = None
     for path in paths_of(crate):
         edit = Edit(path, sources)
-        if edit.changes or edit.why or edit.is_alone():
-            whole = whole or own_text(crate)
-            parts = whole
+        if edit.why or edit.is_alone():
+            all_reached = all_reached or cited.reached(whole)
+            texts, reached = whole, all_reached
         else:
-            parts = judged_by(edit, sources)
-        found[edit.name] = hash_of([read(path), *parts, *below])
+            texts = list(texts_of_judges(crate, edit, sources))
+            reached = cited.reached(texts)
+        parts = [read(path), crate.name, *(text for text, _, _ in texts), *reached]
+        found[edit.name] = hash_of(parts)
     return found
 
 
@@ -228,7 +228,6 @@ def note(crate, name, made):
 def tidy(crate):
     """Takes those lines of a crate out of the record that are of another text than stands here,
     where it may just have changed."""
-    shown.cache_clear()
     now = hashes(crate)
     with locked():
         kept = {
