@@ -1,11 +1,12 @@
 -- The plan of items beside the tree that stands at a root: of a tree alone, of items that are
 -- opened, and of a node, one item after another.
-use Rattle.std.proofs.Common.{◌≡◌, ℕ, ◌+◌, ◌<◌, ◌≤◌, true, List, [], ◌∷◌, ◌++◌, Some, None, length, get_or, drop, refl, sym, ◌∙◌, ap, subst, arith}
+use Rattle.std.proofs.Common.{◌≡◌, ℕ, ◌+◌, ◌<◌, ◌≤◌, max, true, false, List, [], ◌∷◌, ◌++◌, Some, None, length, map, get_or, drop, refl, sym, ◌∙◌, ap, subst, arith}
 use Rattle.std.specs.Prelude.{slice_range}
 use Rattle.std.specs.List.{AllByRecursion, list_any, flat_map}
 use Rattle.std.proofs.lemmas.Option.{same_Some}
 use Rattle.std.proofs.lemmas.List.{append-nil}
 use Rattle.mst_key.specs.declared.format.Format.{Format}
+use Rattle.mst_key.specs.Layer.{layer_in}
 use Rattle.mst_key.specs.Map.{Pair, IsAscending}
 use Rattle.mst_key.proofs.SpanLaws.{contains-all}
 use Rattle.mst_node.specs.Tree as tree
@@ -17,13 +18,17 @@ use Rattle.mst_arena.specs.declared.row.Root.{Root}
 use Rattle.mst_arena.specs.Standing.{Placed, head, tree_of, Stands}
 use Rattle.mst_path.proofs.lemmas.versions.Changes.{mst_of, rises}
 use Rattle.mst_batch.specs.Beside.{node_at, plan_beside, entries_beside}
-use Rattle.mst_batch.specs.Items.{items_pairs, IsItem, AreItems, height_of, IsUpTo}
+use Rattle.mst_batch.specs.Items.{item_pairs, items_pairs, IsItem, IsTold, AreItems, height_of, IsUpTo}
+use Rattle.mst_batch.specs.Known.{Known, AreKnown, all_known, known_of_entry, own_known}
 use Rattle.mst_batch.specs.Plans.{PlanTree, kept, made, last, PlannedEntry, with_planned}
-use Rattle.mst_batch.specs.Tops.{IsStanding, is_tree, pair_at, lone, opened}
+use Rattle.mst_batch.specs.Tops.{IsStanding, is_tree, is_pair, lone, opened}
 use Rattle.mst_batch.specs.declared.items.Item.{Item}
 use Rattle.mst_batch.specs.declared.items.Item.TheVariants as item
+use Rattle.mst_batch.specs.declared.plan.Origin.{Origin}
+use Rattle.mst_batch.specs.declared.plan.PlanEntry.{PlanEntry}
+use Rattle.mst_batch.proofs.KnownShapes.{known_both, known_more}
 use Rattle.mst_batch.proofs.Homes.{kept_plan}
-use Rattle.mst_batch.proofs.NodePlans.{pair_is, no_pair, part_items, gap_low, node_entries, tree_is, is_mst, planned, ends_gap, joins_gap, last_gap}
+use Rattle.mst_batch.proofs.NodePlans.{no_pair, part_items, gap_low, node_entries, tree_is, is_mst, planned, ends_gap, joins_gap, last_gap}
 use Rattle.mst_batch.proofs.Tops.{HasPair, node_mst, node_is, Opens, opens, opens_some}
 
 module _ (content : Content) (root : Root) where
@@ -45,6 +50,12 @@ module _ (content : Content) (root : Root) where
       → AreItems format stands.tree.placed xs
       → plan ≡ plan_beside format stands.tree.placed
       (tree format (items_pairs format stands.tree.placed xs))
+
+  -- what a plan names is known, where the items stand beside the tree
+  abbrev pub KnownBeside : List Item → List Known → Type 0
+  KnownBeside xs known = (format : Format) (m : List Pair)
+      (stands : Stands format content root m) → AreItems format stands.tree.placed xs
+      → AreKnown format stands.tree.placed known
 
   -- a plan of a node to be made, with the plans of the trees below it
   abbrev pub IsToShare : PlanTree → Type 0
@@ -80,7 +91,8 @@ module _ (content : Content) (root : Root) where
   stands_alone [] link is format m stands are =
       ap kept (sym (same_Some 0 link is))
       ∙ ap (plan_beside format stands.tree.placed) (sym (tree-no_pairs format [] refl))
-  stands_alone (item.Pair key value layer ∷ xs) link is format m stands are = absurd cc
+  stands_alone (item.Put key value layer origin ∷ xs) link is format m stands are = absurd cc
+  stands_alone (item.Kept row layer ∷ xs) link is format m stands are = absurd cc
   stands_alone (item.Subtree at layer ∷ []) link is format m stands are =
       ap kept (sym (same_Some at link is)) ∙ lone_plan at layer format m stands are
   stands_alone (item.Subtree at layer ∷ y ∷ xs) link is format m stands are = absurd cc
@@ -123,7 +135,36 @@ module _ (content : Content) (root : Root) where
         ∙ ap (λ (ps : List Pair). plan_beside format stands.tree.placed (tree format ps))
         (opens_to format m stands are).pairs
 
+    pub opened_known : (known : List Known) → KnownBeside ys known → KnownBeside xs known
+    opened_known known is_known format m stands are =
+        is_known format m stands (opened_items format m stands are)
+
   -- ---- a node to be made, one item after another
+
+  pub part_known : (xs : List Item) (a b : ℕ) (known : List Known)
+      → KnownBeside (slice_range xs a b) known → KnownBeside xs known
+  part_known xs a b known is_known format m stands are =
+      is_known format m stands (part_items format stands.tree.placed xs a b are)
+
+  pub entry_known : {A : Type 0} (xs : List Item) (i : ℕ) (x : Item) → i < length xs
+      → x ≡ get_or xs i x → (es : List (PlanEntry A)) (e : PlanEntry A) (child : List Known)
+      (o : Origin) (pair : Pair) → known_of_entry e ≡ child ++ own_known o pair
+      → KnownBeside xs (all_known (map known_of_entry es)) → KnownBeside xs child
+      → ((format : Format) (whole : Placed) → IsStanding format content whole
+      → IsItem format whole x → IsTold format whole pair o)
+      → KnownBeside xs (all_known (map known_of_entry (es ++ e ∷ [])))
+  entry_known xs i x within at es e child o pair is before below told format m stands are =
+      known_more format stands.tree.placed es e child o pair is (before format m stands are)
+      (below format m stands are)
+      (told format stands.tree.placed (standing format m stands)
+      (contains-all (IsItem format stands.tree.placed) xs x are.each (i, within, sym at)))
+
+  pub node_known : (xs : List Item) (node before tail : List Known) → node ≡ before ++ tail
+      → KnownBeside xs before → KnownBeside xs tail → KnownBeside xs node
+  node_known xs node before tail is a b format m stands are =
+      subst (AreKnown format stands.tree.placed) (sym is)
+      (known_both format stands.tree.placed before tail (a format m stands are)
+      (b format m stands are))
 
   pub part_beside : (xs : List Item) (a b : ℕ) → AreBeside xs → AreBeside (slice_range xs a b)
   part_beside xs a b z = (z.0, z.1, z.2, part_items z.0 z.2.tree.placed xs a b z.3)
@@ -140,21 +181,24 @@ module _ (content : Content) (root : Root) where
   module _ (l : ℕ) (xs : List Item) (upto : AllByRecursion (IsUpTo l) xs) (start i : ℕ)
       (ps : List PlannedEntry) (so_far : SoFar l xs start i ps) where
     pub ends : (x : Item) → i < length xs → x ≡ get_or xs i x → (kv : Pair)
-        → pair_at l x ≡ Some kv → (child : PlanTree) → Plans (slice_range xs start i) child
+        → ((format : Format) (whole : Placed) → IsStanding format content whole
+        → IsItem format whole x
+        → (item_pairs format whole x ≡ kv ∷ []) × (layer_in format kv.0 ≡ l))
+        → (child : PlanTree) → Plans (slice_range xs start i) child
         → (y : PlannedEntry) → y ≡ record { child = child; key = kv.0; value = kv.1 }
         → SoFar l xs (i + 1) (i + 1) (ps ++ y ∷ [])
     ends x within at kv is child plans y y_is format m stands are =
         let whole = stands.tree.placed in
+        let pair = is format whole (standing format m stands)
+        (contains-all (IsItem format whole) xs x are.each (i, within, sym at)) in
         let here : PlanTree → PlannedEntry =
         λ p. record { child = p; key = kv.0; value = kv.1 } in
         ends_gap format content whole (standing format m stands) l xs start i ps _
-        (so_far format m stands are) x within at
-        (contains-all (IsItem format whole) xs x are.each (i, within, sym at)) kv
-        (pair_is l x kv is) y
+        (so_far format m stands are) x within at kv pair.0 pair.1 y
         (y_is ∙ ap here (plans format m stands (part_items format whole xs start i are)))
 
     pub joins : start ≤ i → (x : Item) → i < length xs → x ≡ get_or xs i x
-        → pair_at l x ≡ None → SoFar l xs start (i + 1) ps
+        → is_pair l x ≡ false → SoFar l xs start (i + 1) ps
     joins order x within at is format m stands are =
         let whole = stands.tree.placed in
         joins_gap format content whole (standing format m stands) l xs start i ps _
@@ -163,7 +207,7 @@ module _ (content : Content) (root : Root) where
         (no_pair l x is (contains-all (IsUpTo l) xs x upto (i, within, sym at)))
 
     pub stays_low : start ≤ i → (x : Item) → i < length xs → x ≡ get_or xs i x
-        → pair_at l x ≡ None → height_of (slice_range xs start i) ≤ l
+        → is_pair l x ≡ false → height_of (slice_range xs start i) ≤ l
         → height_of (slice_range xs start (i + 1)) ≤ l
     stays_low order x within at is low =
         gap_low l xs start i x order within at
@@ -208,6 +252,7 @@ module _ (content : Content) (root : Root) where
           (sym (tree_is format content whole s l xs are.each upto some))
 
 -- items of which no tree stands alone are some
-pub some_items : (xs : List Item) → lone xs ≡ None → 0 < length xs
-some_items [] is = absurd cc
-some_items (x ∷ xs) is = omega arith
+pub some_height : (xs : List Item) → lone xs ≡ None → (l : ℕ) → max 1 (height_of xs) ≡ l + 1
+    → height_of xs ≡ l + 1
+some_height [] is l top = absurd cc
+some_height (x ∷ xs) is l top = omega (arith, top)

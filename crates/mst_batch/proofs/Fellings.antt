@@ -1,8 +1,14 @@
 -- Which rows fall of a tree that is given up beside its kept nodes: fewer than all, and none of a
 -- kept node.
-use Rattle.std.proofs.Common.{◌≡◌, ℕ, zero, suc, ◌+◌, ◌≤◌, Bool, true, false, List, [], ◌∷◌, ◌++◌, refl, sym, ◌∙◌, ap, arith}
-use Rattle.std.specs.Prelude.{if◌then◌else◌}
-use Rattle.mst_arena.specs.Content.{Content}
+use Rattle.std.proofs.Common.{◌≡◌, ℕ, zero, suc, ◌+◌, ◌≤◌, Bool, true, false, Some, None, List, [], ◌∷◌, ◌++◌, refl, sym, ◌∙◌, ap, arith}
+use Rattle.std.specs.Prelude.{if◌then◌else◌, option_and_then}
+use Rattle.std.specs.declared.option.Option.{Option}
+use Rattle.mst_arena.specs.Content.{Content, part_at}
+use Rattle.mst_arena.specs.Row.{keyed_links, bare_links}
+use Rattle.mst_arena.specs.declared.row.Row.{Row}
+use Rattle.mst_arena.specs.declared.row.Row.TheVariants.{Entry, Head}
+use Rattle.mst_arena.specs.declared.row.BareLinks.{BareLinks}
+use Rattle.mst_arena.specs.declared.row.KeyedLinks.{KeyedLinks}
 use Rattle.mst_arena.specs.Lives.{State}
 use Rattle.mst_arena.specs.Lists.{times}
 use Rattle.mst_arena.specs.Standing.{Placed, none, head, Chain, end, cell, link_of, used, chain_used}
@@ -66,3 +72,21 @@ nothing_falls marks content s link t is = go t.placed t.at
     go (head i l chain) at =
         let marked : is_marked marks i ≡ true = sym (marked_at marks link i at) ∙ is in
         ap (λ (b : Bool). if b then [] else i ∷ chain_fallen marks chain) marked
+
+-- ---- an entry of which the links alone were read
+
+abbrev pub with_key : BareLinks → List ℕ → KeyedLinks
+with_key links key = record { child = links.child; next = links.next; key = key }
+
+pub keyed_at : (content : Content) (row : ℕ) (links : BareLinks)
+    → part_at bare_links content row ≡ Some links
+    → (key : List ℕ) × (part_at keyed_links content row ≡ Some (with_key links key))
+keyed_at content row links = go (content row)
+  where
+    go : (o : Option Row) → option_and_then bare_links o ≡ Some links
+        → (key : List ℕ) × (option_and_then keyed_links o ≡ Some (with_key links key))
+    go None read = absurd cc
+    go (Some (Head layer count first tail digest)) read = absurd cc
+    go (Some (Entry child next key value)) read =
+        let same : record { child = child; next = next } ≡ links = cc in
+        (key, ap (λ (l : BareLinks). Some (with_key l key)) same)

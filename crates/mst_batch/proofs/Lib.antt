@@ -23,7 +23,9 @@ pub mod Openings
 pub mod OpeningSteps
 pub mod Ranges
 pub mod Puts
+pub mod PairsFound
 pub mod Tops
+pub mod TopSteps
 pub mod NodeItems
 pub mod NodePlans
 pub mod Builds
@@ -31,4 +33,6 @@ pub mod Marks
 pub mod OneMark
 pub mod LastLinks
 pub mod Finding
+pub mod KnownShapes
+pub mod KnownSowing
 pub mod Loads

@@ -1,5 +1,5 @@
 -- Whether a node is made: the node that stands at the link of its first key decides.
-use Rattle.std.proofs.Common.{◌≡◌, ℕ, ◌+◌, ◌<◌, Bool, true, false, ◌⊎◌, inl, inr, List, [], ◌∷◌, length, map, get_or, refl, sym, ◌∙◌, ap, subst, arith, true≢false}
+use Rattle.std.proofs.Common.{◌≡◌, ℕ, zero, suc, ◌+◌, ◌<◌, Bool, true, false, ◌⊎◌, inl, inr, List, [], ◌∷◌, length, map, get_or, refl, sym, ◌∙◌, ap, subst, arith, true≢false}
 use Rattle.std.specs.Prelude.{◌↔◌, Contains}
 use Rattle.std.specs.declared.cmp.Ordering.{Ordering}
 use Rattle.std.specs.declared.cmp.Ordering.TheVariants.{Less, Equal, Greater}
@@ -19,7 +19,7 @@ use Rattle.mst_change.specs.Batch.{HasEntry}
 use Rattle.mst_arena.specs.Ages.{placed_nodes, chain_nodes}
 use Rattle.mst_read.specs.Search.{Lies, TreeLies}
 use Rattle.mst_batch.specs.Beside.{plan_beside, entries_beside, link_of_key, chain_link, kept_entries, kept_node, Matches}
-use Rattle.mst_batch.specs.Plans.{PlanTree, PlannedEntry, with_planned, kept, made, last, plan_of_node, planned_entry}
+use Rattle.mst_batch.specs.Plans.{PlanTree, PlannedEntry, with_planned, kept, made, last, plan_of, plan_of_node, planned_entry}
 use Rattle.mst_batch.specs.declared.plan.PlanEntry.{PlanEntry, out-PlanEntry}
 use Rattle.mst_batch.specs.declared.plan.PlanNode.{PlanNode, out-PlanNode}
 use Rattle.mst_batch.proofs.Besides.{node_rows}
@@ -77,6 +77,67 @@ module _ (format : Format) (whole : Placed) where
             → planned_entry e ≡ get_or (map planned_entry xs) 0 (planned_entry e)
         at_front [] some here = absurd (omega arith)
         at_front (x ∷ xs) some here = ap (λ (y : PlanEntry A). planned_entry y) here
+
+-- ---- a gap with a tree to be made
+
+-- of a node that stands, each tree below is kept
+module _ (e : PlannedEntry) (other : (link : ℕ) → e.child ≡ kept link → ⊥) where
+  no_gap : (xs : List PlannedEntry) (t : PlanTree) (c : Chain) (i : ℕ) → i < length xs
+      → e ≡ get_or xs i e → with_planned xs (last t) ≡ kept_entries c → ⊥
+  no_gap [] t c i h is same = omega (arith, h)
+  no_gap (x ∷ xs) t (end child) i h is same = cc
+  no_gap (x ∷ xs) t (cell at child key value rest) zero h is same =
+      let first : x.child ≡ kept (link_of child) = cc in
+      other (link_of child) (ap (λ (y : PlannedEntry). y.child) is ∙ first)
+  no_gap (x ∷ xs) t (cell at child key value rest) (suc i) h is same =
+      let others : with_planned xs (last t) ≡ kept_entries rest = cc in
+      no_gap xs t rest i (omega (arith, h)) is others
+
+no_tail : (xs : List PlannedEntry) (t : PlanTree) (c : Chain)
+    → ((link : ℕ) → t ≡ kept link → ⊥) → with_planned xs (last t) ≡ kept_entries c → ⊥
+no_tail [] t (end child) other same =
+    let last_is : t ≡ kept (link_of child) = cc in other (link_of child) last_is
+no_tail [] t (cell at child key value rest) other same = cc
+no_tail (x ∷ xs) t (end child) other same = cc
+no_tail (x ∷ xs) t (cell at child key value rest) other same =
+    let others : with_planned xs (last t) ≡ kept_entries rest = cc in no_tail xs t rest other others
+
+module _ {A : Type 0} (n : PlanNode A) where
+  entries_of_kept : (p : Placed) → plan_of_node n ≡ kept_node p
+      → (c : Chain) × (with_planned (map planned_entry (items A n)) (last (tail A n))
+      ≡ kept_entries c)
+  entries_of_kept none same =
+      let both : made (out-PlanNode A n).layer
+      (with_planned (map planned_entry (items A n)) (last (tail A n))) ≡ kept 0 =
+      sym (plan_out A n) ∙ same in absurd cc
+  entries_of_kept (head row l c) same =
+      let both : made (out-PlanNode A n).layer
+      (with_planned (map planned_entry (items A n)) (last (tail A n))) ≡ made l (kept_entries c) =
+      sym (plan_out A n) ∙ same in
+      (c, cc)
+
+  pub new_gap : (i : ℕ) (e : PlanEntry A) → i < length (items A n) → e ≡ get_or (items A n) i e
+      → ((link : ℕ) → plan_of (out-PlanEntry A e).child ≡ kept link → ⊥)
+      → (p : Placed) → plan_of_node n ≡ kept_node p → ⊥
+  new_gap i e h is other p same =
+      let k = entries_of_kept p same in
+      no_gap (planned_entry e)
+      (λ link own. other link (sym (ap (λ (x : PlannedEntry). x.child) (planned_entry_out A e))
+      ∙ own)) (map planned_entry (items A n)) (tail A n) k.0 i
+      (omega (arith, h, length-map {B = PlannedEntry} (items A n) planned_entry))
+      (mapped (items A n) i h is) k.1
+    where
+      mapped : (xs : List (PlanEntry A)) (j : ℕ) → j < length xs → e ≡ get_or xs j e
+          → planned_entry e ≡ get_or (map planned_entry xs) j (planned_entry e)
+      mapped [] j within here = absurd (omega (arith, within))
+      mapped (x ∷ xs) zero within here = ap (λ (y : PlanEntry A). planned_entry y) here
+      mapped (x ∷ xs) (suc j) within here = mapped xs j (omega (arith, within)) here
+
+  pub new_tail : ((link : ℕ) → tail A n ≡ kept link → ⊥)
+      → (p : Placed) → plan_of_node n ≡ kept_node p → ⊥
+  new_tail other p same =
+      let k = entries_of_kept p same in
+      no_tail (map planned_entry (items A n)) (tail A n) k.0 other k.1
 
 -- ---- at the link of a key is a node, or nothing
 
@@ -194,3 +255,15 @@ module _ {format : Format} {content : Content} {root : Root} {m : List Pair}
         ∙ sym (other_made format content st.tree.placed st.tree.rows
         (rises format content root m st) l es q (key_of_entry es q own) mst
         (λ match. true≢false (sym ((tells format at_key.0 here).1 (matched match)) ∙ other)))
+
+-- a node that is none that stands is made
+module _ {format : Format} {content : Content} {root : Root} {m : List Pair}
+    (st : Stands format content root m) {A : Type 0} (n : PlanNode A) (l : ℕ) where
+  pub nowhere : (es : Entries) → IsMst format (tree.node format l es)
+      → plan_of_node n ≡ made l (entries_beside format st.tree.placed es)
+      → ((p : Placed) → plan_of_node n ≡ kept_node p → ⊥)
+      → plan_of_node n ≡ plan_beside format st.tree.placed (tree.node format l es)
+  nowhere (tree.last child) mst is other = absurd (omega (arith, mst.1))
+  nowhere (tree.entry child key value rest) mst is other =
+      is_made st key n l (tree.entry child key value rest) {b = false} refl (inl refl) mst is
+      (λ f p lies. (λ no. absurd (true≢false (sym no)), λ same. absurd (other p same))) refl

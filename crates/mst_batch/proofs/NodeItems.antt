@@ -4,7 +4,7 @@ use Rattle.std.specs.Prelude.{option_and_then, if◌then◌else◌, ◌==◌, tr
 use Rattle.std.proofs.lemmas.Bool.Decides.{nat_tests}
 use Rattle.mst_key.specs.declared.format.Format.{Format}
 use Rattle.mst_arena.specs.Content.{Content, part_at}
-use Rattle.mst_arena.specs.Row.{head_links, entry_value}
+use Rattle.mst_arena.specs.Row.{head_links}
 use Rattle.mst_arena.specs.declared.row.HeadLinks.{HeadLinks}
 use Rattle.mst_arena.specs.declared.row.KeyedLinks.{KeyedLinks}
 use Rattle.mst_arena.specs.Standing.{Placed, none, head, Chain, link_of, head_row, rows_of, HasRows}
@@ -52,19 +52,15 @@ begins format content link p lies some h read items =
 pub goes_on : {format : Format} {content : Content} {tail row done all : ℕ} {e : KeyedLinks}
     (l : ℕ) (items whole : List Item)
     (a : AtCell format content tail row done all e (Makes l items whole))
-    (between after : List Item) (value : List ℕ) → between ≡ items ++ tree_items a.child
-    → after ≡ between ++ item.Pair e.key value l ∷ []
-    → part_at entry_value content row ≡ Some value
+    (between after : List Item) → between ≡ items ++ tree_items a.child
+    → after ≡ between ++ item.Kept row l ∷ []
     → Onward format content tail e.next (done + 1) all (Makes l after whole)
-goes_on {e = e} l items whole a between after value first then_is read =
-    let own : Some a.value ≡ Some value = sym (ap (option_and_then entry_value) a.here) ∙ read in
-    let same : value ≡ a.value = cc in
-    let pair = item.Pair e.key a.value l in
+goes_on {row = row} {e = e} l items whole a between after first then_is =
+    let pair = item.Kept row l in
     let more = chain_items l a.rest in
-    let is : after ≡ items ++ (tree_items a.child ++ item.Pair e.key a.value l ∷ []) =
+    let is : after ≡ items ++ (tree_items a.child ++ item.Kept row l ∷ []) =
     then_is
-    ∙ ap (λ (v : List ℕ). between ++ item.Pair e.key v l ∷ []) same
-    ∙ ap (λ (xs : List Item). xs ++ item.Pair e.key a.value l ∷ []) first
+    ∙ ap (λ (xs : List Item). xs ++ item.Kept row l ∷ []) first
     ∙ append_assoc items (tree_items a.child) (pair ∷ []) in
     further a (Makes l after whole)
     (ap (λ (xs : List Item). xs ++ chain_items l a.rest) is

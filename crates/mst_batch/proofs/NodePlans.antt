@@ -1,12 +1,11 @@
 -- Items of which some pair is of a layer and none is above it: their tree is a node of that layer,
 -- with the trees of the gaps between its pairs below it.
-use Rattle.std.proofs.Common.{◌≡◌, ◌≢◌, ℕ, suc, ◌+◌, ◌-◌, ◌<◌, ◌≤◌, ◌==◌, Bool, true, false, inl, inr, List, [], ◌∷◌, ◌++◌, Option, Some, None, length, get_or, take, drop, refl, sym, ◌∙◌, ap, subst, arith, add-one, length-drop}
-use Rattle.std.specs.Prelude.{Contains, if◌then◌else◌, slice_range}
+use Rattle.std.proofs.Common.{◌≡◌, ◌≢◌, ℕ, suc, ◌+◌, ◌-◌, ◌<◌, ◌≤◌, false, inl, inr, List, [], ◌∷◌, ◌++◌, length, get_or, take, drop, refl, sym, ◌∙◌, ap, subst, arith, add-one, length-drop}
+use Rattle.std.specs.Prelude.{Contains, slice_range}
 use Rattle.std.specs.List.{AllByRecursion}
 use Rattle.std.proofs.Math.Seq.{drop-cons}
 use Rattle.std.proofs.lemmas.Bool.Decides.{nat_tests}
 use Rattle.std.proofs.lemmas.Grind.{common_steps}
-use Rattle.std.proofs.lemmas.Option.{same_Some}
 use Rattle.std.proofs.lemmas.List.{append-nil, take_more, get_or-drop, take-append-drop}
 use Rattle.mst_key.specs.declared.format.Format.{Format}
 use Rattle.mst_key.specs.Layer.{layer_in}
@@ -23,7 +22,7 @@ use Rattle.mst_arena.specs.Standing.{Placed, head, tree_of}
 use Rattle.mst_batch.specs.Beside.{plan_beside, entries_beside}
 use Rattle.mst_batch.specs.Items.{item_pairs, items_pairs, IsItem, AreItems, layer_of, height_of, IsUpTo, IsPairOf}
 use Rattle.mst_batch.specs.Plans.{PlanTree, PlanEntries, last, entry, PlannedEntry, with_planned}
-use Rattle.mst_batch.specs.Tops.{IsStanding, pair_at}
+use Rattle.mst_batch.specs.Tops.{IsStanding, is_pair}
 use Rattle.mst_batch.specs.declared.items.Item.{Item}
 use Rattle.mst_batch.specs.declared.items.Item.TheVariants as item
 use Rattle.mst_batch.proofs.Tops.{items_pairs-append, height-append, HasPair, node_mst, node_is}
@@ -67,28 +66,11 @@ entries_end format l gap = refl
 
 -- ---- an item and a layer
 
-abbrev pair_if : Bool → Pair → Option Pair
-pair_if b p = if b then Some p else None
-
-pub pair_is : (l : ℕ) (x : Item) (kv : Pair) → pair_at l x ≡ Some kv
-    → x ≡ item.Pair kv.0 kv.1 l
-pair_is l (item.Pair key value n) kv is = go (n == l) refl is
-  where
-    go : (b : Bool) → (n == l) ≡ b → pair_if b (key, value) ≡ Some kv
-        → item.Pair key value n ≡ item.Pair kv.0 kv.1 l
-    go true e is =
-        let same : n ≡ l = grind (arith, nat_tests, e) in
-        let parts = same_Some (key, value) kv is in
-        λ i. item.Pair (parts i).0 (parts i).1 (same i)
-    go false e is = absurd cc
-pair_is l (item.Subtree link n) kv is = absurd cc
-
-pub no_pair : (l : ℕ) (x : Item) → pair_at l x ≡ None → IsUpTo l x → layer_of x < l
-no_pair l (item.Pair key value n) is low = go (n == l) refl is
-  where
-    go : (b : Bool) → (n == l) ≡ b → pair_if b (key, value) ≡ None → n < l
-    go true e is = absurd cc
-    go false e is = let other : n ≢ l = grind (arith, nat_tests, e) in omega (arith, low, other)
+pub no_pair : (l : ℕ) (x : Item) → is_pair l x ≡ false → IsUpTo l x → layer_of x < l
+no_pair l (item.Put key value n o) is low =
+    let other : n ≢ l = grind (arith, nat_tests, is) in omega (arith, low, other)
+no_pair l (item.Kept row n) is low =
+    let other : n ≢ l = grind (arith, nat_tests, is) in omega (arith, low, other)
 no_pair l (item.Subtree link n) is low = low
 
 -- ---- parts of items beside a tree
@@ -143,7 +125,10 @@ module _ (format : Format) (content : Content) (whole : Placed)
   -- the keys of an item have lower layers than one above it
   pub keys_low : (k : ℕ) (x : Item) → IsItem format whole x → layer_of x < k
       → AllByRecursion (λ p. layer_in format p.0 < k) (item_pairs format whole x)
-  keys_low k (item.Pair key value n) is low = (omega (arith, is, low), tt)
+  keys_low k (item.Put key value n o) is low = (omega (arith, is.0, low), tt)
+  keys_low k (item.Kept row n) is low =
+      subst (AllByRecursion (λ p. layer_in format p.0 < k)) (sym is.2)
+      (omega (arith, is.3, low), tt)
   keys_low k (item.Subtree link n) is low =
       subst (λ (p : Placed). AllByRecursion (λ q. layer_in format q.0 < k)
       (pairs (tree_of format p))) (sym (node_is format content whole s link n is))
@@ -152,7 +137,10 @@ module _ (format : Format) (content : Content) (whole : Placed)
 
   item_upto : (x : Item) → IsItem format whole x → IsUpTo l x
       → AllByRecursion (λ p. layer_in format p.0 ≤ l) (item_pairs format whole x)
-  item_upto (item.Pair key value n) is low = (omega (arith, is, low), tt)
+  item_upto (item.Put key value n o) is low = (omega (arith, is.0, low), tt)
+  item_upto (item.Kept row n) is low =
+      subst (AllByRecursion (λ p. layer_in format p.0 ≤ l)) (sym is.2)
+      (omega (arith, is.3, low), tt)
   item_upto (item.Subtree link n) is low =
       alls-weaker (λ p. layer_in format p.0 < l) (λ p. layer_in format p.0 ≤ l)
       (λ p (h : layer_in format p.0 < l). omega (arith, h))
@@ -168,7 +156,10 @@ module _ (format : Format) (content : Content) (whole : Placed)
 
   pair_has : (x : Item) (ps : List Pair) → IsItem format whole x → IsPairOf l x
       → Has (layer_in format) l (item_pairs format whole x ++ ps)
-  pair_has (item.Pair key value n) ps is of = inl (is ∙ of)
+  pair_has (item.Put key value n o) ps is of = inl (is.0 ∙ of)
+  pair_has (item.Kept row n) ps is of =
+      subst (λ (qs : List Pair). Has (layer_in format) l (qs ++ ps)) (sym is.2)
+      (inl (is.3 ∙ of))
   pair_has (item.Subtree link n) ps is of = absurd of
 
   pairs_have : (xs : List Item) (x : Item) → Contains xs x → IsPairOf l x
@@ -219,20 +210,21 @@ module _ (format : Format) (content : Content) (whole : Placed)
   module _ (xs : List Item) (start i : ℕ) (ps : List PlannedEntry) (all : PlanEntries)
       (before : with_planned ps (planned (slice_range xs start i) (drop i xs)) ≡ all) where
     -- a pair of the layer ends the gap
-    pub ends_gap : (x : Item) → i < length xs → x ≡ get_or xs i x → IsItem format whole x
-        → (kv : Pair) → x ≡ item.Pair kv.0 kv.1 l → (y : PlannedEntry)
+    pub ends_gap : (x : Item) → i < length xs → x ≡ get_or xs i x → (kv : Pair)
+        → item_pairs format whole x ≡ kv ∷ [] → layer_in format kv.0 ≡ l → (y : PlannedEntry)
         → y ≡ record { child = gap_plan (slice_range xs start i); key = kv.0; value = kv.1 }
         → with_planned (ps ++ y ∷ []) (planned (slice_range xs (i + 1) (i + 1)) (drop (i + 1) xs))
         ≡ all
-    ends_gap x within at each kv x_is y y_is =
+    ends_gap x within at kv own here y y_is =
         let gap = slice_range xs start i in
         let rest = drop (i + 1) xs in
-        let here : IsItem format whole (item.Pair kv.0 kv.1 l) =
-        subst (IsItem format whole) x_is each in
         let cut : planned (slice_range xs start i) (drop i xs)
         ≡ entry (gap_plan (slice_range xs start i)) kv.0 kv.1 (planned [] (drop (i + 1) xs)) =
-        ap (planned gap) (from_here xs i x within at
-        ∙ ap (λ (z : Item). z ∷ drop (i + 1) xs) x_is)
+        ap (planned gap) (from_here xs i x within at)
+        ∙ ap (λ (ps : List Pair). entries_beside format whole
+        (entries_of (layer_in format) (tree format) l
+        (items_pairs format whole (slice_range xs start i))
+        (ps ++ items_pairs format whole (drop (i + 1) xs)))) own
         ∙ ap (entries_beside format whole) (entries_at_layer (layer_in format) (tree format) l
         (items_pairs format whole gap) (kv.0, kv.1) (items_pairs format whole rest) here) in
         ap (λ (g : List Item). with_planned (ps ++ y ∷ []) (planned g (drop (i + 1) xs)))

@@ -1,10 +1,9 @@
 -- One mark more, in a list that is grown to reach it.
-use Rattle.std.proofs.Common.{◌≡◌, ℕ, ◌+◌, ◌<◌, ◌≤◌, ◌⊎◌, inl, inr, Bool, true, false, eqb, Option, Some, None, List, [], ◌∷◌, length, get_or, set, refl, sym, ◌∙◌, ap, arith}
+use Rattle.std.proofs.Common.{◌≡◌, ℕ, zero, suc, ◌+◌, ◌-◌, ◌<◌, ◌≤◌, ◌++◌, replicate, ◌⊎◌, inl, inr, Bool, true, false, eqb, Option, Some, None, List, [], ◌∷◌, length, get_or, set, refl, sym, ◌∙◌, ap, arith}
 use Rattle.std.specs.Prelude.{◌↔◌, slice_get, unwrap_or}
 use Rattle.std.specs.Option.{option_map_or}
-use Rattle.std.proofs.Math.ListN.{get_or-eq_default}
-use Rattle.std.proofs.lemmas.Bool.{cases_eq, cases_lt, eq-eqb, eqb-true}
-use Rattle.std.proofs.lemmas.List.{get_or-set_same, get_or-set_other}
+use Rattle.std.proofs.lemmas.Bool.{cases_eq, eq-eqb, eqb-true}
+use Rattle.std.proofs.lemmas.List.{length-append, length-replicate, get_or-set_same, get_or-set_other}
 use Rattle.std.proofs.lemmas.Option.{unwrap_or-slice_get}
 use Rattle.mst_arena.specs.Lists.{In, bit}
 use Rattle.mst_batch.specs.Kept.{AddsMarks, is_marked}
@@ -17,19 +16,33 @@ marked_at xs r = same (slice_get xs r) ∙ unwrap_or-slice_get xs r false
     same None = refl
     same (Some b) = refl
 
+unmarked : (n r : ℕ) → get_or (replicate n false) r false ≡ false
+unmarked zero r = refl
+unmarked (suc n) zero = refl
+unmarked (suc n) (suc r) = unmarked n r
+
+more_same : (old : List Bool) (n r : ℕ)
+    → get_or (old ++ replicate n false) r false ≡ get_or old r false
+more_same [] n r = unmarked n r
+more_same (b ∷ old) n zero = refl
+more_same (b ∷ old) n (suc r) = more_same old n r
+
 -- the grown list has the marks of the old one, and no other
-pub grown_same : (old grown : List Bool) (n : ℕ) → length grown ≡ n → length old ≤ n
-    → ((k : ℕ) → k < n → k < length old → get_or grown k false ≡ get_or old k false)
-    → ((k : ℕ) → length old ≤ k → k < n → get_or grown k false ≡ false) → (r : ℕ)
+pub grown_same : (old grown : List Bool) (n : ℕ) → grown ≡ old ++ replicate n false → (r : ℕ)
     → get_or grown r false ≡ get_or old r false
-grown_same old grown n len more front back r = go (cases_lt r (length old)) (cases_lt r n)
-  where
-    go : (r < length old) ⊎ (length old ≤ r) → (r < n) ⊎ (n ≤ r)
-        → get_or grown r false ≡ get_or old r false
-    go (inl lt) within = front r (omega arith) lt
-    go (inr ge) (inl lt) = back r ge lt ∙ sym (get_or-eq_default old false ge)
-    go (inr ge) (inr past) =
-        get_or-eq_default grown false (omega arith) ∙ sym (get_or-eq_default old false ge)
+grown_same old grown n is r =
+    ap (λ (xs : List Bool). get_or xs r false) is ∙ more_same old n r
+
+-- it reaches as far as it is to
+pub reaches : (old grown : List Bool) (n : ℕ)
+    → grown ≡ old ++ replicate (n - length old) false → n ≤ length grown
+reaches old grown n is =
+    omega (
+      arith,
+      ap length is,
+      length-append old (replicate (n - length old) false),
+      length-replicate (n - length old) false,
+    )
 
 in_one : (r x : ℕ) → r ≡ x → In r (x ∷ [])
 in_one r x is = omega (arith, ap bit (eq-eqb r x is))

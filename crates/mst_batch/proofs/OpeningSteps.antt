@@ -13,7 +13,7 @@ use Rattle.mst_key.specs.Map.{Pair, IsAscending}
 use Rattle.mst_key.proofs.SpanLaws.{contains-first, contains-later}
 use Rattle.mst_node.specs.Tree.{pairs, entries_pairs, IsMstEntries}
 use Rattle.mst_arena.specs.Content.{Content, part_at}
-use Rattle.mst_arena.specs.Row.{head_links, keyed_links, entry_value}
+use Rattle.mst_arena.specs.Row.{head_links, keyed_links, entry_pair, entry_value}
 use Rattle.mst_arena.specs.declared.row.Row.{Row}
 use Rattle.mst_arena.specs.declared.row.Row.TheVariants.{Entry}
 use Rattle.mst_arena.specs.declared.row.HeadLinks.{HeadLinks}
@@ -24,6 +24,7 @@ use Rattle.mst_change.proofs.Split.Trees.{rest_rises}
 use Rattle.mst_arena.specs.Ages.{placed_nodes, chain_nodes}
 use Rattle.mst_path.specs.Joining.{height_at}
 use Rattle.mst_batch.specs.Items.{items_pairs, IsItem}
+use Rattle.mst_batch.specs.Known.{IsEntryOf}
 use Rattle.mst_batch.specs.Opening.{PartOf, Adds, AreBelow, AreOf}
 use Rattle.mst_batch.specs.declared.items.Item.{Item}
 use Rattle.mst_batch.proofs.BatchParts.{batched_at}
@@ -47,6 +48,7 @@ pub record Opening (format : Format) (content : Content) (whole : Placed) (layer
   pub search : IsMstEntries format layer (entries_of format rest)
   pub rise : IsAscending (entries_pairs (entries_of format rest))
   pub within : (p : Placed) → Contains (chain_nodes rest) p → Contains (placed_nodes whole) p
+  pub held : (x : Content) → HasRows x (rows_of format whole) → HasRows x (chain_rows format rest)
   pub rising : AreRising left
   pub added : List Pair
   pub adds : Adds format whole old new added
@@ -119,6 +121,7 @@ module _ (format : Format) (content : Content) (whole : Placed) (link : ℕ)
         rise = node_rises format whole top n.within part.rise;
         within = λ p k. node_below whole top p n.within
             (contains-later top (chain_nodes n.chain) p k);
+        held = λ x rows. (node_rows format x whole top n.within rows).1;
         rising = rising;
         added = [];
         adds = adds_none format whole old;
@@ -134,6 +137,7 @@ pub record AtEntry (format : Format) (content : Content) (whole : Placed) (layer
   pub key_is : layer_in format e.key ≡ layer
   pub value : List ℕ
   pub value_is : part_at entry_value content row ≡ Some value
+  pub told : IsEntryOf format whole row (e.key, value)
   pub after : (mid more : List Item) (lo own hi : List Edit) → left ≡ lo ++ (own ++ hi)
       → AreBelow lo e.key → AreOf own e.key → AreAbove hi e.key
       → Adds format whole new mid (batched (pairs (tree_of format child.placed)) lo)
@@ -172,11 +176,13 @@ module _ (format : Format) (content : Content) (whole : Placed) (layer : ℕ)
         → IsAscending (entries_pairs (entries_of format (cell at p key value c)))
         → ((q : Placed) → Contains (chain_nodes (cell at p key value c)) q
         → Contains (placed_nodes whole) q)
+        → ((x : Content) → HasRows x (rows_of format whole)
+        → HasRows x (chain_rows format (cell at p key value c)))
         → o.added ++ batched (entries_pairs (entries_of format (cell at p key value c))) left
         ≡ all
         → AtEntry format content whole layer old new all left tail (next - 1) done count
         (record { child = link_of p; next = first_of c; key = key })
-    at_cell at p key value c first tail_is counted has search rise within is =
+    at_cell at p key value c first tail_is counted has search rise within held is =
         let same : next - 1 ≡ at = omega (arith, first) in
         let front : List Pair = pairs (tree_of format p) in
         let back : List Pair = entries_pairs (entries_of format c) in
@@ -190,6 +196,7 @@ module _ (format : Format) (content : Content) (whole : Placed) (layer : ℕ)
           value = value;
           value_is =
               ap (option_and_then entry_value) (ap content same ∙ has.0);
+          told = λ x rows. ap (option_and_then entry_pair) (ap x same ∙ (held x rows).0);
           after = λ mid more lo own hi parts low same_key high before here.
               let now : List Pair = batched front lo ++ batched ((key, value) ∷ []) own in
               record {
@@ -202,6 +209,8 @@ module _ (format : Format) (content : Content) (whole : Placed) (layer : ℕ)
                 rise = rest_rises (tree_of format p) key value (entries_of format c) rise;
                 within = λ q k. within q
                     (Contains-append_right (placed_nodes p) (chain_nodes c) q k);
+                held = λ x rows.
+                    all-back _ (rows_of format p) (chain_rows format c) (held x rows).1;
                 rising = rising-back own hi
                     (rising-back lo (own ++ hi) (subst AreRising parts o.rising));
                 added = o.added ++ now;
@@ -222,18 +231,19 @@ module _ (format : Format) (content : Content) (whole : Placed) (layer : ℕ)
         → part_at keyed_links content (next - 1) ≡ Some e
         → AtEntry format content whole layer old new all left tail (next - 1) done count e
     at_entry some e read =
-        go o.rest o.first_is o.tail_is o.counted o.rows o.search o.rise o.within o.is
+        go o.rest o.first_is o.tail_is o.counted o.rows o.search o.rise o.within o.held o.is
       where
         go : (c : Chain) → first_of c ≡ next → tail_of c ≡ tail → count_of c + done ≡ count
             → HasRows content (chain_rows format c)
             → IsMstEntries format layer (entries_of format c)
             → IsAscending (entries_pairs (entries_of format c))
             → ((q : Placed) → Contains (chain_nodes c) q → Contains (placed_nodes whole) q)
+            → ((x : Content) → HasRows x (rows_of format whole) → HasRows x (chain_rows format c))
             → o.added ++ batched (entries_pairs (entries_of format c)) left ≡ all
             → AtEntry format content whole layer old new all left tail (next - 1) done count e
-        go (end p) first tail_is counted has search rise within is =
+        go (end p) first tail_is counted has search rise within held is =
             absurd (omega (arith, some, counted))
-        go (cell at p key value c) first tail_is counted has search rise within is =
+        go (cell at p key value c) first tail_is counted has search rise within held is =
             let same : next - 1 ≡ at = omega (arith, first) in
             let there : content (next - 1) ≡ Some (Entry (link_of p) (first_of c) key value) =
             ap content same ∙ has.0 in
@@ -243,7 +253,7 @@ module _ (format : Format) (content : Content) (whole : Placed) (layer : ℕ)
             in
             subst (AtEntry format content whole layer old new all left tail (next - 1) done count)
             same_links
-            (at_cell at p key value c first tail_is counted has search rise within is)
+            (at_cell at p key value c first tail_is counted has search rise within held is)
 
     -- the tree in the last gap, and what is added with what it adds
     pub at_last : count ≡ done → (p : PartOf format content whole tail)

@@ -23,12 +23,14 @@ use Rattle.mst_arena.specs.Standing.{Placed, none, head, Chain, end, cell, tree_
 use Rattle.mst_change.proofs.Split.Trees.{rest_rises, child_rises}
 use Rattle.mst_arena.specs.Ages.{placed_nodes, chain_nodes}
 use Rattle.mst_read.specs.Search.{Lies}
-use Rattle.mst_batch.specs.Items.{item_pairs, items_pairs, IsItem}
+use Rattle.mst_batch.specs.Items.{item_pairs, items_pairs, pair_among, IsItem, IsTold}
+use Rattle.mst_batch.specs.Known.{IsEntryOf}
 use Rattle.mst_batch.specs.Listed.{listed, put_of}
 use Rattle.mst_batch.specs.Opening.{PartOf, Adds, AreOf}
 use Rattle.mst_batch.specs.Tops.{IsStanding, tree_items}
 use Rattle.mst_batch.specs.declared.items.Item.{Item}
 use Rattle.mst_batch.specs.declared.items.Item.TheVariants as item
+use Rattle.mst_batch.specs.declared.plan.Origin.{Origin}
 use Rattle.mst_batch.proofs.BatchParts.{edited_own, one_of_key}
 use Rattle.mst_batch.proofs.Besides.{node_rows}
 use Rattle.mst_batch.proofs.Homes.{node_below}
@@ -72,15 +74,15 @@ module _ (format : Format) (whole : Placed) where
       (append-nil (item_pairs format whole x)) (adds_all xs ys (x ∷ []) pushed (is, tt))
 
   -- what an edit puts, where the layer is that of its key
-  pub adds_put : (xs ys : List Item) (e : Edit) (key value k v : List ℕ) (layer : ℕ)
-      → e ≡ edit.Put key value → k ≡ key → v ≡ value → ys ≡ xs ++ item.Pair k v layer ∷ []
+  pub adds_put : (xs ys : List Item) (e : Edit) (key value : List ℕ) (k v : Bor (List ℕ))
+      (layer : ℕ) (o : Origin) → e ≡ edit.Put key value → k.now ≡ key → v.now ≡ value
+      → ys ≡ xs ++ item.Put k v layer o ∷ [] → IsTold format whole (k.now, v.now) o
       → layer_in format (key_of e) ≡ layer → Adds format whole xs ys (put_of e)
-  adds_put xs ys e key value k v layer e_is k_is v_is pushed own =
-      let is : ys ≡ xs ++ item.Pair key value layer ∷ [] =
-      pushed ∙ (λ i. xs ++ item.Pair (k_is i) (v_is i) layer ∷ []) in
-      subst (λ (f : Edit). Adds format whole xs ys (put_of f)) (sym e_is)
-      (adds_one xs ys (item.Pair key value layer) is
-      (subst (λ (f : Edit). layer_in format (key_of f) ≡ layer) e_is own))
+  adds_put xs ys e key value k v layer o e_is k_is v_is pushed told own =
+      let is : e ≡ edit.Put k.now v.now = e_is ∙ (λ i. edit.Put (sym k_is i) (sym v_is i)) in
+      subst (λ (f : Edit). Adds format whole xs ys (put_of f)) (sym is)
+      (adds_one xs ys (item.Put k v layer o) pushed
+      (subst (λ (f : Edit). layer_in format (key_of f) ≡ layer) is own, told))
 
   -- ---- an entry of a key of this layer, with the edit of its key
 
@@ -103,15 +105,16 @@ module _ (format : Format) (whole : Placed) where
         ∙ edited_own key value e.now keys.0))
         (put (ap (layer_in format) keys.0 ∙ key_layer))
 
-    pub adds_entry : (k v : List ℕ) → length own < 1 → k ≡ key → v ≡ value
-        → ys ≡ xs ++ item.Pair k v layer ∷ []
+    pub adds_entry : (row : ℕ) → length own < 1 → ys ≡ xs ++ item.Kept row layer ∷ []
+        → IsEntryOf format whole row (key, value)
+        → pair_among (rows_of format whole) row ≡ (key, value) ∷ []
         → Adds format whole xs ys (batched ((key, value) ∷ []) (listed own))
-    adds_entry k v empty k_is v_is pushed =
-        adds_as xs ys ((key, value) ∷ []) (batched ((key, value) ∷ []) (listed own))
-        (ap (λ (es : List (Bor Edit)). batched ((key, value) ∷ []) (listed es))
+    adds_entry row empty pushed told found =
+        adds_as xs ys (pair_among (rows_of format whole) row)
+        (batched ((key, value) ∷ []) (listed own))
+        (found ∙ ap (λ (es : List (Bor Edit)). batched ((key, value) ∷ []) (listed es))
         (sym (none_left own empty)))
-        (adds_one xs ys (item.Pair key value layer)
-        (pushed ∙ (λ i. xs ++ item.Pair (k_is i) (v_is i) layer ∷ [])) key_layer)
+        (adds_one xs ys (item.Kept row layer) pushed ((key, value), told, found, key_layer))
 
 -- ---- the keys of a node rise if those of the whole tree do
 

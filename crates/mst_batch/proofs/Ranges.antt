@@ -12,7 +12,7 @@ use Rattle.mst_key.proofs.KeyOrder.{less_chain, less_from_test, less_from_greate
 use Rattle.mst_batch.specs.Listed.{listed}
 use Rattle.mst_batch.specs.Opening.{AreBelow, AreOf}
 use Rattle.mst_batch.proofs.Parts.{listed-append}
-use Rattle.mst_batch.proofs.Rising.{rising-front, rising-back}
+use Rattle.mst_batch.proofs.Rising.{above-less, rising-front, rising-back}
 
 -- ---- tests of keys
 
@@ -82,6 +82,16 @@ pub parted_up_to : (k : List ℕ) (xs : List (Bor Edit)) → AreRising (listed x
     → IsPartitionedBy (is_up_to k) xs
 parted_up_to k xs rising =
     parted (λ (q : List ℕ). is_le (key_cmp q k)) (λ a b less. up_to-chain a b k less) xs rising
+
+-- a key below the first of rising edits is below them all
+pub all_above : (xs : List (Bor Edit)) (e : Bor Edit) (k : List ℕ) → AreRising (listed xs)
+    → 1 ≤ length xs → e ≡ get_or xs 0 e → key_cmp k (key_of e.now) ≡ Less
+    → AreAbove (listed xs) k
+all_above [] e k rising some is less = absurd (omega (arith, some))
+all_above (x ∷ xs) e k rising some is less =
+    let first : key_cmp k (key_of x.now) ≡ Less =
+    subst (λ (f : Bor Edit). key_cmp k (key_of f.now) ≡ Less) is less in
+    (first, above-less (listed xs) k (key_of x.now) first rising.0)
 
 -- ---- what holds at places
 

@@ -1,7 +1,7 @@
 -- The top of items: where a tree of the greatest layer is opened, the items have the same pairs,
 -- and then a pair is of that layer.
 use Rattle.std.proofs.Common.{◌≡◌, ◌≢◌, ℕ, ◌+◌, ◌<◌, ◌≤◌, max, ◌==◌, Bool, true, false, ◌||◌, inl, inr, List, [], ◌∷◌, ◌++◌, refl, sym, ◌∙◌, ap, subst, arith, true≢false, append_assoc}
-use Rattle.std.specs.Prelude.{Contains, if◌then◌else◌}
+use Rattle.std.specs.Prelude.{Contains, if◌then◌else◌, option_and_then}
 use Rattle.std.specs.List.{AllByRecursion, list_any, flat_map}
 use Rattle.std.proofs.lemmas.Bool.Decides.{nat_tests}
 use Rattle.std.proofs.lemmas.List.{append-nil}
@@ -12,16 +12,19 @@ use Rattle.mst_key.proofs.Alls.{alls-append}
 use Rattle.mst_key.proofs.SpanLaws.{contains-cases, contains-nothing, contains-first, contains-later}
 use Rattle.mst_node.specs.Tree.{entry_count, pairs, entries_pairs, IsMst, IsMstEntries, IsUnder}
 use Rattle.mst_arena.specs.Content.{Content}
-use Rattle.mst_arena.specs.Standing.{Placed, none, head, Chain, end, cell, tree_of, entries_of, link_of}
-use Rattle.mst_arena.proofs.Stands.{one_placed}
+use Rattle.mst_arena.specs.Row.{entry_pair}
+use Rattle.mst_arena.specs.Standing.{Placed, none, head, Chain, end, cell, tree_of, entries_of, link_of, rows_of, chain_rows, HasRows}
+use Rattle.mst_arena.proofs.Stands.{one_placed, all-back}
 use Rattle.mst_arena.specs.Ages.{placed_nodes, chain_nodes}
 use Rattle.mst_batch.specs.Beside.{node_at}
 use Rattle.mst_batch.specs.Items.{item_pairs, items_pairs, IsItem, layer_of, height_of, IsUpTo, IsPairOf}
+use Rattle.mst_batch.specs.Known.{IsEntryOf}
 use Rattle.mst_batch.specs.Tops.{IsStanding, is_tree, tree_items, chain_items, node_items, opened}
 use Rattle.mst_batch.specs.declared.items.Item.{Item}
 use Rattle.mst_batch.specs.declared.items.Item.TheVariants as item
 use Rattle.mst_batch.proofs.Besides.{node_found, node_rows}
 use Rattle.mst_batch.proofs.Homes.{node_below}
+use Rattle.mst_batch.proofs.PairsFound.{pair_found}
 
 -- ---- lists of items
 
@@ -51,7 +54,9 @@ has_later l x xs has = (has.0, contains-later x xs has.0 has.1, has.2)
 pub all_upto : (l : ℕ) (xs : List Item) → height_of xs ≤ l + 1
     → list_any (is_tree l) xs ≡ false → AllByRecursion (IsUpTo l) xs
 all_upto l [] low no_tree = tt
-all_upto l (item.Pair key value n ∷ xs) low no_tree =
+all_upto l (item.Put key value n o ∷ xs) low no_tree =
+    (omega (arith, low), all_upto l xs (omega (arith, low)) no_tree)
+all_upto l (item.Kept row n ∷ xs) low no_tree =
     (omega (arith, low), all_upto l xs (omega (arith, low)) no_tree)
 all_upto l (item.Subtree link n ∷ xs) low no_tree =
     go (n == l) refl no_tree (λ rest. all_upto l xs (omega (arith, low)) rest)
@@ -67,19 +72,32 @@ all_upto l (item.Subtree link n ∷ xs) low no_tree =
 pub some_pair : (l : ℕ) (xs : List Item) → height_of xs ≡ l + 1
     → list_any (is_tree l) xs ≡ false → HasPair l xs
 some_pair l [] top no_tree = absurd (omega (arith, top))
-some_pair l (item.Pair key value n ∷ xs) top no_tree =
+some_pair l (item.Put key value n o ∷ xs) top no_tree =
     go (n == l) refl (λ high. some_pair l xs high no_tree)
   where
     go : (b : Bool) → (n == l) ≡ b → (height_of xs ≡ l + 1 → HasPair l xs)
-        → HasPair l (item.Pair key value n ∷ xs)
+        → HasPair l (item.Put key value n o ∷ xs)
     go true e more = (
-      item.Pair key value n,
-      contains-first (item.Pair key value n) xs (item.Pair key value n) refl,
+      item.Put key value n o,
+      contains-first (item.Put key value n o) xs (item.Put key value n o) refl,
       grind (arith, nat_tests, e),
     )
     go false e more =
         let other : n ≢ l = grind (arith, nat_tests, e) in
-        has_later l (item.Pair key value n) xs (more (omega (arith, top, other)))
+        has_later l (item.Put key value n o) xs (more (omega (arith, top, other)))
+some_pair l (item.Kept row n ∷ xs) top no_tree =
+    go (n == l) refl (λ high. some_pair l xs high no_tree)
+  where
+    go : (b : Bool) → (n == l) ≡ b → (height_of xs ≡ l + 1 → HasPair l xs)
+        → HasPair l (item.Kept row n ∷ xs)
+    go true e more = (
+      item.Kept row n,
+      contains-first (item.Kept row n) xs (item.Kept row n) refl,
+      grind (arith, nat_tests, e),
+    )
+    go false e more =
+        let other : n ≢ l = grind (arith, nat_tests, e) in
+        has_later l (item.Kept row n) xs (more (omega (arith, top, other)))
 some_pair l (item.Subtree link n ∷ xs) top no_tree =
     go (n == l) refl no_tree (λ high rest. some_pair l xs high rest)
   where
@@ -144,17 +162,30 @@ module _ (format : Format) (content : Content) (whole : Placed)
       ∙ ap (λ (p : Placed). pairs (tree_of format p))
       (node_here (head row layer chain) (inside (head row layer chain) (own row layer chain)))
 
-  chain_pairs : (l : ℕ) (c : Chain) → Inside (chain_nodes c)
+  -- wherever the rows of the whole stand, those of the chain do
+  abbrev pub Held : Chain → Type 0
+  Held c = (x : Content) → HasRows x (rows_of format whole) → HasRows x (chain_rows format c)
+
+  -- an entry of the whole tree, by its row
+  entry_told : (row : ℕ) (child : Placed) (key value : List ℕ) (rest : Chain)
+      → Held (cell row child key value rest) → IsEntryOf format whole row (key, value)
+  entry_told row child key value rest held x rows =
+      ap (option_and_then entry_pair) (held x rows).0
+
+  chain_pairs : (l : ℕ) (c : Chain) → Inside (chain_nodes c) → Held c
       → items_pairs format whole (chain_items l c) ≡ entries_pairs (entries_of format c)
-  chain_pairs l (end child) inside = tree_pairs child inside
-  chain_pairs l (cell row child key value rest) inside =
+  chain_pairs l (end child) inside held = tree_pairs child inside
+  chain_pairs l (cell row child key value rest) inside held =
       let one = tree_pairs child
       (λ r k. inside r (Contains-append_left (placed_nodes child) (chain_nodes rest) r k)) in
       let more = chain_pairs l rest
-      (λ r k. inside r (Contains-append_right (placed_nodes child) (chain_nodes rest) r k)) in
+      (λ r k. inside r (Contains-append_right (placed_nodes child) (chain_nodes rest) r k))
+      (λ x rows. all-back _ (rows_of format child) (chain_rows format rest) (held x rows).1) in
+      let own = pair_found format whole content s.rows row (key, value)
+      (entry_told row child key value rest held) in
       items_pairs-append format whole (tree_items child)
-      (item.Pair key value l ∷ chain_items l rest)
-      ∙ (λ i. one i ++ (key, value) ∷ more i)
+      (item.Kept row l ∷ chain_items l rest)
+      ∙ (λ i. one i ++ (own i ++ more i))
 
   pub tree_each : (p : Placed) → Inside (placed_nodes p)
       → AllByRecursion (IsItem format whole) (tree_items p)
@@ -162,18 +193,28 @@ module _ (format : Format) (content : Content) (whole : Placed)
   tree_each (head row layer chain) inside =
       ((row, chain, refl, inside (head row layer chain) (own row layer chain)), tt)
 
-  chain_each : (l : ℕ) (c : Chain) → Inside (chain_nodes c)
+  chain_each : (l : ℕ) (c : Chain) → Inside (chain_nodes c) → Held c
       → IsMstEntries format l (entries_of format c)
       → AllByRecursion (IsItem format whole) (chain_items l c)
-  chain_each l (end child) inside mst = tree_each child inside
-  chain_each l (cell row child key value rest) inside mst =
+  chain_each l (end child) inside held mst = tree_each child inside
+  chain_each l (cell row child key value rest) inside held mst =
       let one = tree_each child
       (λ r k. inside r (Contains-append_left (placed_nodes child) (chain_nodes rest) r k)) in
       let more = chain_each l rest
-      (λ r k. inside r (Contains-append_right (placed_nodes child) (chain_nodes rest) r k)) mst.3
+      (λ r k. inside r (Contains-append_right (placed_nodes child) (chain_nodes rest) r k))
+      (λ x rows. all-back _ (rows_of format child) (chain_rows format rest) (held x rows).1) mst.3
       in
       alls-append (IsItem format whole) (tree_items child)
-      (item.Pair key value l ∷ chain_items l rest) one (mst.2, more)
+      (item.Kept row l ∷ chain_items l rest) one (
+        (
+          (key, value),
+          entry_told row child key value rest held,
+          pair_found format whole content s.rows row (key, value)
+              (entry_told row child key value rest held),
+          mst.2,
+        ),
+        more,
+      )
 
   tree_upto : (l : ℕ) (p : Placed) → IsUnder l (tree_of format p)
       → AllByRecursion (IsUpTo l) (tree_items p)
@@ -184,17 +225,17 @@ module _ (format : Format) (content : Content) (whole : Placed)
       → AllByRecursion (IsUpTo l) (chain_items l c)
   chain_upto l (end child) mst = tree_upto l child mst.0
   chain_upto l (cell row child key value rest) mst =
-      alls-append (IsUpTo l) (tree_items child) (item.Pair key value l ∷ chain_items l rest)
+      alls-append (IsUpTo l) (tree_items child) (item.Kept row l ∷ chain_items l rest)
       (tree_upto l child mst.0) (omega arith, chain_upto l rest mst.3)
 
   chain_has : (l : ℕ) (c : Chain) → 0 < entry_count (entries_of format c)
       → HasPair l (chain_items l c)
   chain_has l (end child) some = absurd (omega (arith, some))
   chain_has l (cell row child key value rest) some = (
-    item.Pair key value l,
-    Contains-append_right (tree_items child) (item.Pair key value l ∷ chain_items l rest)
-        (item.Pair key value l)
-        (contains-first (item.Pair key value l) (chain_items l rest) (item.Pair key value l) refl),
+    item.Kept row l,
+    Contains-append_right (tree_items child) (item.Kept row l ∷ chain_items l rest)
+        (item.Kept row l)
+        (contains-first (item.Kept row l) (chain_items l rest) (item.Kept row l) refl),
     refl,
   )
 
@@ -223,9 +264,11 @@ module _ (format : Format) (content : Content) (whole : Placed)
           record {
             pairs =
                 chain_pairs k c below
+                (λ x rows. (node_rows format x whole (head i k c) inside rows).1)
                 ∙ ap (λ (p : Placed). pairs (tree_of format p)) (sym at)
                 ∙ sym (append-nil (pairs (tree_of format (node_at whole link))));
-            each = chain_each k c below mst.2;
+            each = chain_each k c below
+                (λ x rows. (node_rows format x whole (head i k c) inside rows).1) mst.2;
             upto = subst (λ (n : ℕ). AllByRecursion (IsUpTo n) (chain_items k c)) layer
                 (chain_upto k c mst.2);
           },
@@ -234,7 +277,9 @@ module _ (format : Format) (content : Content) (whole : Placed)
 
     opens_one : (x : Item) → IsItem format whole x → layer_of x ≤ l
         → Opens l (x ∷ []) (opened whole l x)
-    opens_one (item.Pair key value n) is low =
+    opens_one (item.Put key value n o) is low =
+        record { pairs = refl; each = (is, tt); upto = (low, tt) }
+    opens_one (item.Kept row n) is low =
         record { pairs = refl; each = (is, tt); upto = (low, tt) }
     opens_one (item.Subtree link n) is low = go (n == l) refl
       where
@@ -280,8 +325,11 @@ module _ (format : Format) (content : Content) (whole : Placed)
     pub opens_some : (xs : List Item) → AllByRecursion (IsItem format whole) xs
         → list_any (is_tree l) xs ≡ true → HasPair l (flat_map (opened whole l) xs)
     opens_some [] each some = absurd (true≢false (sym some))
-    opens_some (item.Pair key value n ∷ xs) each some =
-        has_later l (item.Pair key value n) (flat_map (opened whole l) xs)
+    opens_some (item.Put key value n o ∷ xs) each some =
+        has_later l (item.Put key value n o) (flat_map (opened whole l) xs)
+        (opens_some xs each.1 some)
+    opens_some (item.Kept row n ∷ xs) each some =
+        has_later l (item.Kept row n) (flat_map (opened whole l) xs)
         (opens_some xs each.1 some)
     opens_some (item.Subtree link n ∷ xs) each some =
         go (n == l) refl some (λ rest. opens_some xs each.1 rest)

@@ -5,6 +5,7 @@ pub mod Replacing
 pub mod Carrying
 pub mod Listed
 pub mod Beside
+pub mod Known
 pub mod Items
 pub mod Opening
 pub mod Tops

@@ -1,5 +1,5 @@
 //! A change of the map that stands, by its plan.
-ghost use Rattle.std.specs.Prelude.{◌≡◌, ◌<◌, List, IfOk, IfErr};
+ghost use Rattle.std.specs.Prelude.{◌≡◌, ◌<◌, List, IfOk, IfErr, true};
 ghost use Rattle.mst_key.specs.Map.{Pair};
 ghost use Rattle.mst_node.specs.Cost.{cost};
 ghost use Rattle.mst_arena.specs.Lives.{free_count};
@@ -7,11 +7,12 @@ ghost use Rattle.mst_arena.specs.Standing.{Stands};
 ghost use Rattle.mst_path.specs.Takes.{FreeIsBlank, StaysBeside};
 ghost use Rattle.mst_path.specs.Changing.{MapStands};
 ghost use Rattle.mst_path.specs.AfterChange.{AfterChange};
+ghost use Rattle.mst_batch.specs.Known.{HasKnown, known_of};
 ghost use Rattle.mst_batch.specs.Plans.{plan_of};
 ghost use Rattle.mst_batch.specs.Carrying.{IsPlanOf};
 
 use crate::plan::{Plan, PlanNode};
-use crate::replacing::replace;
+use crate::replacing::replace_by_plan;
 use crate::sowing::rows_of;
 use mst_arena::{Desk, Root, Rows};
 use mst_key::Format;
@@ -55,9 +56,40 @@ pub fn carry_out<R: Rows, A: Allocator, B: Allocator>(
         → free_count desk.old.lives < cost format m (change m)) }
     ensures untouched { IfErr result (λ _. (desk.new ≡ desk.old) × (rows.new ≡ rows.old)) }
 {
+    carry_out_by_plan(rows, desk, root, plan, kept, format, false)
+}
+
+/// Changes the map as `carry_out` does. If the rows that the plan names are known to have its
+/// pairs, they are copied.
+pub(crate) fn carry_out_by_plan<R: Rows, A: Allocator, B: Allocator>(
+    rows: &mut R,
+    desk: &mut Desk<A>,
+    root: &Root,
+    plan: &Plan<Box<PlanNode<B>, B>>,
+    kept: &[bool],
+    format: Format,
+    known: bool,
+) -> Result<Root, NoRoom>
+    requires stands { MapStands format (R.content rows.old) desk.old root.now }
+    requires plan { (change : List Pair → List Pair) × IsPlanOf format (R.content rows.old)
+        desk.old root.now kept.now (plan_of plan.now) change }
+    requires free { FreeIsBlank desk.old.lives (R.blank rows.old) }
+    requires known { known ≡ true
+        → HasKnown (R.content rows.old) desk.old (known_of plan.now) }
+    ensures changed { IfOk result (λ done. (change : List Pair → List Pair)
+        → IsPlanOf format (R.content rows.old) desk.old root.now kept.now (plan_of plan.now) change
+        → AfterChange format (R.content rows.old) (R.content rows.new) desk.old desk.new root.now
+        done change) }
+    ensures beside { StaysBeside R.blank R.kept rows.old rows.new }
+    ensures no_room { IfErr result (λ _. (change : List Pair → List Pair)
+        → IsPlanOf format (R.content rows.old) desk.old root.now kept.now (plan_of plan.now) change
+        → (m : List Pair) → Stands format (R.content rows.old) root.now m
+        → free_count desk.old.lives < cost format m (change m)) }
+    ensures untouched { IfErr result (λ _. (desk.new ≡ desk.old) × (rows.new ≡ rows.old)) }
+{
     let free = desk.free();
     if rows_of(plan) > free {
         return Err(NoRoom);
     }
-    Ok(replace(rows, desk, root, plan, kept, format))
+    Ok(replace_by_plan(rows, desk, root, plan, kept, format, known))
 }

@@ -39,10 +39,10 @@ pub(crate) fn fell_at<R: Rows, A: Allocator>(
     desk.kill(link - 1);
     let mut next = head.first;
     for _ in 0..head.count {
-        let entry = rows.entry(next - 1);
+        let links = rows.links(next - 1);
         desk.kill(next - 1);
-        fell_at(rows, desk, entry.child, kept);
-        next = entry.next;
+        fell_at(rows, desk, links.child, kept);
+        next = links.next;
     }
     fell_at(rows, desk, head.tail, kept);
 }

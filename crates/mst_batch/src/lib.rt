@@ -27,10 +27,11 @@
 //! shows plans that can be carried out.
 //!
 //! In `specs/`: `Applying`, why a batch is not made; `Listed`, edits that a list points at; `Items`
-//! and `Opening`, what the tree after a batch is built of; `Tops`, which of it is opened; `Beside`,
-//! the plan of a tree next to the one that stands; `Plans`, which tree a plan is, what it keeps and
-//! what it takes; `Carrying` and `Replacing`, a plan of a change of the map, and in place of the
-//! tree that stands; `Sowing`, what is written; `Kept`, which nodes are kept and which rows fall.
+//! and `Opening`, what the tree after a batch is built of; `Known`, which of its pairs have a row
+//! already; `Tops`, which of it is opened; `Beside`, the plan of a tree next to the one that
+//! stands; `Plans`, which tree a plan is, what it keeps and what it takes; `Carrying` and
+//! `Replacing`, a plan of a change of the map, and in place of the tree that stands; `Sowing`,
+//! what is written; `Kept`, which nodes are kept and which rows fall.
 #![tactic(auto)]
 
 mod applying;

@@ -1,5 +1,5 @@
 //! Marks at the rows of the nodes that a plan keeps.
-ghost use Rattle.std.specs.Prelude.{◌<◌, ◌∷◌, [], IfOk, OnOk};
+ghost use Rattle.std.specs.Prelude.{◌≡◌, ◌<◌, ◌-◌, ◌∷◌, ◌++◌, [], false, length, replicate, IfOk, OnOk};
 ghost use Rattle.mst_arena.specs.Lists.{In};
 ghost use Rattle.mst_batch.specs.Beside.{links_kept, AreMarks};
 ghost use Rattle.mst_batch.specs.Kept.{AddsMarks};
@@ -8,6 +8,7 @@ ghost use Rattle.mst_batch.specs.Plans.{plan_of, plan_of_node};
 use crate::plan::{Plan, PlanNode};
 use mst_key::Memory;
 use std::alloc::Allocator;
+use std::iter::repeat_n;
 
 /// A mark at the row of the head of each tree that the plan keeps, and no other. The list reaches
 /// to the last mark. Returns `Memory` only if a growth was refused.
@@ -45,6 +46,15 @@ fn last_link_below<B: Allocator>(node: &PlanNode<B>) -> u32
     last
 }
 
+/// Lengthens a list of marks, without a mark more, until it has so many rows.
+fn lengthen<A: Allocator>(marks: &mut Vec<bool, A>, rows: usize) -> Result<(), Memory>
+    ensures items { OnOk result (marks.new.items
+        ≡ marks.old.items ++ replicate (rows - length marks.old.items) false) }
+{
+    let missing = rows.saturating_sub(marks.len());
+    Ok(marks.extend(repeat_n(false, missing))?)
+}
+
 /// Adds a mark at the row of a link, unless it is 0.
 fn mark_link<A: Allocator>(marks: &mut Vec<bool, A>, link: u32) -> Result<(), Memory>
     ensures marks { OnOk result (AddsMarks marks.old.items marks.new.items (link ∷ [])) }
@@ -53,7 +63,7 @@ fn mark_link<A: Allocator>(marks: &mut Vec<bool, A>, link: u32) -> Result<(), Me
     if reached == 0 {
         return Ok(());
     }
-    marks.resize(marks.len().max(reached), false)?;
+    lengthen(marks, reached)?;
     marks[reached - 1] = true;
     Ok(())
 }

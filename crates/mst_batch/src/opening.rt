@@ -1,65 +1,78 @@
 //! The items of the tree after a batch: the nodes that an edit touches are opened.
-ghost use Rattle.std.specs.Prelude.{◌≡◌, ◌++◌, ◌≤◌, ℕ, length, take, drop, List, [], ◌∷◌, Some, IsSome, OnOk};
+ghost use Rattle.std.specs.Prelude.{◌≡◌, ◌++◌, ◌≤◌, length, take, drop, [], ◌∷◌, OnOk};
 ghost use Rattle.std.specs.List.{AllByRecursion, slice_range};
 ghost use Rattle.mst_key.specs.declared.format.Format.{Format};
 ghost use Rattle.mst_key.specs.Edits.{AreAbove, AreRising};
 ghost use Rattle.mst_key.specs.History.{batched, key_of};
 ghost use Rattle.mst_key.specs.Layer.{layer_in};
+ghost use Rattle.mst_key.specs.Map.{Pair};
 ghost use Rattle.mst_node.specs.Tree.{pairs};
-ghost use Rattle.mst_arena.specs.Content.{part_at};
-ghost use Rattle.mst_arena.specs.Row.{entry_value};
-ghost use Rattle.mst_arena.specs.Standing.{Placed, tree_of};
-ghost use Rattle.mst_batch.specs.Items.{items_pairs, IsItem};
+ghost use Rattle.mst_arena.specs.Standing.{Placed, rows_of, tree_of};
+ghost use Rattle.mst_batch.specs.Items.{items_pairs, pair_among, IsItem, IsTold};
+ghost use Rattle.mst_batch.specs.Known.{IsEntryOf};
 ghost use Rattle.mst_batch.specs.Listed.{listed, put_of};
 ghost use Rattle.mst_batch.specs.Opening.{PartOf, Adds, AreBelow, AreOf};
 
-use crate::items::{Item, PairPlace};
+use crate::items::Item;
 use crate::plan::Origin;
 use crate::standing::push_tree;
 use mst_arena::Rows;
 use mst_key::{Edit, Format, Key, Memory};
 use std::alloc::Allocator;
 
-/// Adds the pair that an edit puts, if it is a put. The place is that of its key.
-fn push_put<A: Allocator>(
-    edit: &Edit,
-    place: PairPlace,
-    items: &mut Vec<Item, A>,
+/// What is known of a pair that is put, by the row of the entry that had its key, if there is one.
+fn changed(row: Option<u32>) -> Origin
+    ensures known { (format : Format) (whole : Placed) (pair : Pair)
+        → IsTold format whole pair result }
+{
+    match row {
+        Some(row) => Origin::Changed(row),
+        None => Origin::Unknown,
+    }
+}
+
+/// Adds the pair that an edit puts, if it is a put. The layer is that of its key, and the row that
+/// of the entry that had it before, if there is one.
+fn push_put<'b, A: Allocator>(
+    edit: &'b Edit,
+    layer: u8,
+    row: Option<u32>,
+    items: &mut Vec<Item<'b>, A>,
 ) -> Result<(), Memory>
     ensures adds { OnOk result ((format : Format) (whole : Placed)
-        → layer_in format (key_of edit.now) ≡ place
+        → layer_in format (key_of edit.now) ≡ layer
         → Adds format whole items.old.items items.new.items (put_of edit.now)) }
 {
     if let Edit::Put(key, value) = edit {
-        items.push(Item::Pair {
-            key: key.copy(),
-            value: value.copy(),
-            place,
+        items.push(Item::Put {
+            key,
+            value,
+            layer,
+            origin: changed(row),
         })?;
     }
     Ok(())
 }
 
 /// Adds the pairs that edits whose keys rise put where there is no pair.
-fn push_puts<A: Allocator>(
+fn push_puts<'b, A: Allocator>(
     format: Format,
-    edits: &[&Edit],
-    items: &mut Vec<Item, A>,
+    edits: &[&'b Edit],
+    items: &mut Vec<Item<'b>, A>,
 ) -> Result<(), Memory>
     requires rising { AreRising (listed edits.now) }
     ensures adds { OnOk result ((whole : Placed)
         → Adds format whole items.old.items items.new.items (batched [] (listed edits.now))) }
 {
     for edit in edits {
-        let place = PairPlace::new(edit.key().layer_in(format), Origin::Unknown);
-        push_put(edit, place, items)?;
+        let layer = edit.key().layer_in(format);
+        push_put(edit, layer, None, items)?;
     }
     Ok(())
 }
 
-/// Where a key lies among edits whose keys rise: behind those of lesser keys, and before those of
-/// greater ones. In between is the edit of the key, if there is one.
-fn range_of(edits: &[&Edit], key: &Key) -> (usize, usize)
+/// Where a key lies among edits whose keys rise, by two searches.
+fn searched_range_of(edits: &[&Edit], key: &Key) -> (usize, usize)
     requires rising { AreRising (listed edits.now) }
     ensures order { result.0 ≤ result.1 }
     ensures within { result.1 ≤ length edits.now }
@@ -72,47 +85,55 @@ fn range_of(edits: &[&Edit], key: &Key) -> (usize, usize)
     (start, end)
 }
 
-/// Adds the pair of an entry, or what the edit of its key puts, if there is one.
-fn push_entry<R: Rows, A: Allocator>(
-    rows: &mut R,
+/// Where a key lies among edits whose keys rise: behind those of lesser keys, and before those of
+/// greater ones. In between is the edit of the key, if there is one.
+fn range_of(edits: &[&Edit], key: &Key) -> (usize, usize)
+    requires rising { AreRising (listed edits.now) }
+    ensures order { result.0 ≤ result.1 }
+    ensures within { result.1 ≤ length edits.now }
+    ensures before { AreBelow (listed (take result.0 edits.now)) key.now }
+    ensures own { AreOf (listed (slice_range edits.now result.0 result.1)) key.now }
+    ensures after { AreAbove (listed (drop result.1 edits.now)) key.now }
+{
+    // most entries of a node that is opened lie before the first edit that is left
+    match edits {
+        [] => (0, 0),
+        [first, ..] if key.precedes(first.key()) => (0, 0),
+        _ => searched_range_of(edits, key),
+    }
+}
+
+/// Adds the pair of the entry in a row, or what the edit of its key puts, if there is one.
+fn push_entry<'b, A: Allocator>(
     row: u32,
-    key: &Key,
     layer: u8,
-    own: &[&Edit],
-    items: &mut Vec<Item, A>,
+    own: &[&'b Edit],
+    items: &mut Vec<Item<'b>, A>,
 ) -> Result<(), Memory>
-    requires there { IsSome (part_at entry_value (R.content rows.old) row) }
     requires rising { AreRising (listed own.now) }
-    requires own { AreOf (listed own.now) key.now }
-    ensures adds { OnOk result ((format : Format) (whole : Placed) (value : List ℕ)
-        → layer_in format key.now ≡ layer
-        → part_at entry_value (R.content rows.old) row ≡ Some value
+    ensures adds { OnOk result ((format : Format) (whole : Placed) (pair : Pair)
+        → layer_in format pair.0 ≡ layer → AreOf (listed own.now) pair.0
+        → IsEntryOf format whole row pair
+        → pair_among (rows_of format whole) row ≡ pair ∷ []
         → Adds format whole items.old.items items.new.items
-        (batched ((key.now, value) ∷ []) (listed own.now))) }
-    ensures same { rows.new ≡ rows.old }
+        (batched (pair ∷ []) (listed own.now))) }
 {
     if let [edit, ..] = own {
-        return push_put(edit, PairPlace::new(layer, Origin::Changed(row)), items);
+        return push_put(edit, layer, Some(row), items);
     }
-    let value = rows.value(row);
-    let place = PairPlace::new(layer, Origin::Kept(row));
-    items.push(Item::Pair {
-        key: key.copy(),
-        value,
-        place,
-    })?;
+    items.push(Item::Kept { row, layer })?;
     Ok(())
 }
 
 /// Adds the items of the tree at a link after edits whose keys rise. A tree that no edit falls into
 /// stays as it stands; of each other its node is opened.
 #[cycle(open)]
-pub(crate) fn open<R: Rows, A: Allocator>(
+pub(crate) fn open<'b, R: Rows, A: Allocator>(
     rows: &mut R,
     format: Format,
     link: u32,
-    edits: &[&Edit],
-    items: &mut Vec<Item, A>,
+    edits: &[&'b Edit],
+    items: &mut Vec<Item<'b>, A>,
 ) -> Result<(), Memory>
     requires part { (whole : Placed) × PartOf format (R.content rows.old) whole link }
     requires rising { AreRising (listed edits.now) }
@@ -138,14 +159,7 @@ pub(crate) fn open<R: Rows, A: Allocator>(
         let entry = rows.entry(next - 1);
         let (start, end) = range_of(left, &entry.key);
         open(rows, format, entry.child, &left[..start], items)?;
-        push_entry(
-            rows,
-            next - 1,
-            &entry.key,
-            head.layer,
-            &left[start..end],
-            items,
-        )?;
+        push_entry(next - 1, head.layer, &left[start..end], items)?;
         left = &left[end..];
         next = entry.next;
     }

@@ -5,6 +5,7 @@ ghost use Rattle.mst_key.specs.Map.{Pair};
 ghost use Rattle.mst_node.specs.Tree.{tree};
 ghost use Rattle.mst_arena.specs.Standing.{Stands};
 ghost use Rattle.mst_batch.specs.Beside.{plan_beside};
+ghost use Rattle.mst_batch.specs.Known.{AreKnown, known_of};
 ghost use Rattle.mst_batch.specs.Plans.{plan_of};
 
 use crate::building::build;
@@ -29,6 +30,9 @@ pub(crate) fn find_plan<R: Rows, B: Allocator + Copy>(
         (stands : Stands format (R.content rows.old) root.now m)
         → plan_of plan ≡ plan_beside format stands.tree.placed
         (tree format (batched m edits.now))) }
+    ensures known { IfOk result (λ plan. (m : List Pair)
+        (stands : Stands format (R.content rows.old) root.now m)
+        → AreKnown format stands.tree.placed (known_of plan)) }
     ensures same { rows.new ≡ rows.old }
 {
     let normal = normal_edits(alloc, edits)?;

@@ -1,17 +1,18 @@
 //! A plan, carried out in place of the tree that stands.
-ghost use Rattle.std.specs.Prelude.{◌≤◌, ℕ};
+ghost use Rattle.std.specs.Prelude.{◌≡◌, ◌≤◌, ℕ, true};
 ghost use Rattle.mst_arena.specs.Lists.{times};
 ghost use Rattle.mst_arena.specs.Lives.{free_count};
 ghost use Rattle.mst_arena.specs.Standing.{Placed, used};
 ghost use Rattle.mst_path.specs.Felling.{ToFell};
 ghost use Rattle.mst_path.specs.Making.{Grown};
 ghost use Rattle.mst_path.specs.Takes.{IsWritable, StaysBeside};
+ghost use Rattle.mst_batch.specs.Known.{HasKnown, known_of};
 ghost use Rattle.mst_batch.specs.Plans.{plan_of, rows_planned, tree_planned, IsPlan};
 ghost use Rattle.mst_batch.specs.Replacing.{Keeps};
 
 use crate::felling::fell_at;
 use crate::plan::{Plan, PlanNode};
-use crate::sowing::sow;
+use crate::sowing::sow_plan;
 use mst_arena::{Desk, Root, Rows};
 use mst_key::Format;
 use std::alloc::Allocator;
@@ -45,7 +46,37 @@ pub fn replace<R: Rows, A: Allocator, B: Allocator>(
         (rows_planned (plan_of plan.now)) }
     ensures beside { StaysBeside R.blank R.kept rows.old rows.new }
 {
-    let new = sow(rows, desk, plan, format);
+    replace_by_plan(rows, desk, root, plan, kept, format, false)
+}
+
+/// Carries a plan out as `replace` does. If the rows that it names are known to have its pairs,
+/// they are copied.
+pub(crate) fn replace_by_plan<R: Rows, A: Allocator, B: Allocator>(
+    rows: &mut R,
+    desk: &mut Desk<A>,
+    root: &Root,
+    plan: &Plan<Box<PlanNode<B>, B>>,
+    kept: &[bool],
+    format: Format,
+    known: bool,
+) -> Root
+    requires change { (at : ℕ → Placed)
+        × (old : ToFell (R.content rows.old) desk.old root.now.link)
+        × IsPlan format at (R.content rows.old) desk.old (plan_of plan.now)
+        × Keeps at kept.now old.placed (plan_of plan.now) }
+    requires room { rows_planned (plan_of plan.now) ≤ free_count desk.old.lives }
+    requires ready { IsWritable desk.old.lives (R.blank rows.old) }
+    requires known { known ≡ true
+        → HasKnown (R.content rows.old) desk.old (known_of plan.now) }
+    ensures grown { (at : ℕ → Placed) (old : ToFell (R.content rows.old) desk.old root.now.link)
+        → IsPlan format at (R.content rows.old) desk.old (plan_of plan.now)
+        → Keeps at kept.now old.placed (plan_of plan.now)
+        → Grown format (R.content rows.old) (R.content rows.new) desk.old desk.new
+        (tree_planned format at (plan_of plan.now)) result (λ x. times x (used old.placed))
+        (rows_planned (plan_of plan.now)) }
+    ensures beside { StaysBeside R.blank R.kept rows.old rows.new }
+{
+    let new = sow_plan(rows, desk, plan, format, known);
     fell_at(rows, desk, root.link, kept);
     new
 }

@@ -3,14 +3,15 @@ ghost use Rattle.std.specs.Prelude.{◌≡◌, ◌↔◌, ℕ, List, true, map, 
 ghost use Rattle.mst_key.specs.declared.format.Format.{Format};
 ghost use Rattle.mst_key.specs.Map.{Pair};
 ghost use Rattle.mst_node.specs.Tree.{Entries, node as tree_node, IsMst};
-ghost use Rattle.mst_arena.specs.Content.{part_at};
-ghost use Rattle.mst_arena.specs.Row.{entry_value};
+ghost use Rattle.mst_arena.specs.Content.{Content, part_at};
+ghost use Rattle.mst_arena.specs.Row.{entry_pair, entry_value, keyed_links};
 ghost use Rattle.mst_arena.specs.Standing.{Placed, Chain, Stands};
 ghost use Rattle.mst_read.specs.Search.{Lies, LiesBehind, TreeLies, ChainLies, MapStands};
 ghost use Rattle.mst_batch.specs.Beside.{plan_beside, entries_beside, link_of_key, kept_entry, kept_entries, kept_node};
+ghost use Rattle.mst_batch.specs.Known.{AreKnown, AreThere, all_known, known_of, known_of_entry, known_of_node};
 ghost use Rattle.mst_batch.specs.Plans.{plan_of, plan_of_node, planned_entry, with_planned, kept, made, last};
 
-use crate::plan::{Plan, PlanEntry, PlanNode};
+use crate::plan::{Origin, Plan, PlanEntry, PlanNode};
 use mst_arena::{HeadLinks, KeyedLinks, Root, Rows, Sought};
 use mst_key::Memory;
 use mst_read::{RowPlace, head_at, seek};
@@ -48,6 +49,39 @@ fn keeps<B: Allocator>(plan: &Plan<Box<PlanNode<B>, B>>, link: u32) -> bool
     }
 }
 
+/// Whether an entry to be made is known to be the one in a row.
+fn stands_in<B: Allocator>(entry: &PlanEntry<B>, row: u32) -> bool
+    ensures stands { result ≡ true → (content : Content)
+        → AreThere content (known_of_entry entry.now) → part_at entry_pair content row
+        ≡ Some ((planned_entry entry.now).key, (planned_entry entry.now).value) }
+{
+    match entry.origin {
+        Origin::Kept(own) => own == row,
+        Origin::Changed(_) | Origin::Unknown => false,
+    }
+}
+
+/// Whether an entry has the pair of the one to be made. Its links were read at the row.
+fn has_pair<R: Rows, B: Allocator>(
+    rows: &mut R,
+    row: u32,
+    links: &KeyedLinks,
+    entry: &PlanEntry<B>,
+) -> bool
+    requires there { IsSome (part_at entry_value (R.content rows.old) row) }
+    requires links { part_at keyed_links (R.content rows.old) row ≡ Some links.now }
+    requires known { AreThere (R.content rows.old) (known_of_entry entry.now) }
+    ensures pair { (value : List ℕ) → part_at entry_value (R.content rows.old) row ≡ Some value
+        → (result ≡ true) ↔ ((planned_entry entry.now).key ≡ links.now.key)
+        × ((planned_entry entry.now).value ≡ value) }
+    ensures same { rows.new ≡ rows.old }
+{
+    if stands_in(entry, row) {
+        return true;
+    }
+    entry.key == links.key && entry.value == rows.value(row)
+}
+
 /// Whether an entry is the one to be made, with the tree before it kept. Its links were read at the
 /// row.
 fn is_entry<R: Rows, B: Allocator>(
@@ -57,11 +91,13 @@ fn is_entry<R: Rows, B: Allocator>(
     entry: &PlanEntry<B>,
 ) -> bool
     requires there { IsSome (part_at entry_value (R.content rows.old) row) }
+    requires links { part_at keyed_links (R.content rows.old) row ≡ Some links.now }
+    requires known { AreThere (R.content rows.old) (known_of_entry entry.now) }
     ensures entry { (value : List ℕ) → part_at entry_value (R.content rows.old) row ≡ Some value
         → (result ≡ true) ↔ (planned_entry entry.now ≡ kept_entry links.now value) }
     ensures same { rows.new ≡ rows.old }
 {
-    keeps(&entry.child, links.child) && entry.key == links.key && entry.value == rows.value(row)
+    keeps(&entry.child, links.child) && has_pair(rows, row, links, entry)
 }
 
 /// Whether the entries of a node of which the head was read are those to be made, with each tree
@@ -73,6 +109,7 @@ fn has_entries<R: Rows, B: Allocator>(
     tail: &Plan<Box<PlanNode<B>, B>>,
 ) -> bool
     requires lies { ChainLies (R.content rows.old) head.now }
+    requires known { AreThere (R.content rows.old) (all_known (map known_of_entry entries.now)) }
     ensures entries { (f : Format) (c : Chain) → LiesBehind f (R.content rows.old) head.now c
         → (result ≡ true) ↔ (with_planned (map planned_entry entries.now)
         (last (plan_of tail.now)) ≡ kept_entries c) }
@@ -97,6 +134,7 @@ fn has_entries<R: Rows, B: Allocator>(
 /// link 0 is none.
 fn matches<R: Rows, B: Allocator>(rows: &mut R, link: u32, node: &PlanNode<B>) -> bool
     requires lies { TreeLies (R.content rows.old) link }
+    requires known { AreThere (R.content rows.old) (known_of_node node.now) }
     ensures node { (f : Format) (p : Placed) → Lies f (R.content rows.old) link p
         → (result ≡ true) ↔ (plan_of_node node.now ≡ kept_node p) }
     ensures same { rows.new ≡ rows.old }
@@ -105,6 +143,29 @@ fn matches<R: Rows, B: Allocator>(rows: &mut R, link: u32, node: &PlanNode<B>) -
         return false;
     };
     node.layer == head.layer && has_entries(rows, &head, node.entries.as_slice(), &node.tail)
+}
+
+/// Whether a plan makes a node.
+fn is_made<B: Allocator>(plan: &Plan<Box<PlanNode<B>, B>>) -> bool
+    ensures made { result ≡ true → (link : ℕ) → plan_of plan.now ≡ kept link → ⊥ }
+{
+    match plan {
+        Plan::Kept(_) => false,
+        Plan::Made(_) => true,
+    }
+}
+
+/// Whether the tree in a gap of a node is to be made: then no node that stands is this one, so that
+/// none has to be looked for.
+fn has_new_gap<B: Allocator>(node: &PlanNode<B>) -> bool
+    ensures new { result ≡ true → (p : Placed) → plan_of_node node.now ≡ kept_node p → ⊥ }
+{
+    for entry in &node.entries {
+        if is_made(&entry.child) {
+            return true;
+        }
+    }
+    is_made(&node.tail)
 }
 
 /// The plan of a node to be made, with the plans below it found: the node that stands, if one is
@@ -120,13 +181,20 @@ pub(crate) fn shared<R: Rows, B: Allocator>(
         × (stands : Stands format (R.content rows.old) root.now m) × (l : ℕ) × (es : Entries)
         × IsMst format (tree_node format l es)
         × (plan_of_node node ≡ made l (entries_beside format stands.tree.placed es)) }
+    requires known { AreThere (R.content rows.old) (known_of_node node) }
     ensures plan { IfOk result (λ plan. (format : Format) (m : List Pair)
         (stands : Stands format (R.content rows.old) root.now m) (l : ℕ) (es : Entries)
         → IsMst format (tree_node format l es)
         → plan_of_node node ≡ made l (entries_beside format stands.tree.placed es)
         → plan_of plan ≡ plan_beside format stands.tree.placed (tree_node format l es)) }
+    ensures known { IfOk result (λ plan. (format : Format) (whole : Placed)
+        → AreKnown format whole (known_of_node node)
+        → AreKnown format whole (known_of plan)) }
     ensures same { rows.new ≡ rows.old }
 {
+    if has_new_gap(&node) {
+        return Ok(Plan::Made(Box::new(alloc, node)?));
+    }
     let Some(first) = node.entries.first() else {
         unreachable!()
     };

@@ -1,14 +1,20 @@
 //! A plan, carried out in free rows.
-ghost use Rattle.std.specs.Prelude.{◌≡◌, ◌≤◌, ◌^◌, ◌-◌, ℕ, min};
+ghost use Rattle.std.specs.Prelude.{◌≡◌, ◌≤◌, ◌<◌, ◌+◌, ◌^◌, ◌-◌, ℕ, List, [], ◌∷◌, ◌++◌, Some, min, true};
+ghost use Rattle.mst_key.specs.Map.{Pair};
+ghost use Rattle.mst_key.specs.declared.format.Format.{Format};
+ghost use Rattle.mst_arena.specs.Content.{Content};
+ghost use Rattle.mst_arena.specs.Limits.{highest_link};
 ghost use Rattle.mst_arena.specs.Lives.{free_count};
-ghost use Rattle.mst_arena.specs.Standing.{Placed};
-ghost use Rattle.mst_path.specs.Takes.{IsWritable, StaysBeside};
+ghost use Rattle.mst_arena.specs.Standing.{Placed, rows_of, used, HasRows};
+ghost use Rattle.mst_path.specs.Takes.{Takes, IsOut, KeepsBut, FewRows, IsWritable, StaysBeside};
+ghost use Rattle.mst_path.specs.Writing.{PlacedEntry, entries_used, IsRootOf, ahead, IsNextBlank, IsWriter, IsWritten};
+ghost use Rattle.mst_batch.specs.Known.{HasKnown, IsThere, known_of, known_of_node};
 ghost use Rattle.mst_batch.specs.Plans.{plan_of, plan_of_node, rows_planned, rows_kept, tree_planned, IsPlan};
 ghost use Rattle.mst_batch.specs.Sowing.{Sown};
 
 use crate::plan::{Origin, Plan, PlanEntry, PlanNode};
 use mst_arena::{Desk, Root, Rows};
-use mst_key::Format;
+use mst_key::{Format, Key, Value};
 use mst_path::{NodeWriter, root_at};
 use std::alloc::Allocator;
 
@@ -42,7 +48,6 @@ fn rows_of_node<B: Allocator>(node: &PlanNode<B>) -> u32
 /// It takes exactly the rows that `rows_of` counts, and writes no other. The rows are born with the
 /// version to come. Of a tree that is kept it reads the digest, one row. No memory is taken, and
 /// calls nest no deeper than the layers of the nodes to be made.
-#[cycle(sow)]
 pub fn sow<R: Rows, A: Allocator, B: Allocator>(
     rows: &mut R,
     desk: &mut Desk<A>,
@@ -60,19 +65,46 @@ pub fn sow<R: Rows, A: Allocator, B: Allocator>(
         (rows_planned (plan_of plan.now)) }
     ensures beside { StaysBeside R.blank R.kept rows.old rows.new }
 {
+    sow_plan(rows, desk, plan, format, false)
+}
+
+/// Carries a plan out as `sow` does. If the rows that it names are known to have its pairs, they
+/// are copied.
+#[cycle(sow)]
+pub(crate) fn sow_plan<R: Rows, A: Allocator, B: Allocator>(
+    rows: &mut R,
+    desk: &mut Desk<A>,
+    plan: &Plan<Box<PlanNode<B>, B>>,
+    format: Format,
+    known: bool,
+) -> Root
+    requires plan { (at : ℕ → Placed)
+        × IsPlan format at (R.content rows.old) desk.old (plan_of plan.now) }
+    requires room { rows_planned (plan_of plan.now) ≤ free_count desk.old.lives }
+    requires ready { IsWritable desk.old.lives (R.blank rows.old) }
+    requires known { known ≡ true
+        → HasKnown (R.content rows.old) desk.old (known_of plan.now) }
+    ensures sown { (at : ℕ → Placed)
+        → IsPlan format at (R.content rows.old) desk.old (plan_of plan.now)
+        → Sown format (R.content rows.old) (R.content rows.new) desk.old desk.new
+        (tree_planned format at (plan_of plan.now)) result (rows_kept at (plan_of plan.now))
+        (rows_planned (plan_of plan.now)) }
+    ensures beside { StaysBeside R.blank R.kept rows.old rows.new }
+{
     match plan {
         Plan::Kept(link) => root_at(rows, *link),
-        Plan::Made(node) => sow_node(rows, desk, node, format),
+        Plan::Made(node) => sow_node(rows, desk, node, format, known),
     }
 }
 
-/// The row of the entry that had a pair's key before, if it is known. It has no clause: a wrong row
-/// costs time alone, as what is kept for it is then hashed again.
-fn row_before(origin: Origin) -> Option<u32> {
+/// What is told of a pair, without what is not known for sure.
+fn trusted(origin: Origin, known: bool) -> Origin
+    ensures there { (content : Content) (pair : Pair)
+        → (known ≡ true → IsThere content pair origin) → IsThere content pair result }
+{
     match origin {
-        Origin::Unknown => None,
-        Origin::Kept(row) => Some(row),
-        Origin::Changed(row) => Some(row),
+        Origin::Kept(row) if !known => Origin::Changed(row),
+        _ => origin,
     }
 }
 
@@ -91,6 +123,43 @@ fn begins_as_before<B: Allocator>(entries: &[PlanEntry<B>]) -> bool {
     }
 }
 
+/// Writes the next entry of a node, after the tree at `child`: as a copy, if it stands already.
+fn write_entry<R: Rows, A: Allocator>(
+    rows: &mut R,
+    desk: &mut Desk<A>,
+    writer: &mut NodeWriter<A>,
+    origin: Origin,
+    child: &Root,
+    key: &Key,
+    value: &Value,
+)
+    requires writer { IsWriter writer.old }
+    requires some { 0 < writer.old.left }
+    requires room { 1 < writer.old.left → 0 < free_count desk.old.lives }
+    requires few { FewRows desk.old.lives }
+    requires blank { IsNextBlank writer.old.next (R.blank rows.old) }
+    requires child { child.now.link ≤ highest_link }
+    requires there { IsThere (R.content rows.old) (key.now, value.now) origin }
+    ensures writer { IsWriter writer.new }
+    ensures written { (format : Format) (es : List PlacedEntry) (p : Placed) (r : ℕ)
+        → writer.old.next ≡ Some r
+        → IsWritten format writer.old (R.content rows.old) es → IsRootOf format p child.now
+        → HasRows (R.content rows.old) (rows_of format p) → IsOut r (entries_used es ++ used p)
+        → IsWritten format writer.new (R.content rows.new)
+        (es ++ record { at = r; child = p; key = key.now; value = value.now } ∷ []) }
+    ensures node { (writer.new.layer ≡ writer.old.layer) × (writer.new.count ≡ writer.old.count)
+        × (writer.new.left + 1 ≡ writer.old.left) × (writer.new.head ≡ writer.old.head) }
+    ensures takes { Takes desk.old desk.new (ahead writer.new.next) }
+    ensures keeps { KeepsBut (ahead writer.old.next) (R.content rows.old) (R.content rows.new) }
+    ensures beside { StaysBeside R.blank R.kept rows.old rows.new }
+{
+    match origin {
+        Origin::Kept(row) => writer.copy(rows, desk, child, row),
+        Origin::Changed(row) => writer.entry(rows, desk, Some(row), child, key, value),
+        Origin::Unknown => writer.entry(rows, desk, None, child, key, value),
+    }
+}
+
 /// Writes a node with all that is to be made below it. Returns where it stands.
 #[cycle(sow)]
 fn sow_node<R: Rows, A: Allocator, B: Allocator>(
@@ -98,11 +167,14 @@ fn sow_node<R: Rows, A: Allocator, B: Allocator>(
     desk: &mut Desk<A>,
     node: &PlanNode<B>,
     format: Format,
+    known: bool,
 ) -> Root
     requires plan { (at : ℕ → Placed)
         × IsPlan format at (R.content rows.old) desk.old (plan_of_node node.now) }
     requires room { rows_planned (plan_of_node node.now) ≤ free_count desk.old.lives }
     requires ready { IsWritable desk.old.lives (R.blank rows.old) }
+    requires known { known ≡ true
+        → HasKnown (R.content rows.old) desk.old (known_of_node node.now) }
     ensures sown { (at : ℕ → Placed)
         → IsPlan format at (R.content rows.old) desk.old (plan_of_node node.now)
         → Sown format (R.content rows.old) (R.content rows.new) desk.old desk.new
@@ -119,10 +191,18 @@ fn sow_node<R: Rows, A: Allocator, B: Allocator>(
         is_copy,
     );
     for entry in &node.entries {
-        let child = sow(rows, desk, &entry.child, format);
-        let before = row_before(entry.origin);
-        writer.entry(rows, desk, before, &child, &entry.key, &entry.value);
+        let child = sow_plan(rows, desk, &entry.child, format, known);
+        let origin = trusted(entry.origin, known);
+        write_entry(
+            rows,
+            desk,
+            &mut writer,
+            origin,
+            &child,
+            &entry.key,
+            &entry.value,
+        );
     }
-    let tail = sow(rows, desk, &node.tail, format);
+    let tail = sow_plan(rows, desk, &node.tail, format, known);
     writer.finish(rows, desk, &tail)
 }

@@ -15,7 +15,7 @@ use std::alloc::Allocator;
 pub(crate) fn push_tree<R: Rows, A: Allocator>(
     rows: &mut R,
     link: u32,
-    items: &mut Vec<Item, A>,
+    items: &mut Vec<Item<'_>, A>,
 ) -> Result<(), Memory>
     requires lies { TreeLies (R.content rows.old) link }
     ensures items { OnOk result ((format : Format) (p : Placed)

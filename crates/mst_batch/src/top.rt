@@ -1,64 +1,98 @@
 //! The greatest layer of items, and trees of it, opened.
-ghost use Rattle.std.specs.Prelude.{◌≡◌, ◌<◌, ◌+◌, ◌++◌, length, IfOk, OnOk};
-ghost use Rattle.std.specs.List.{AllByRecursion, list_any, flat_map};
+ghost use Rattle.std.specs.Prelude.{◌≡◌, ◌<◌, List, [], ◌∷◌, ◌++◌, IfOk, OnOk};
+ghost use Rattle.std.specs.List.{AllByRecursion, flat_map};
 ghost use Rattle.mst_key.specs.declared.format.Format.{Format};
 ghost use Rattle.mst_arena.specs.Standing.{Placed};
 ghost use Rattle.mst_read.specs.Search.{Lies, TreeLies};
-ghost use Rattle.mst_batch.specs.Items.{IsItem, layer_of as layer_of_item, height_of};
-ghost use Rattle.mst_batch.specs.Tops.{IsStanding, is_tree, node_items, opened as opened_item};
+ghost use Rattle.mst_batch.specs.Items.{IsItem, layer_of as layer_of_item};
+ghost use Rattle.mst_batch.specs.Tops.{IsStanding, IsTop, is_tree, node_items, opened as opened_item};
+ghost use Rattle.mst_batch.specs.declared.items.Item.{Item};
 
-use crate::items::{Item, PairPlace};
-use crate::plan::Origin;
+use crate::items::Item;
 use crate::standing::push_tree;
 use mst_arena::Rows;
 use mst_key::Memory;
 use std::alloc::Allocator;
 
+/// The greatest layer of items, and what is of it.
+#[derive(Clone, Copy)]
+pub(crate) struct Top {
+    /// The greatest layer, 0 if there is no item.
+    pub layer: u8,
+    /// Whether a tree is of this layer.
+    pub has_tree: bool,
+    /// How many pairs are of this layer. It is a hint for the room that their node needs, and has
+    /// no clause: a wrong one costs a growth alone.
+    pub pairs: usize,
+}
+
 /// The layer of an item.
-fn layer_of(item: &Item) -> u8
+fn layer_of(item: &Item<'_>) -> u8
     ensures layer { result ≡ layer_of_item item.now }
 {
     match item {
-        Item::Pair { place, .. } => place.layer(),
+        Item::Put { layer, .. } => *layer,
+        Item::Kept { layer, .. } => *layer,
         Item::Subtree { layer, .. } => *layer,
     }
 }
 
-/// The greatest layer of items, 0 if there is none.
-#[inline(never)]
-pub(crate) fn top_layer(items: &[Item]) -> u8
-    ensures top { 0 < length items.now → height_of items.now ≡ result + 1 }
-{
-    let mut top = 0;
-    for item in items {
-        top = top.max(layer_of(item));
-    }
-    top
-}
-
-/// Whether an item is a tree of the layer.
-fn is_tree_of(item: &Item, layer: u8) -> bool
-    ensures tree { result ≡ is_tree layer item.now }
+/// Whether an item is a tree.
+fn is_tree(item: &Item<'_>) -> bool
+    ensures tree { result ≡ is_tree (layer_of_item item.now) item.now }
 {
     match item {
-        Item::Pair { .. } => false,
-        Item::Subtree { layer: own, .. } => *own == layer,
+        Item::Put { .. } => false,
+        Item::Kept { .. } => false,
+        Item::Subtree { .. } => true,
     }
 }
 
-/// Whether one of the items is a tree of the layer.
-#[inline(never)]
-pub(crate) fn has_subtree_at(items: &[Item], layer: u8) -> bool
-    ensures has { result ≡ list_any (is_tree layer) items.now }
+/// The top of some items and of one more after them.
+fn with_item(top: Top, item: &Item<'_>) -> Top
+    ensures top { (items : List Item) → IsTop top.layer top.has_tree items
+        → IsTop result.layer result.has_tree (items ++ item.now ∷ []) }
 {
-    items.iter().any(|item| is_tree_of(item, layer))
+    let (layer, has_tree) = (layer_of(item), is_tree(item));
+    let pairs = usize::from(!has_tree);
+    if layer < top.layer {
+        return top;
+    }
+    if layer > top.layer {
+        return Top {
+            layer,
+            has_tree,
+            pairs,
+        };
+    }
+    Top {
+        layer,
+        has_tree: top.has_tree | has_tree,
+        pairs: top.pairs.saturating_add(pairs),
+    }
+}
+
+/// The top of items.
+#[inline(never)]
+pub(crate) fn top_of(items: &[Item<'_>]) -> Top
+    ensures top { IsTop result.layer result.has_tree items.now }
+{
+    let mut top = Top {
+        layer: 0,
+        has_tree: false,
+        pairs: 0,
+    };
+    for item in items {
+        top = with_item(top, item);
+    }
+    top
 }
 
 /// Adds the pairs of the node at a link, and between them the trees below it.
 fn push_node<R: Rows, A: Allocator>(
     rows: &mut R,
     link: u32,
-    items: &mut Vec<Item, A>,
+    items: &mut Vec<Item<'_>, A>,
 ) -> Result<(), Memory>
     requires lies { TreeLies (R.content rows.old) link }
     requires some { 0 < link }
@@ -72,40 +106,21 @@ fn push_node<R: Rows, A: Allocator>(
     for _ in 0..head.count {
         let entry = rows.entry(next - 1);
         push_tree(rows, entry.child, items)?;
-        let place = PairPlace::new(head.layer, Origin::Kept(next - 1));
-        items.push(Item::Pair {
-            key: entry.key,
-            value: rows.value(next - 1),
-            place,
+        items.push(Item::Kept {
+            row: next - 1,
+            layer: head.layer,
         })?;
         next = entry.next;
     }
     push_tree(rows, head.tail, items)
 }
 
-/// A copy of an item.
-fn copy_of(item: &Item) -> Item
-    ensures same { result ≡ item.now }
-{
-    match item {
-        Item::Pair { key, value, place } => Item::Pair {
-            key: key.copy(),
-            value: value.copy(),
-            place: place.copy(),
-        },
-        Item::Subtree { link, layer } => Item::Subtree {
-            link: *link,
-            layer: *layer,
-        },
-    }
-}
-
 /// Adds a copy of an item, or what its node is opened to if it is a tree of the layer.
-fn push_opened<R: Rows, A: Allocator>(
+fn push_opened<'b, R: Rows, A: Allocator>(
     rows: &mut R,
-    item: &Item,
+    item: &Item<'b>,
     layer: u8,
-    opened: &mut Vec<Item, A>,
+    opened: &mut Vec<Item<'b>, A>,
 ) -> Result<(), Memory>
     requires item { (format : Format) × (whole : Placed)
         × IsStanding format (R.content rows.old) whole × IsItem format whole item.now }
@@ -116,19 +131,19 @@ fn push_opened<R: Rows, A: Allocator>(
 {
     match item {
         Item::Subtree { link, layer: own } if *own == layer => push_node(rows, *link, opened),
-        _ => Ok(opened.push(copy_of(item))?),
+        _ => Ok(opened.push(*item)?),
     }
 }
 
 /// A copy of items, in which each tree of the layer is opened. Returns `Memory` only if a growth
 /// was refused.
 #[inline(never)]
-pub(crate) fn opened_at<R: Rows, A: Allocator>(
+pub(crate) fn opened_at<'b, R: Rows, A: Allocator>(
     rows: &mut R,
     alloc: A,
-    items: &[Item],
+    items: &[Item<'b>],
     layer: u8,
-) -> Result<Vec<Item, A>, Memory>
+) -> Result<Vec<Item<'b>, A>, Memory>
     requires items { (format : Format) × (whole : Placed)
         × IsStanding format (R.content rows.old) whole
         × AllByRecursion (IsItem format whole) items.now }

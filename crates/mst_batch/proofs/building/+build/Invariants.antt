@@ -2,7 +2,8 @@ use Rattle.std.proofs.Common.{◌≡◌, ◌≤◌, ◌+◌, ◌*◌, map}
 use Rattle.std.specs.Prelude.{slice_range}
 use Rattle.mst_batch.specs.Items.{height_of}
 use Rattle.mst_batch.specs.Plans.{planned_entry}
-use Rattle.mst_batch.proofs.Builds.{SoFar}
+use Rattle.mst_batch.specs.Known.{all_known, known_of_entry}
+use Rattle.mst_batch.proofs.Builds.{SoFar, KnownBeside}
 use Rattle.mst_batch.proofs.building.+build.Given as goal
 
 -- layers fall from a node to its gaps
@@ -20,4 +21,6 @@ invariant-build_node-loop-i g l = record {
   low : height_of (slice_range l.items l.start l.i) ≤ l.layer;
   entries : SoFar (g.R.Rows.content l.fn.rows) l.root l.layer l.items l.start l.i
       (map planned_entry l.entries.items);
+  known : KnownBeside (g.R.Rows.content l.fn.rows) l.root l.items
+      (all_known (map known_of_entry l.entries.items));
 }

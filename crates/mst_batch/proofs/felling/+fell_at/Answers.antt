@@ -1,14 +1,14 @@
 use Rattle.std.proofs.Common.{◌≡◌, ℕ, zero, suc, ◌+◌, ◌-◌, ◌<◌, Bool, false, true≢false, List, [], Some, IsSome, sym, ◌∙◌, ap, subst, arith, rules}
 use Rattle.mst_arena.specs.Content.{Content, part_at}
 use Rattle.mst_arena.specs.Lives.{State}
-use Rattle.mst_arena.specs.Row.{keyed_links}
+use Rattle.mst_arena.specs.Row.{keyed_links, bare_links}
 use Rattle.mst_path.specs.Felling.{ToFell}
 use Rattle.mst_path.specs.Joining.{height_at}
 use Rattle.mst_path.specs.Moves.{Moves}
 use Rattle.mst_path.proofs.lemmas.steps.Felling.{Felling, AtEntry, started, entry_there, at_entry, at_last, height_read}
 use Rattle.mst_path.proofs.lemmas.rows.Moving.{moves_none}
 use Rattle.mst_batch.specs.Kept.{stays, fallen}
-use Rattle.mst_batch.proofs.Fellings.{fallen_in, opens, nothing_falls}
+use Rattle.mst_batch.proofs.Fellings.{fallen_in, opens, nothing_falls, with_key, keyed_at}
 use Rattle.mst_batch.proofs.felling.+fell_at.Given.{Over}
 use Rattle.mst_batch.proofs.felling.+fell_at.Goals.{After-kill-in-loop}
 use Rattle.mst_batch.proofs.felling.+fell_at.Goals as goal
@@ -44,25 +44,29 @@ returns-then-is_left-clause-fells g t c = λ z.
 
 module _ (g : Over) (t : ℕ) (c : After-kill-in-loop g t)
     (z : ToFell (g.R.Rows.content c.args.rows.now) c.args.desk.now c.args.link) where
+  keyed : (key : List ℕ)
+      × (part_at keyed_links (g.R.Rows.content c.args.rows.now) (c.loop.next - 1)
+      ≡ Some (with_key c.links-links.result key))
+  keyed = keyed_at (g.R.Rows.content c.args.rows.now) (c.loop.next - 1) c.links-links.result
+      (subst (λ (x : Content). part_at bare_links x (c.loop.next - 1) ≡ Some c.links-links.result)
+      (ap g.R.Rows.content c.loop.invariant.same) c.links-links.ensures.value)
+
   entry : AtEntry z.format (fallen c.args.kept.now) (g.R.Rows.content c.args.rows.now)
       c.args.desk.now c.loop.desk c.head-head.result.layer (fallen c.args.kept.now z.placed)
       c.head-head.result.tail (c.loop.next - 1) c.loop.counter c.head-head.result.count
-      c.entry-entry.result
+      (with_key c.links-links.result keyed.0)
   entry =
       at_entry _ _ _ _ _ _ _ _ _ _ _ (c.loop.invariant.felling z) (fallen_in c.args.kept.now)
-      c.loop-test.true
-      c.entry-entry.result
-      (subst (λ (x : Content). part_at keyed_links x (c.loop.next - 1) ≡ Some c.entry-entry.result)
-      (ap g.R.Rows.content c.loop.invariant.same) c.entry-entry.ensures.value)
+      c.loop-test.true (with_key c.links-links.result keyed.0) keyed.1
 
-  same_rows : g.R.Rows.content c.entry-entry.new.self ≡ g.R.Rows.content c.args.rows.now
-  same_rows = ap g.R.Rows.content (c.entry-entry.ensures.same ∙ c.loop.invariant.same)
+  same_rows : g.R.Rows.content c.links-links.new.self ≡ g.R.Rows.content c.args.rows.now
+  same_rows = ap g.R.Rows.content (c.links-links.ensures.same ∙ c.loop.invariant.same)
 
-  child : ToFell (g.R.Rows.content c.entry-entry.new.self) c.kill-in-loop.new.self
-      c.entry-entry.result.child
-  child = subst (λ (x : Content). ToFell x c.kill-in-loop.new.self c.entry-entry.result.child)
+  child : ToFell (g.R.Rows.content c.links-links.new.self) c.kill-in-loop.new.self
+      c.links-links.result.child
+  child = subst (λ (x : Content). ToFell x c.kill-in-loop.new.self c.links-links.result.child)
       (sym same_rows)
-      (subst (λ (s : State). ToFell (g.R.Rows.content c.args.rows.now) s c.entry-entry.result.child)
+      (subst (λ (s : State). ToFell (g.R.Rows.content c.args.rows.now) s c.links-links.result.child)
       (sym c.kill-in-loop.ensures.dead) entry.below)
 
 pub kill-requires-in-loop : goal.kill-requires-in-loop
@@ -78,7 +82,7 @@ fell_at-requires g t c κs within =
     let at = (goal.at.fell_at-requires g t c).After-kill-in-loop in
     let z = c.requires.tree in
     let falls =
-    subst (λ (x : Content). height_at x c.entry-entry.result.child < c.head-head.result.layer
+    subst (λ (x : Content). height_at x c.links-links.result.child < c.head-head.result.layer
     + 1) (sym (same_rows g t at z)) (entry g t at z).lower_down in
     let read = height_read (g.R.Rows.content c.args.rows.now) c.args.link c.head-head.result
     (some c.args.kept.now c.args.link (sym c.is_left.ensures.left ∙ c.if-is_left.false))
@@ -87,20 +91,20 @@ fell_at-requires g t c κs within =
 
 pub loop-preserved : goal.loop-preserved
 loop-preserved g t c = record {
-  same = c.fell_at.ensures.same ∙ c.entry-entry.ensures.same ∙ c.loop.invariant.same;
+  same = c.fell_at.ensures.same ∙ c.links-links.ensures.same ∙ c.loop.invariant.same;
   felling = λ z.
       let at = (goal.at.loop-preserved g t c).After-kill-in-loop in
       let here = entry g t at z in
       let content = same_rows g t at z in
       let dead = c.kill-in-loop.ensures.dead in
       let fells =
-      subst (λ (x : Content). (y : ToFell x c.kill-in-loop.new.self c.entry-entry.result.child)
+      subst (λ (x : Content). (y : ToFell x c.kill-in-loop.new.self c.links-links.result.child)
       → Moves c.kill-in-loop.new.self c.fell_at.new.desk [] (fallen c.args.kept.now y.placed))
       content
       c.fell_at.ensures.fells in
       here.after c.fell_at.new.desk
       (subst (λ (s : State).
-      (y : ToFell (g.R.Rows.content c.args.rows.now) s c.entry-entry.result.child)
+      (y : ToFell (g.R.Rows.content c.args.rows.now) s c.links-links.result.child)
       → Moves s c.fell_at.new.desk [] (fallen c.args.kept.now y.placed)) dead fells here.below);
 }
 
@@ -159,8 +163,8 @@ overflow_sub-next-in-loop g t c =
           c.loop-test.true).1,
     )
 
-pub entry-entry-requires : goal.entry-entry-requires
-entry-entry-requires g t c =
+pub links-links-requires : goal.links-links-requires
+links-links-requires g t c =
     record {
       there =
           subst (λ (x : Content). IsSome (part_at keyed_links x (c.loop.next - 1)))

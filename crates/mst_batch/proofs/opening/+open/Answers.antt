@@ -6,7 +6,7 @@ use Rattle.mst_key.specs.declared.history.Edit.{Edit}
 use Rattle.mst_key.specs.History.{batched}
 use Rattle.mst_node.specs.Tree.{pairs}
 use Rattle.mst_arena.specs.Content.{Content, part_at}
-use Rattle.mst_arena.specs.Row.{keyed_links, entry_value}
+use Rattle.mst_arena.specs.Row.{keyed_links}
 use Rattle.mst_arena.specs.Standing.{Placed, tree_of}
 use Rattle.mst_path.specs.Joining.{height_at}
 use Rattle.mst_path.proofs.lemmas.steps.Felling.{height_read}
@@ -15,6 +15,7 @@ use Rattle.mst_batch.specs.Opening.{PartOf, Adds}
 use Rattle.mst_batch.specs.declared.items.Item.{Item}
 use Rattle.mst_batch.proofs.Openings.{head_there, part_lies, tree_stays}
 use Rattle.mst_batch.proofs.OpeningSteps.{Opening, Opens, opens, both_ok, AtEntry, begun, entry_there, at_entry, at_last}
+use Rattle.mst_batch.proofs.PairsFound.{pair_found}
 use Rattle.mst_batch.proofs.Ranges.{three_parts, parts_rise, rest_is, rest_fits}
 use Rattle.mst_batch.proofs.opening.+open.Given.{Over}
 use Rattle.mst_batch.proofs.opening.+open.Goals.{After-entry-entry, After-loop}
@@ -122,7 +123,7 @@ open-requires g t c κs within =
 
 pub loop-preserved : goal.loop-preserved
 loop-preserved g t c = record {
-  same = c.in_ok-push_entry.ensures.same ∙ c.in_ok-open.ensures.same ∙ c.entry-entry.ensures.same
+  same = c.in_ok-open.ensures.same ∙ c.entry-entry.ensures.same
       ∙ c.loop.invariant.same;
   room = rest_fits c.loop.left.now c.range_of-start.result.1 (length c.args.edits.now)
       c.loop.invariant.room;
@@ -138,9 +139,10 @@ loop-preserved g t c = record {
       c.loop.items.items c.open.new.items.items
       (listed (take c.range_of-start.result.0 c.loop.left.now))
       c.in_ok-open.ensures.items c.in_ok-open.ensures.each) in
-      let own = c.in_ok-push_entry.ensures.adds c.args.format whole here.value here.key_is
-      (subst (λ (x : Content). part_at entry_value x (c.loop.next - 1) ≡ Some here.value)
-      (sym (ap g.R.Rows.content c.in_ok-open.ensures.same ∙ content)) here.value_is) in
+      let own = c.in_ok-push_entry.ensures.adds c.args.format whole
+      (c.entry-entry.result.key, here.value) here.key_is c.range_of-start.ensures.own here.told
+      (pair_found c.args.format whole (g.R.Rows.content c.args.rows.now) part.rows
+      (c.loop.next - 1) (c.entry-entry.result.key, here.value) here.told) in
       subst (λ (z : List (Bor Edit)). Opening c.args.format (g.R.Rows.content c.args.rows.now) whole
       c.head-head.result.layer c.args.items.now.items c.push_entry.new.items.items
       (batched (pairs (tree_of c.args.format part.placed)) (listed c.args.edits.now))
@@ -266,8 +268,10 @@ range_of-start-requires g t c =
     let part = c.requires.part in
     record { rising = (c.loop.invariant.opening part.0 part.1).rising }
 
-pub push_entry-requires-clause-rising : goal.push_entry-requires-clause-rising
-push_entry-requires-clause-rising g t c =
+pub push_entry-requires : goal.push_entry-requires
+push_entry-requires g t c =
     let part = c.requires.part in
-    (parts_rise c.loop.left.now c.range_of-start.result.0 c.range_of-start.result.1
-    c.range_of-start.ensures.order (c.loop.invariant.opening part.0 part.1).rising).1
+    record {
+      rising = (parts_rise c.loop.left.now c.range_of-start.result.0 c.range_of-start.result.1
+          c.range_of-start.ensures.order (c.loop.invariant.opening part.0 part.1).rising).1;
+    }

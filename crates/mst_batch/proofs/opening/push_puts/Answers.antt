@@ -1,4 +1,4 @@
-use Rattle.std.proofs.Common.{◌∙◌, arith}
+use Rattle.std.proofs.Common.{arith}
 use Rattle.mst_batch.proofs.Puts.{putting_step, putting_end}
 use Rattle.mst_batch.proofs.opening.push_puts.Goals as goal
 
@@ -6,8 +6,9 @@ pub loop-edit-preserved : goal.loop-edit-preserved
 loop-edit-preserved g c =
     putting_step c.args.format c.args.edits.now c.args.items.now.items c.loop-edit.edit-index
     c.loop-edit.items.items c.push_put.new.items.items c.edit-item.result c.key.result.now
-    c.new-place.result c.loop-edit.invariant c.loop-edit-test.true c.edit-item.is c.key.ensures.key
-    (c.new-place.ensures.layer ∙ c.layer_in.ensures.layer) c.in_ok-push_put.ensures.adds
+    c.layer_in-layer.result c.loop-edit.invariant c.loop-edit-test.true c.edit-item.is
+    c.key.ensures.key
+    c.layer_in-layer.ensures.layer c.in_ok-push_put.ensures.adds
 
 pub returns : goal.returns
 returns g c = record {

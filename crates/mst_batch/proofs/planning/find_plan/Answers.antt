@@ -7,6 +7,7 @@ use Rattle.mst_arena.specs.Content.{Content}
 use Rattle.mst_arena.specs.Standing.{Stands}
 use Rattle.mst_batch.specs.Beside.{plan_beside}
 use Rattle.mst_batch.specs.Items.{AreItems, items_pairs}
+use Rattle.mst_batch.specs.Known.{AreKnown, known_of}
 use Rattle.mst_batch.specs.Plans.{plan_of}
 use Rattle.mst_batch.proofs.Finding.{whole_part, pairs_are, items_are}
 use Rattle.mst_batch.proofs.planning.find_plan.Goals as goal
@@ -64,3 +65,21 @@ returns-clause-plan g c =
     c.new-items.ensures.items c.as_slice-2.ensures.value c.as_slice.ensures.value
     (c.in_ok-normal.ensures.map m st.map) (c.in_ok-open.ensures.items st.tree.placed part)))
     c.build.ensures.plan
+
+pub returns-clause-known : goal.returns-clause-known
+returns-clause-known g c =
+    let format = c.args.format in
+    let content = g.R.Rows.content c.args.rows.now in
+    IfOk-weaker c.build.result _ _
+    (λ plan known m st.
+    let part = whole_part format content c.args.root.now m st in
+    let items : AreItems format st.tree.placed c.as_slice-2.result.now =
+    items_are format content c.args.root.now m st c.new-items.result.items c.open.new.items.items
+    c.as_slice-2.result.now c.args.edits.now c.in_ok-normal.normal.items c.as_slice.result.now
+    c.new-items.ensures.items c.as_slice-2.ensures.value c.as_slice.ensures.value
+    (c.in_ok-normal.ensures.map m st.map) (c.in_ok-open.ensures.items st.tree.placed part)
+    (c.in_ok-open.ensures.each st.tree.placed part) in
+    subst (λ (x : Content). (f : Format) (n : List Pair) (s : Stands f x c.args.root.now n)
+    → AreItems f s.tree.placed c.as_slice-2.result.now → AreKnown f s.tree.placed (known_of plan))
+    (ap g.R.Rows.content c.in_ok-open.ensures.same) known format m st items)
+    c.build.ensures.known

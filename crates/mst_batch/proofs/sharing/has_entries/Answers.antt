@@ -6,7 +6,10 @@ use Rattle.mst_arena.specs.Standing.{Chain}
 use Rattle.mst_read.specs.Search.{LiesBehind}
 use Rattle.mst_read.proofs.Still.{read_still, there_still}
 use Rattle.mst_read.proofs.Walk.{AtCell, at_cell, at_end, entry_left}
+use Rattle.mst_arena.specs.Content.{Content}
+use Rattle.mst_batch.specs.Known.{AreThere, known_of_entry}
 use Rattle.mst_batch.specs.Plans.{plan_of}
+use Rattle.mst_batch.proofs.KnownShapes.{entry_there}
 use Rattle.mst_batch.proofs.SameNodes.{IsSameFrom, other_count, value_at, one_more, not_all, tail_decides}
 use Rattle.mst_batch.proofs.sharing.has_entries.Given.{Over}
 use Rattle.mst_batch.proofs.sharing.has_entries.Goals.{After-entry-links}
@@ -27,6 +30,13 @@ entry-links-requires g c =
           (c.loop-entry.next - 1)
           (subst (λ (e : Option KeyedLinks). IsSome e) (sym left.1) refl);
     }
+
+pub is_entry-requires-clause-known : goal.is_entry-requires-clause-known
+is_entry-requires-clause-known g c =
+    subst (λ (x : Content). AreThere x (known_of_entry c.entry-item.result))
+    (sym (ap g.R.Rows.content (c.entry-links.ensures.same ∙ c.loop-entry.invariant.same)))
+    (entry_there (g.R.Rows.content c.args.rows.now) c.args.entries.now c.loop-entry.entry-index
+    c.entry-item.result c.loop-entry-test.true c.entry-item.is c.requires.known)
 
 module _ (g : Over) (c : goal.After-entry-links g) (f : Format) (w : Chain)
     (lies : LiesBehind f (g.R.Rows.content c.args.rows.now) c.args.head.now w) where

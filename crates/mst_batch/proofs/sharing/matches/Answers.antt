@@ -1,7 +1,10 @@
 use Rattle.std.proofs.Common.{◌≡◌, true, List, map, sym, ◌∙◌, ap, subst}
 use Rattle.std.specs.Prelude.{◌↔◌}
 use Rattle.mst_read.proofs.Still.{behind_still}
+use Rattle.mst_arena.specs.Content.{Content}
 use Rattle.mst_batch.specs.Beside.{kept_entries}
+use Rattle.mst_batch.specs.Known.{AreThere, all_known, known_of_entry}
+use Rattle.mst_batch.proofs.KnownShapes.{entries_there}
 use Rattle.mst_batch.specs.Plans.{last, with_planned, planned_entry}
 use Rattle.mst_batch.specs.declared.plan.PlanEntry.{PlanEntry}
 use Rattle.mst_batch.proofs.Heads.{with_head}
@@ -9,13 +12,21 @@ use Rattle.mst_batch.proofs.PlanShapes.{tail}
 use Rattle.mst_batch.proofs.SameNodes.{entries_decide}
 use Rattle.mst_batch.proofs.sharing.matches.Goals as goal
 
-pub has_entries-requires : goal.has_entries-requires
-has_entries-requires g c =
+pub has_entries-requires-clause-lies : goal.has_entries-requires-clause-lies
+has_entries-requires-clause-lies g c =
     let z = c.requires.lies in
     let h = with_head z.1 z.2.rows (sym (c.head_at.ensures.head z.0 z.1 z.2) ∙ c.in-Some.is) in
-    record {
-      lies = (z.0, h.chain, behind_still (ap g.R.Rows.content c.head_at.ensures.same) h.lies);
-    }
+    (z.0, h.chain, behind_still (ap g.R.Rows.content c.head_at.ensures.same) h.lies)
+
+pub has_entries-requires-clause-known : goal.has_entries-requires-clause-known
+has_entries-requires-clause-known g c =
+    subst (λ (x : Content). AreThere x (all_known (map known_of_entry c.as_slice.result.now)))
+    (sym (ap g.R.Rows.content c.head_at.ensures.same))
+    (subst (λ (xs : List (PlanEntry g.row.B.Denot)).
+    AreThere (g.R.Rows.content c.args.rows.now) (all_known (map known_of_entry xs)))
+    (sym c.as_slice.ensures.value)
+    (entries_there (g.R.Rows.content c.args.rows.now) g.row.B.Denot c.args.node.now
+    c.requires.known))
 
 pub returns-then-node-head-clause-node : goal.returns-then-node-head-clause-node
 returns-then-node-head-clause-node g c f p lies =

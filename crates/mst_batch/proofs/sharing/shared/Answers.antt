@@ -9,9 +9,10 @@ use Rattle.mst_change.specs.Batch.{HasEntry}
 use Rattle.mst_read.specs.Search.{TreeLies}
 use Rattle.mst_read.proofs.Still.{lies_still}
 use Rattle.mst_batch.specs.Beside.{entries_beside}
+use Rattle.mst_batch.specs.Known.{AreKnown, AreThere, known_of_node}
 use Rattle.mst_batch.specs.Plans.{made, plan_of_node}
 use Rattle.mst_batch.specs.declared.plan.PlanEntry.{PlanEntry}
-use Rattle.mst_batch.proofs.NodeChoices.{some_entry, first_key, tree_there, stays, is_made}
+use Rattle.mst_batch.proofs.NodeChoices.{some_entry, first_key, tree_there, stays, is_made, nowhere}
 use Rattle.mst_batch.proofs.sharing.shared.Given.{Over}
 use Rattle.mst_batch.proofs.sharing.shared.Goals.{After-link_of-link}
 use Rattle.mst_batch.proofs.sharing.shared.Goals as goal
@@ -27,15 +28,17 @@ unreachable-requires g c =
     subst (λ (o : Option (Bor (PlanEntry g.row.B.Denot))). IsSome o) c.in_default.is there in
     cc
 
-pub matches-requires : goal.matches-requires
-matches-requires g c =
+pub matches-requires-clause-lies : goal.matches-requires-clause-lies
+matches-requires-clause-lies g c =
     let z = c.requires.node in
-    record {
-      lies =
-          subst (λ (x : Content). TreeLies x c.link_of-link.result)
-          (sym (ap g.R.Rows.content c.link_of-link.ensures.same))
-          (tree_there z.2 c.new.result (c.link_of-link.ensures.link z.0 z.1 z.2));
-    }
+    subst (λ (x : Content). TreeLies x c.link_of-link.result)
+    (sym (ap g.R.Rows.content c.link_of-link.ensures.same))
+    (tree_there z.2 c.new-2.result (c.link_of-link.ensures.link z.0 z.1 z.2))
+
+pub matches-requires-clause-known : goal.matches-requires-clause-known
+matches-requires-clause-known g c =
+    subst (λ (x : Content). AreThere x (known_of_node c.args.node))
+    (sym (ap g.R.Rows.content c.link_of-link.ensures.same)) c.requires.known
 
 -- ---- the key that was looked up is that of an entry
 
@@ -44,8 +47,8 @@ module _ (g : Over) (c : goal.After-link_of-link g) (format : Format) (m : List 
     (es : Entries) (mst : IsMst format (tree.node format l es))
     (is : plan_of_node c.args.node
     ≡ made l (entries_beside format stands.tree.placed es)) where
-  own : HasEntry c.new.result es
-  own = subst (λ (q : List ℕ). HasEntry q es) (sym c.new.ensures.key)
+  own : HasEntry c.new-2.result es
+  own = subst (λ (q : List ℕ). HasEntry q es) (sym c.new-2.ensures.key)
       (first_key format stands.tree.placed c.args.node l es mst is c.in-Some.first.now
       (subst (λ (xs : List (PlanEntry g.row.B.Denot)).
       c.in-Some.first.now ≡ get_or xs 0 c.in-Some.first.now)
@@ -54,7 +57,7 @@ module _ (g : Over) (c : goal.After-link_of-link g) (format : Format) (m : List 
 pub returns-then-matches-clause-plan : goal.returns-then-matches-clause-plan
 returns-then-matches-clause-plan g c format m stands l es mst is =
     let at = (goal.at.returns-then-matches-clause-plan g c).After-link_of-link in
-    stays stands c.new.result c.args.node l es (c.link_of-link.ensures.link format m stands)
+    stays stands c.new-2.result c.args.node l es (c.link_of-link.ensures.link format m stands)
     (own g at format m stands l es mst is) mst is
     (λ f p lies. c.matches.ensures.node f p
     (lies_still (ap g.R.Rows.content c.link_of-link.ensures.same) lies))
@@ -63,9 +66,29 @@ returns-then-matches-clause-plan g c format m stands l es mst is =
 pub returns-clause-plan : goal.returns-clause-plan
 returns-clause-plan g c format m stands l es mst is =
     let at = (goal.at.returns-clause-plan g c).After-link_of-link in
-    ap plan_of_node c.in_ok-new.ensures.ok
-    ∙ is_made stands c.new.result c.args.node l es (c.link_of-link.ensures.link format m stands)
+    ap plan_of_node c.in_ok-new-2.ensures.ok
+    ∙ is_made stands c.new-2.result c.args.node l es (c.link_of-link.ensures.link format m stands)
     (own g at format m stands l es mst is) mst is
     (λ f p lies. c.matches.ensures.node f p
     (lies_still (ap g.R.Rows.content c.link_of-link.ensures.same) lies))
     c.if-matches.false
+
+-- ---- a tree in a gap is to be made
+
+pub returns-then-has_new_gap-clause-plan : goal.returns-then-has_new_gap-clause-plan
+returns-then-has_new_gap-clause-plan g c format m stands l es mst is =
+    ap plan_of_node c.in_ok-new.ensures.ok
+    ∙ nowhere stands c.args.node l es mst is (c.has_new_gap.ensures.new c.if-has_new_gap.true)
+
+-- ---- what the plan names
+
+pub returns-then-has_new_gap-clause-known : goal.returns-then-has_new_gap-clause-known
+returns-then-has_new_gap-clause-known g c = λ format whole known.
+    subst (λ n. AreKnown format whole (known_of_node n)) (sym c.in_ok-new.ensures.ok) known
+
+pub returns-then-matches-clause-known : goal.returns-then-matches-clause-known
+returns-then-matches-clause-known g c = λ format whole known. tt
+
+pub returns-clause-known : goal.returns-clause-known
+returns-clause-known g c = λ format whole known.
+    subst (λ n. AreKnown format whole (known_of_node n)) (sym c.in_ok-new-2.ensures.ok) known

@@ -4,9 +4,10 @@ use Rattle.std.proofs.lemmas.List.Sums.{count_by-le-length}
 use Rattle.mst_node.specs.Tree as tree
 use Rattle.mst_node.specs.Tree.{Tree}
 use Rattle.mst_arena.specs.Content.{Content}
-use Rattle.mst_arena.specs.Lives.{is_free}
+use Rattle.mst_arena.specs.Lives.{State, is_free}
 use Rattle.mst_arena.specs.Lists.{In, times}
 use Rattle.mst_arena.specs.Standing.{Placed}
+use Rattle.mst_arena.specs.declared.row.Root.{Root}
 use Rattle.mst_path.specs.Moves.{IsOld}
 use Rattle.mst_path.specs.Writing.{ahead}
 use Rattle.mst_path.proofs.lemmas.rows.CopyRows.{still_writable, blank_taken, blank_ahead, small_link, next_some}
@@ -15,16 +16,19 @@ use Rattle.mst_path.proofs.lemmas.trees.Made.{piece_alive}
 use Rattle.mst_batch.specs.declared.plan.PlanNode.{out-PlanNode}
 use Rattle.mst_batch.specs.declared.plan.PlanEntry.{out-PlanEntry}
 use Rattle.mst_batch.specs.declared.plan.PlanEntry.TheViews.{the_lemmas}
+use Rattle.mst_batch.specs.Known.{HasKnown, IsThere, known_of, known_of_node}
 use Rattle.mst_batch.specs.Plans.{PlanTree, PlannedEntry, kept, plan_of, plan_of_node, planned_entry, rows_planned, rows_kept, tree_planned, IsPlan}
 use Rattle.mst_batch.specs.Sowing.{Sown}
+use Rattle.mst_batch.proofs.KnownShapes.{child_known, tail_known, entry_told, there_from}
+use Rattle.mst_batch.proofs.KnownSowing.{has_known, still_known, sown_still}
 use Rattle.mst_batch.proofs.PlanShapes.{items, tail, list_rows, list_kept, plan_out, tree_with, kept_with, rows_ahead, rows_least, rows_last, node_rows, entries_more, take_all, some_entries, low_layer, kept_rows, whole_old, child_kept, child_links, child_stands, child_search, tail_links, tail_stands, tail_search}
 use Rattle.mst_batch.proofs.Sowings.{SownSoFar, kept_whole, begins, plan_later, head_in, next_in, entry_more, node_whole}
 use Rattle.mst_batch.proofs.sowing.+sow.Given.{Over}
 use Rattle.mst_batch.proofs.sowing.+sow.Goals.{sow_node-After-len, sow_node-After-entry-item, sow_node-After-loop-entry}
 use Rattle.mst_batch.proofs.sowing.+sow.Goals as goal
 
-pub sow-root_at-requires : goal.sow-root_at-requires
-sow-root_at-requires g t c =
+pub sow_plan-root_at-requires : goal.sow_plan-root_at-requires
+sow_plan-root_at-requires g t c =
     let p = c.requires.plan in
     let q = subst (λ (x : PlanTree). IsPlan c.args.format p.0 (g.R.Rows.content c.args.rows.now)
     c.args.desk.now x) (ap plan_of c.in-Kept.is) p.1 in
@@ -171,12 +175,41 @@ module _ (g : Over) (t : ℕ) (c : goal.sow_node-After-entry-item g t) where
         (child_search g.row.B.Denot c.args.node.now c.args.format at _ _ p c.loop-entry.entry-index
         c.entry-item.result inside item_is)
 
-pub sow_node-sow-child-requires : goal.sow_node-sow-child-requires
-sow_node-sow-child-requires g t c κs within =
+    module _ (k : HasKnown (g.R.Rows.content c.args.rows.now) c.args.desk.now
+        (known_of_node c.args.node.now)) where
+      child_is_known : HasKnown (g.R.Rows.content c.loop-entry.rows) c.loop-entry.desk
+          (known_of (out-PlanEntry g.row.B.Denot c.entry-item.result).child)
+      child_is_known = has_known k _ (still_known c.args.format at _ _ _ _ _ _
+          (c.loop-entry.invariant.so_far at p) k)
+          (child_known k.format k.whole g.row.B.Denot c.args.node.now k.each
+          c.loop-entry.entry-index c.entry-item.result inside item_is)
+
+      -- the entry that is to be copied stands, also after the plan before it is carried out
+      there : (content : Content) (now : State) (u : Tree) (root : Root) (given : List ℕ)
+          (count : ℕ) → Sown c.args.format (g.R.Rows.content c.loop-entry.rows) content
+          c.loop-entry.desk now u root given count
+          → IsThere content (
+            (out-PlanEntry g.row.B.Denot c.entry-item.result).key,
+            (out-PlanEntry g.row.B.Denot c.entry-item.result).value,
+          )
+          (out-PlanEntry g.row.B.Denot c.entry-item.result).origin
+      there content now u root given count q =
+          there_from k.format k.whole content (
+            (out-PlanEntry g.row.B.Denot c.entry-item.result).key,
+            (out-PlanEntry g.row.B.Denot c.entry-item.result).value,
+          )
+          (out-PlanEntry g.row.B.Denot c.entry-item.result).origin
+          (sown_still q k.whole (still_known c.args.format at _ _ _ _ _ _
+          (c.loop-entry.invariant.so_far at p) k)).rows
+          (entry_told k.format k.whole g.row.B.Denot c.args.node.now k.each
+          c.loop-entry.entry-index c.entry-item.result inside item_is)
+
+pub sow_node-sow_plan-child-requires : goal.sow_node-sow_plan-child-requires
+sow_node-sow_plan-child-requires g t c κs within =
     let at = c.requires.plan.0 in
     let p = c.requires.plan.1 in
     let s = c.loop-entry.invariant.so_far at p in
-    let here = (goal.at.sow_node-sow-child-requires g t c).After-entry-item in (
+    let here = (goal.at.sow_node-sow_plan-child-requires g t c).After-entry-item in (
       grind (arith, common_steps, the_lemmas),
       (
         search rules,
@@ -197,8 +230,11 @@ sow_node-sow-child-requires g t c κs within =
                   inside g t here,
                   ahead_rows g t here,
                 ),
-                still_writable _ _ _ _ _ _ s.moves c.loop-entry.invariant.beside.0
-                    c.requires.ready,
+                (
+                  still_writable _ _ _ _ _ _ s.moves c.loop-entry.invariant.beside.0
+                      c.requires.ready,
+                  λ yes. child_is_known g t here at p (c.requires.known yes),
+                ),
               ),
             ),
           ),
@@ -206,13 +242,13 @@ sow_node-sow-child-requires g t c κs within =
       ),
     )
 
-pub sow_node-entry-requires-clause-room : goal.sow_node-entry-requires-clause-room
-sow_node-entry-requires-clause-room g t c more =
+pub sow_node-write_entry-requires-clause-room : goal.sow_node-write_entry-requires-clause-room
+sow_node-write_entry-requires-clause-room g t c more =
     let at = c.requires.plan.0 in
     let p = c.requires.plan.1 in
     let s = c.loop-entry.invariant.so_far at p in
-    let here = (goal.at.sow_node-entry-requires-clause-room g t c).After-entry-item in
-    let q = c.sow-child.ensures.sown at (child_plan g t here at p) in
+    let here = (goal.at.sow_node-write_entry-requires-clause-room g t c).After-entry-item in
+    let q = c.sow_plan-child.ensures.sown at (child_plan g t here at p) in
     omega (
       arith,
       more,
@@ -228,41 +264,50 @@ sow_node-entry-requires-clause-room g t c more =
       ahead_rows g t here,
     )
 
-pub sow_node-entry-requires-clause-few : goal.sow_node-entry-requires-clause-few
-sow_node-entry-requires-clause-few g t c =
+pub sow_node-write_entry-requires-clause-few : goal.sow_node-write_entry-requires-clause-few
+sow_node-write_entry-requires-clause-few g t c =
     let at = c.requires.plan.0 in
     let p = c.requires.plan.1 in
     let s = c.loop-entry.invariant.so_far at p in
-    let here = (goal.at.sow_node-entry-requires-clause-few g t c).After-entry-item in
-    let q = c.sow-child.ensures.sown at (child_plan g t here at p) in
+    let here = (goal.at.sow_node-write_entry-requires-clause-few g t c).After-entry-item in
+    let q = c.sow_plan-child.ensures.sown at (child_plan g t here at p) in
     omega (arith, c.requires.ready.few, s.moves.rows, q.moves.rows)
 
-pub sow_node-entry-requires-clause-blank : goal.sow_node-entry-requires-clause-blank
-sow_node-entry-requires-clause-blank g t c =
+pub sow_node-write_entry-requires-clause-blank : goal.sow_node-write_entry-requires-clause-blank
+sow_node-write_entry-requires-clause-blank g t c =
     let at = c.requires.plan.0 in
     let p = c.requires.plan.1 in
     let s = c.loop-entry.invariant.so_far at p in
-    let here = (goal.at.sow_node-entry-requires-clause-blank g t c).After-entry-item in
+    let here = (goal.at.sow_node-write_entry-requires-clause-blank g t c).After-entry-item in
     let blank = g.R.Rows.blank c.args.rows.now in
-    let same = c.sow-child.ensures.beside.0 ∙ c.loop-entry.invariant.beside.0 in
+    let same = c.sow_plan-child.ensures.beside.0 ∙ c.loop-entry.invariant.beside.0 in
     subst (λ (b : ℕ → Bool). IfSome c.loop-entry.writer.next (λ r. IsTrue (b r))) (sym same)
     (blank_ahead c.loop-entry.writer blank
     (λ r i. blank_taken _ _ s.taken [] s.moves blank c.requires.ready.free r
     (next_in c.args.format at _ _ _ _ c.loop-entry.writer _ s (so_far_old g t here at p) r i)))
 
-pub sow_node-entry-requires-clause-child : goal.sow_node-entry-requires-clause-child
-sow_node-entry-requires-clause-child g t c =
+pub sow_node-write_entry-requires-clause-child : goal.sow_node-write_entry-requires-clause-child
+sow_node-write_entry-requires-clause-child g t c =
     let at = c.requires.plan.0 in
     let p = c.requires.plan.1 in
     let s = c.loop-entry.invariant.so_far at p in
-    let here = (goal.at.sow_node-entry-requires-clause-child g t c).After-entry-item in
-    let q = c.sow-child.ensures.sown at (child_plan g t here at p) in
+    let here = (goal.at.sow_node-write_entry-requires-clause-child g t c).After-entry-item in
+    let q = c.sow_plan-child.ensures.sown at (child_plan g t here at p) in
     omega (
       arith,
       q.root.link,
-      small_link c.sow-child.new.desk q.placed (piece_alive c.args.format q.piece)
+      small_link c.sow_plan-child.new.desk q.placed (piece_alive c.args.format q.piece)
           (omega (arith, c.requires.ready.few, s.moves.rows, q.moves.rows)),
     )
+
+pub sow_node-write_entry-requires-clause-there : goal.sow_node-write_entry-requires-clause-there
+sow_node-write_entry-requires-clause-there g t c =
+    let at = c.requires.plan.0 in
+    let p = c.requires.plan.1 in
+    let here = (goal.at.sow_node-write_entry-requires-clause-there g t c).After-entry-item in
+    let q = c.sow_plan-child.ensures.sown at (child_plan g t here at p) in
+    c.trusted-origin.ensures.there (g.R.Rows.content c.sow_plan-child.new.rows) _
+    (λ yes. there g t here at p (c.requires.known yes) _ _ _ _ _ _ q)
 
 pub sow_node-loop-entry-preserved : goal.sow_node-loop-entry-preserved
 sow_node-loop-entry-preserved g t c =
@@ -271,31 +316,33 @@ sow_node-loop-entry-preserved g t c =
     c.loop-entry.invariant.writer.reserved
     (omega (arith, c.loop-entry.invariant.left, inside g t here)) in
     record {
-      writer = c.entry.ensures.writer;
-      layer = c.entry.ensures.node.0 ∙ c.loop-entry.invariant.layer;
-      left = omega (arith, c.entry.ensures.node.2, c.loop-entry.invariant.left);
+      writer = c.write_entry.ensures.writer;
+      layer = c.write_entry.ensures.node.0 ∙ c.loop-entry.invariant.layer;
+      left = omega (arith, c.write_entry.ensures.node.2, c.loop-entry.invariant.left);
       beside = (
-        c.entry.ensures.beside.0 ∙ c.sow-child.ensures.beside.0
+        c.write_entry.ensures.beside.0 ∙ c.sow_plan-child.ensures.beside.0
             ∙ c.loop-entry.invariant.beside.0,
-        c.entry.ensures.beside.1 ∙ c.sow-child.ensures.beside.1
+        c.write_entry.ensures.beside.1 ∙ c.sow_plan-child.ensures.beside.1
             ∙ c.loop-entry.invariant.beside.1,
       );
       so_far = λ at p.
           let s = c.loop-entry.invariant.so_far at p in
-          let q = c.sow-child.ensures.sown at (child_plan g t here at p) in
+          let q = c.sow_plan-child.ensures.sown at (child_plan g t here at p) in
           subst (λ (xs : List PlannedEntry). SownSoFar c.args.format at c.args.desk.now
-          c.entry.new.desk (g.R.Rows.content c.args.rows.now) (g.R.Rows.content c.entry.new.rows)
-          c.entry.new.self xs)
+          c.write_entry.new.desk (g.R.Rows.content c.args.rows.now)
+          (g.R.Rows.content c.write_entry.new.rows)
+          c.write_entry.new.writer xs)
           (sym (entries_more g.row.B.Denot c.args.node.now c.loop-entry.entry-index
           c.entry-item.result (inside g t here) (item_is g t here)))
           (entry_more c.args.format at _ _ _ _ c.loop-entry.writer _ s (so_far_old g t here at p) _
-          _ _ _ _ _ q (child_old g t here at p) (child_once g t here at p) c.entry.new.desk
-          (g.R.Rows.content c.entry.new.rows) c.entry.new.self row.0 (record {
+          _ _ _ _ _ q (child_old g t here at p) (child_once g t here at p) c.write_entry.new.desk
+          (g.R.Rows.content c.write_entry.new.rows) c.write_entry.new.writer row.0 (record {
             child = plan_of (out-PlanEntry g.row.B.Denot c.entry-item.result).child;
             key = (out-PlanEntry g.row.B.Denot c.entry-item.result).key;
             value = (out-PlanEntry g.row.B.Denot c.entry-item.result).value;
-          }) refl refl refl row.1 c.entry.ensures.node.3 (c.entry.ensures.written c.args.format)
-          c.entry.ensures.takes c.entry.ensures.keeps);
+          }) refl refl refl row.1 c.write_entry.ensures.node.3
+          (c.write_entry.ensures.written c.args.format)
+          c.write_entry.ensures.takes c.write_entry.ensures.keeps);
     }
 
 -- ---- all entries are written
@@ -348,11 +395,19 @@ module _ (g : Over) (t : ℕ) (c : goal.sow_node-After-loop-entry g t) where
         (λ x. omega (arith, kept_rows g.row.B.Denot c.args.node.now c.args.format at _ _ p x))
         (tail_search g.row.B.Denot c.args.node.now c.args.format at _ _ p)
 
-pub sow_node-sow-tail-requires : goal.sow_node-sow-tail-requires
-sow_node-sow-tail-requires g t c κs within =
+    tail_is_known : HasKnown (g.R.Rows.content c.args.rows.now) c.args.desk.now
+        (known_of_node c.args.node.now)
+        → HasKnown (g.R.Rows.content c.loop-entry.rows) c.loop-entry.desk
+        (known_of (out-PlanNode g.row.B.Denot c.args.node.now).tail)
+    tail_is_known k = has_known k _ (still_known c.args.format at _ _ _ _ _ _
+        (c.loop-entry.invariant.so_far at p) k)
+        (tail_known k.format k.whole g.row.B.Denot c.args.node.now k.each)
+
+pub sow_node-sow_plan-tail-requires : goal.sow_node-sow_plan-tail-requires
+sow_node-sow_plan-tail-requires g t c κs within =
     let at = c.requires.plan.0 in
     let p = c.requires.plan.1 in
-    let behind = (goal.at.sow_node-sow-tail-requires g t c).After-loop-entry in
+    let behind = (goal.at.sow_node-sow_plan-tail-requires g t c).After-loop-entry in
     let s = so_far_whole g t behind at p in (
       search (rules, the_lemmas),
       (
@@ -372,8 +427,11 @@ sow_node-sow-tail-requires g t c κs within =
                   ap length (none_ahead g t behind),
                   rows_last g.row.B.Denot c.args.node.now,
                 ),
-                still_writable _ _ _ _ _ _ s.moves c.loop-entry.invariant.beside.0
-                    c.requires.ready,
+                (
+                  still_writable _ _ _ _ _ _ s.moves c.loop-entry.invariant.beside.0
+                      c.requires.ready,
+                  λ yes. tail_is_known g t behind at p (c.requires.known yes),
+                ),
               ),
             ),
           ),
@@ -388,7 +446,7 @@ sow_node-finish-requires-clause-blank g t c =
     let behind = (goal.at.sow_node-finish-requires-clause-blank g t c).After-loop-entry in
     let s = so_far_whole g t behind at p in
     let blank = g.R.Rows.blank c.args.rows.now in
-    let same = c.sow-tail.ensures.beside.0 ∙ c.loop-entry.invariant.beside.0 in
+    let same = c.sow_plan-tail.ensures.beside.0 ∙ c.loop-entry.invariant.beside.0 in
     subst (λ (b : ℕ → Bool). IsTrue (b c.loop-entry.writer.head)) (sym same)
     (blank_taken _ _ s.taken [] s.moves blank c.requires.ready.free c.loop-entry.writer.head
     (head_in c.args.format at _ _ _ _ c.loop-entry.writer _ s (all_old g t behind at p)))
@@ -399,11 +457,11 @@ sow_node-finish-requires-clause-tail g t c =
     let p = c.requires.plan.1 in
     let behind = (goal.at.sow_node-finish-requires-clause-tail g t c).After-loop-entry in
     let s = so_far_whole g t behind at p in
-    let q = c.sow-tail.ensures.sown at (tail_plan g t behind at p) in
+    let q = c.sow_plan-tail.ensures.sown at (tail_plan g t behind at p) in
     omega (
       arith,
       q.root.link,
-      small_link c.sow-tail.new.desk q.placed (piece_alive c.args.format q.piece)
+      small_link c.sow_plan-tail.new.desk q.placed (piece_alive c.args.format q.piece)
           (omega (arith, c.requires.ready.few, s.moves.rows, q.moves.rows)),
     )
 
@@ -413,11 +471,11 @@ sow_node-returns-clause-sown g t c = λ at p.
     let n = c.args.node.now in
     let behind = (goal.at.sow_node-returns-clause-sown g t c).After-loop-entry in
     let s = so_far_whole g t behind at p in
-    let q = c.sow-tail.ensures.sown at (tail_plan g t behind at p) in
+    let q = c.sow_plan-tail.ensures.sown at (tail_plan g t behind at p) in
     let none = none_ahead g t behind in
     let sown : Tree → Type 0 =
     λ u. Sown c.args.format (g.R.Rows.content c.args.rows.now)
-    (g.R.Rows.content c.finish.new.rows) c.args.desk.now c.sow-tail.new.desk u c.finish.result
+    (g.R.Rows.content c.finish.new.rows) c.args.desk.now c.sow_plan-tail.new.desk u c.finish.result
     (rows_kept at (plan_of_node n)) (rows_planned (plan_of_node n)) in
     let made = node_whole c.args.format at _ _ _ _ c.loop-entry.writer _ s (all_old g t behind at p)
     _ _ _ _ _ _ q (tail_old g t behind at p)
@@ -441,8 +499,8 @@ sow_node-returns-clause-sown g t c = λ at p.
 
 -- ---- a tree that is kept
 
-pub sow-returns-in-Kept-clause-sown : goal.sow-returns-in-Kept-clause-sown
-sow-returns-in-Kept-clause-sown g t c = λ at p.
+pub sow_plan-returns-in-Kept-clause-sown : goal.sow_plan-returns-in-Kept-clause-sown
+sow_plan-returns-in-Kept-clause-sown g t c = λ at p.
     let content = g.R.Rows.content c.args.rows.now in
     let is : plan_of c.args.plan.now ≡ kept c.in-Kept.link = ap plan_of c.in-Kept.is in
     let q = subst (IsPlan c.args.format at content c.args.desk.now) is p in

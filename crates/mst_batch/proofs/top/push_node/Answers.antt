@@ -1,9 +1,6 @@
-use Rattle.std.proofs.Common.{ℕ, ◌-◌, ◌++◌, ◌∷◌, [], ◌∙◌, ap, arith}
+use Rattle.std.proofs.Common.{◌∙◌, ap, arith}
 use Rattle.std.proofs.lemmas.Result.{on_ok_weaker}
-use Rattle.mst_arena.specs.Row.{entry_value}
-use Rattle.mst_read.proofs.Still.{read_before}
 use Rattle.mst_read.proofs.Walk.{at_cell, at_end, child_lies, tail_lies}
-use Rattle.mst_batch.specs.declared.items.Item.TheVariants as item
 use Rattle.mst_batch.proofs.NodeItems.{begins, goes_on}
 use Rattle.mst_batch.proofs.top.push_node.Goals as goal
 
@@ -33,18 +30,14 @@ pub loop-preserved : goal.loop-preserved
 loop-preserved g c =
     let still = c.entry-entry.ensures.same ∙ c.loop.invariant.same in
     record {
-      same = c.value.ensures.same ∙ c.push_tree.ensures.same ∙ still;
+      same = c.push_tree.ensures.same ∙ still;
       onward = λ format p lies.
           let a = at_cell (c.loop.invariant.onward format p lies) c.loop-test.true
           (ap g.R.Rows.content c.loop.invariant.same) c.entry-entry.ensures.value in
           goes_on c.head-head.result.layer c.loop.items.items _ a c.push_tree.new.items.items
-          c.push.new.self.items c.value.result
+          c.push.new.self.items
           (c.in_ok-push_tree.ensures.items format a.child
-          (child_lies a (ap g.R.Rows.content still))) (c.in_ok-push.ensures.items
-          ∙ ap (λ (n : ℕ). c.push_tree.new.items.items
-          ++ item.Pair c.entry-entry.result.key c.value.result n ∷ []) c.new-place.ensures.layer)
-          (read_before (ap g.R.Rows.content (c.push_tree.ensures.same ∙ still)) entry_value
-          (c.loop.next - 1) c.value.ensures.value);
+          (child_lies a (ap g.R.Rows.content still))) c.in_ok-push.ensures.items;
     }
 
 pub push_tree-requires-2 : goal.push_tree-requires-2
