@@ -20,7 +20,7 @@ use Rattle.mst_sharded_proof.specs.Shards.{Shard, least, bound_text, shards as s
 use Rattle.mst_shards.specs.Entries.{shard_at}
 use Rattle.mst_shards.specs.Sharding.{AllStep}
 use Rattle.mst_blocks.specs.Blocks.{listed_part, listed_parts, AddsBatch, AddsPart, AllAdd, MakesBlock, MakesNothing, LeavesAll, RefusesPart, RefusedAt, RefusesListing}
-use Rattle.mst_blocks.specs.Staging.{PreparesNext, Staged, AllStaged, published_stage, canceled_stage, listed_stage, listed_stages}
+use Rattle.mst_blocks.specs.Staging.{PreparesNext, Staged, AllStaged, IsStaged, published_stage, canceled_stage, listed_stage, listed_stages}
 use Rattle.mst_blocks.specs.declared.faults.PartFault.{PartFault}
 use Rattle.mst_blocks.specs.declared.faults.PartFault.TheVariants as part_fault
 use Rattle.mst_blocks.specs.declared.blocks.Stage.{Stage}
@@ -293,6 +293,16 @@ pub block_left : {A B : Type 0} (ps qs : List Known) (ts : List (Stage A B)) (d 
     → MakesNothing d e → LeavesAll ps qs d e
 block_left ps qs ts d e all is last =
     record { shards = subst (AllStep MakesNothing ps) (sym is) all; directory = last }
+
+-- a shard that was refused its part stopped the block
+pub stage_stopped : {A B : Type 0} (stopped : Option (ℕ × PartFault)) (place : ℕ)
+    (fault : PartFault) (parts : List (List Edit)) (ps qs : List Known) (ts : List (Stage A B))
+    → IsStaged stopped parts ps ts → stopped ≡ Some (place, fault) → qs ≡ map canceled_stage ts
+    → RefusedAt place fault parts ps qs
+stage_stopped stopped place fault parts ps qs ts staged is left =
+    subst (λ (xs : List Known). RefusedAt place fault parts ps xs) (sym left)
+    (subst (λ (o : Option (ℕ × PartFault)).
+    IfSome o (λ s. RefusedAt s.0 s.1 parts ps (map canceled_stage ts))) is staged.refused)
 
 -- ---- a list that is taken one by one
 

@@ -16,7 +16,7 @@ use Rattle.mst_blocks.specs.Writing.{HasSeenLast, IsWriter, IsWriterOf, IsLastRo
 use Rattle.mst_blocks.proofs.Blocked.{just_made, made_more_blocks, made_same_blocks, rooted_now, rooted_still}
 use Rattle.mst_blocks.specs.declared.faults.BlockFault.{BlockFault}
 
-abbrev store : Known → StoreId
+abbrev pub store : Known → StoreId
 store p = p.store
 
 part_store : (part : List Edit) (p q : Known) → AddsPart part p q → q.store ≡ p.store
@@ -67,7 +67,8 @@ if_err P R (Err fault) left why f = f left fault why
 
 -- ---- a writer that is lifted, and laid down
 
-lifted_as : (splits sp : List (List ℕ)) (ps lifted : List Known) (d listing : Known) → sp ≡ splits
+pub lifted_as : (splits sp : List (List ℕ)) (ps lifted : List Known) (d listing : Known)
+    → sp ≡ splits
     → lifted ≡ ps → listing ≡ d → whole sp lifted listing ≡ whole splits ps d
 lifted_as splits sp ps lifted d listing same as_ps as_d =
     ap (λ (s : List (List ℕ)). whole s lifted listing) same

@@ -1,5 +1,5 @@
 -- A writer that has read one key: the pass of its shard has looked, and was laid down again.
-use Rattle.std.proofs.Common.{◌≡◌, ◌≢◌, ℕ, ◌+◌, ◌<◌, ◌≤◌, List, [], ◌∷◌, ◌++◌, length, map, set, get_or, slice_index_or, refl, sym, ap, ◌∙◌, subst, arith}
+use Rattle.std.proofs.Common.{◌≡◌, ℕ, ◌+◌, ◌<◌, ◌≤◌, List, [], ◌∷◌, ◌++◌, length, map, set, get_or, slice_index_or, refl, sym, ap, ◌∙◌, subst, arith}
 use Rattle.std.specs.List.{swap_remove, SwappedAt}
 use Rattle.std.proofs.lemmas.List.{length-append, length-map, take_all, get_or-map}
 use Rattle.std.proofs.lemmas.List.Elements.{All-from_recursion}
@@ -14,14 +14,13 @@ use Rattle.mst_key.proofs.HistoryLaws.{IsPrefix-length}
 use Rattle.mst_store.specs.Passes.{Known, Looks, StoreId}
 use Rattle.mst_shards.specs.BlockHistory.{whole}
 use Rattle.mst_shards.specs.Laid.{AreOf}
-use Rattle.mst_shards.specs.Opening.{Shards}
 use Rattle.mst_shards.specs.Sharding.{place, sharding, AllStep, IsSharding, Routes}
 use Rattle.mst_shards.proofs.Moved.{read_any, put_back}
 use Rattle.mst_shards.proofs.Nexts.{routed_get, map_here}
 use Rattle.mst_shards.proofs.Stepping.{one_steps}
 use Rattle.mst_blocks.specs.Blocks.{last_made, MakesNothing, LeavesAll}
-use Rattle.mst_blocks.specs.Writing.{at_last, block_map, HasSeenLast, IsWriter, IsWriterOf}
-use Rattle.mst_blocks.proofs.Blocked.{writes_still, writer_count}
+use Rattle.mst_blocks.specs.Writing.{at_last, block_map, HasSeenLast, IsWriter}
+use Rattle.mst_blocks.proofs.Blocked.{writer_count}
 use Rattle.mst_blocks.proofs.Committing.{looks_nothing, same_nothing}
 
 pub writer_sharding : (splits : List (List ℕ)) (ps : List Known) (d : Known)

@@ -1,3 +1,4 @@
 pub mod Blocks
+pub mod Origins
 pub mod Staging
 pub mod Writing

@@ -1,5 +1,5 @@
 -- The shards while a block is made: what each has prepared.
-use Rattle.std.specs.Prelude.{◌≡◌, ◌≤◌, List, [], ◌∷◌, ◌++◌, length}
+use Rattle.std.specs.Prelude.{◌≡◌, ◌≤◌, ℕ, List, [], ◌∷◌, ◌++◌, map, length, Option, Result, IfSome, IsNone, OnOk, OnErr, IfErr}
 use Rattle.mst_key.specs.declared.history.Edit.{Edit}
 use Rattle.mst_key.specs.declared.history.Edit.TheVariants.{Put}
 use Rattle.mst_key.specs.History.{after, batched}
@@ -8,7 +8,10 @@ use Rattle.mst_node.specs.Text.{root as root_of}
 use Rattle.mst_store.specs.Passes.{Known, format_seen, most_rows}
 use Rattle.mst_store.specs.Preparing.{Waiting, Prepares, published}
 use Rattle.mst_sharded_proof.specs.Shards.{Shard, bound_text}
-use Rattle.mst_blocks.specs.Blocks.{last_made}
+use Rattle.mst_shards.specs.Sharding.{AllStep}
+use Rattle.mst_blocks.specs.Blocks.{last_made, MakesBlock, MakesNothing, LeavesAll, RefusedAt, RefusesParts}
+use Rattle.mst_blocks.specs.declared.faults.BlockFault.{BlockFault}
+use Rattle.mst_blocks.specs.declared.faults.PartFault.{PartFault}
 use Rattle.mst_blocks.specs.declared.blocks.Stage.{Stage}
 use Rattle.mst_blocks.specs.declared.blocks.Stage.TheVariants.{Idle, Ready}
 
@@ -57,3 +60,19 @@ abbrev pub listed_stages : {A B : Type 0} → List Shard → List (Stage A B) �
 listed_stages [] stages = []
 listed_stages (s ∷ shards) [] = []
 listed_stages (s ∷ shards) (t ∷ stages) = listed_stage s t ++ listed_stages shards stages
+
+-- Each shard has prepared its part; or one was refused it, this one with this fault. The passes
+-- have made nothing so far
+pub record IsStaged {A B : Type 0} (stopped : Option (ℕ × PartFault)) (parts : List (List Edit))
+    (ps : List Known) (stages : List (Stage A B)) : Type 0 where
+  pub all : IsNone stopped → AllStaged parts ps stages
+  pub refused : IfSome stopped
+      (λ s. RefusedAt s.0 s.1 parts ps (map canceled_stage stages))
+  pub left : AllStep MakesNothing ps (map canceled_stage stages)
+
+-- What came of the block: it is made whole, or nothing of it is, for a reason
+pub record Concludes {D : Type 0} (splits : List (List ℕ)) (parts : List (List Edit))
+    (ps qs : List Known) (d e : Known) (told : Result D BlockFault) : Type 0 where
+  pub ok : OnOk told (MakesBlock splits parts ps qs d e)
+  pub err : OnErr told (LeavesAll ps qs d e)
+  pub why : IfErr told (λ fault. RefusesParts fault splits parts ps qs d e)

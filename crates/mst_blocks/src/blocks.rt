@@ -3,15 +3,16 @@
 //! Each shard makes its part in free rows and hashes it (`Pass::prepare`). If one of them, or the
 //! directory, is refused, all is taken back. Otherwise all are published, one swap after the other,
 //! and the directory last.
-ghost use Rattle.std.specs.Prelude.{◌≡◌, ◌≢◌, ◌≤◌, ◌<◌, ◌+◌, ◌++◌, [], map, length, vec_len, vec_capacity, Some, IfOk, IfErr, OnOk, OnErr, IfNone, IfSome, IsNone, IsSome};
+ghost use Rattle.std.specs.Prelude.{◌≡◌, ◌≢◌, ◌≤◌, ◌<◌, ◌+◌, ◌++◌, List, [], map, length, vec_len, vec_capacity, Some, IfOk, IfErr, OnOk, OnErr, IfNone, IfSome, IsNone, IsSome};
+ghost use Rattle.mst_key.specs.declared.history.Edit.{Edit};
 ghost use Rattle.mst_key.specs.History.{after};
 ghost use Rattle.mst_node.specs.Text.{root as root_of};
-ghost use Rattle.mst_store.specs.Passes.{format_seen};
+ghost use Rattle.mst_store.specs.Passes.{Known, format_seen};
 ghost use Rattle.mst_sharded_proof.specs.Shards.{shards as shards_at};
 ghost use Rattle.mst_shards.specs.Sharding.{AllStep};
 ghost use Rattle.mst_shards.specs.Entries.{shard_at};
 ghost use Rattle.mst_blocks.specs.Blocks.{last_made, MakesBlock, MakesNothing, LeavesAll, RefusesPart, RefusedAt, RefusesParts};
-ghost use Rattle.mst_blocks.specs.Staging.{PreparesNext, Staged, AllStaged, published_stage, canceled_stage, listed_stage, listed_stages};
+ghost use Rattle.mst_blocks.specs.Staging.{PreparesNext, Staged, AllStaged, IsStaged, Concludes, published_stage, canceled_stage, listed_stage, listed_stages};
 
 use crate::faults::{BlockFault, PartFault};
 use mst_key::{Edit, Key, Memory};
@@ -115,7 +116,7 @@ fn stage_one<'a, A: Allocator + Copy, B: Allocator, C: Allocator + Copy>(
 }
 
 // Prepares the part of the next shard, unless one before it was refused.
-fn stage_next<'a, A: Allocator + Copy, B: Allocator, C: Allocator + Copy>(
+pub(crate) fn stage_next<'a, A: Allocator + Copy, B: Allocator, C: Allocator + Copy>(
     alloc: C,
     pass: Pass<'a, A>,
     part: Part<B>,
@@ -271,6 +272,55 @@ fn list_stages<'a, A: Allocator + Copy, B: Allocator, C: Allocator>(
     Ok(edits)
 }
 
+// Makes a block of what its shards have prepared: the directory lists their new root digests, and
+// all are published, the directory last. If a shard was refused its part, or the directory is
+// refused these edits, all is taken back. Returns the directory's new root digest.
+pub(crate) fn conclude<'a, A: Allocator + Copy, B: Allocator, C: Allocator, D: Allocator + Copy>(
+    alloc: D,
+    splits: &[Key],
+    stages: Vec<Stage<'a, A, B>, C>,
+    stopped: Option<(usize, PartFault)>,
+    directory: Pass<'a, A>,
+    room: Vec<Pass<'a, A>, C>,
+) -> (
+    Vec<Pass<'a, A>, C>,
+    Pass<'a, A>,
+    Result<[u8; 32], BlockFault>,
+)
+    requires shards { vec_len stages ≡ length splits.now + 1 }
+    requires empty { room.items ≡ [] }
+    requires fits { vec_len stages ≤ vec_capacity room }
+    // whatever the parts were, and what the passes knew before
+    ensures concludes { (parts : List (List Edit)) (ps : List Known)
+        → IsStaged stopped parts ps stages.entry.items
+        → Concludes splits.now parts ps result.0.items directory.entry result.1 result.2 }
+    ensures root { IfOk result.2
+        (λ digest. digest ≡ root_of (format_seen result.1) (after result.1.seen)) }
+{
+    if let Some((place, fault)) = stopped {
+        let passes = cancel_all(stages, room);
+        return (passes, directory, Err(BlockFault::Shard(place, fault)));
+    }
+    let edits = match list_stages(alloc, splits, stages.as_slice()) {
+        Ok(edits) => edits,
+        Err(refused) => {
+            let passes = cancel_all(stages, room);
+            return (passes, directory, Err(BlockFault::Memory(refused)));
+        }
+    };
+    match prepare_next(alloc, directory, edits) {
+        Ok(listing) => {
+            let digest = listing.root();
+            let passes = publish_all(stages, room);
+            (passes, listing.publish(), Ok(digest))
+        }
+        Err((fault, directory)) => {
+            let passes = cancel_all(stages, room);
+            (passes, directory, Err(BlockFault::Directory(fault)))
+        }
+    }
+}
+
 /// Makes a block: each shard its part, and the directory lists the new root digests. If a shard or
 /// the directory is refused, or was written by another since its pass wrote last, nothing at all is
 /// made. A shard without edits makes no step.
@@ -303,26 +353,5 @@ pub(crate) fn commit<'a, A: Allocator + Copy, B: Allocator, C: Allocator, D: All
         passes.entry.items result.0.items directory.entry result.1) }
 {
     let (stages, room, stopped) = prepare_all(alloc, passes, parts, room);
-    if let Some((place, fault)) = stopped {
-        let passes = cancel_all(stages, room);
-        return (passes, directory, Err(BlockFault::Shard(place, fault)));
-    }
-    let edits = match list_stages(alloc, splits, stages.as_slice()) {
-        Ok(edits) => edits,
-        Err(refused) => {
-            let passes = cancel_all(stages, room);
-            return (passes, directory, Err(BlockFault::Memory(refused)));
-        }
-    };
-    match prepare_next(alloc, directory, edits) {
-        Ok(listing) => {
-            let digest = listing.root();
-            let passes = publish_all(stages, room);
-            (passes, listing.publish(), Ok(digest))
-        }
-        Err((fault, directory)) => {
-            let passes = cancel_all(stages, room);
-            (passes, directory, Err(BlockFault::Directory(fault)))
-        }
-    }
+    conclude(alloc, splits, stages, stopped, directory, room)
 }

@@ -10,6 +10,14 @@
 //! let (writer, made) = writer.apply(rt.alloc(), &edits);  // Ok(1): made whole, in both shards
 //! ```
 //!
+//! A block may be made in parts, each prepared by itself:
+//!
+//! ```
+//! let (block, parts) = writer.begin(rt.alloc(), &edits)?;    // a part for each shard
+//! let parts = prepared(parts);                               // any of them, by BlockPart::prepare
+//! let (writer, made) = block.commit(rt.alloc(), parts);      // as by apply
+//! ```
+//!
 //! Each shard makes its part in free rows and hashes it. If one of them, or the directory, is
 //! refused, all is taken back, and nothing has changed. Otherwise all are published, one swap after
 //! the other, and the directory last: so a reader that pins the directory first, and then finds
@@ -17,13 +25,19 @@
 #![tactic(auto)]
 
 mod beginning;
+mod block;
 mod blocks;
 mod chains;
+mod dealing;
 mod faults;
+mod finishing;
 mod making;
+mod part;
 mod parting;
 mod writer;
 
+pub use block::Block;
 pub use chains::{block_laws, snapshot_laws, writer_laws};
 pub use faults::{BlockFault, Overtaken, PartFault};
+pub use part::BlockPart;
 pub use writer::Writer;

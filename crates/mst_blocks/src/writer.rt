@@ -36,11 +36,11 @@ use std::sync::Arc;
 /// of that shard is refused.
 #[derive(Drop)]
 pub struct Writer<A: Allocator + Copy> {
-    map: Arc<Sharded<A>, A>,
-    passes: Vec<Laid<A>, A>,
-    directory: Laid<A>,
+    pub(crate) map: Arc<Sharded<A>, A>,
+    pub(crate) passes: Vec<Laid<A>, A>,
+    pub(crate) directory: Laid<A>,
     // the root digest of the last block
-    root: [u8; 32],
+    pub(crate) root: [u8; 32],
 }
 
 /// Contracts see the splits, what is known of the pass of each shard, and of that of the directory.
@@ -94,6 +94,7 @@ fn get_last<'a, A: Allocator + Copy>(
     key: &Key,
 ) -> (Pass<'a, A>, Result<Option<Value>, Overtaken>)
     ensures looks { Looks pass.entry result.0 }
+    ensures once { result.0.asked ≡ pass.entry.asked + 1 }
     ensures found { IfOk result.1 (λ found. (length result.0.seen ≡ last_made pass.entry)
         × (found ≡ map_get (after result.0.seen) key.now)) }
     ensures other { IsErr result.1 → length result.0.seen ≢ last_made pass.entry }
@@ -182,6 +183,9 @@ impl<A: Allocator + Copy> Writer<A> {
         ensures overtaken { IsErr result → Routes key.now
             (λ p q. Looks p q × (length q.seen ≢ last_made p)) self.old.sharding
             self.new.sharding }
+        ensures once { Routes key.now (λ p q. q.asked ≡ p.asked + 1) self.old.sharding
+            self.new.sharding }
+        ensures directory { self.new.directory ≡ self.old.directory }
         ensures map { block_map self.new ≡ block_map self.old }
         ensures left { LeavesAll self.old.sharding.shards self.new.sharding.shards
             self.old.directory self.new.directory }

@@ -1,5 +1,6 @@
 //! Tests of blocks of a sharded map and of snapshots of them, of what no other language sees: texts
-//! of refusals, proofs, threads that take snapshots while blocks are published, shares of a map.
+//! of refusals, proofs, threads that take snapshots while blocks are published, blocks whose parts
+//! are prepared in threads, shares of a map.
 //! Blocks at random, refused growths, full shards and root digests of equal content are tested in C
 //! (`tests/store/blocks_walk.c`, `blocks_nomem.c`, `blocks_full.c`).
 #![tactic(auto)]
@@ -12,6 +13,8 @@ mod comparing;
 mod edits;
 #[cfg(test)]
 mod maps;
+#[cfg(test)]
+mod parts;
 #[cfg(test)]
 mod plain;
 #[cfg(test)]

@@ -39,16 +39,23 @@ fn proofs_show_the_answers_of_a_block(rt: HostRuntime) {
     prove_in(&rt, Format::Two);
 }
 
+/// Confirms an audit of the directory of a snapshot in a format.
+fn audit_in(rt: &(impl Abort + AllocGlobal), format: Format) {
+    let alloc = rt.alloc();
+    let (writer, reader) = opened(rt, 64, format);
+    let (_writer, told) = writer.apply(alloc, &[put(rt, b"m", 1)]);
+    confirm(rt, told == Ok(1), "the block is made");
+    let mut snapshot = taken(rt, reader);
+    let root = snapshot.root();
+    let pairs = snapshot.directory(alloc).expect(rt, "memory");
+    let audited = audit_directory(format, &root, pairs.as_slice());
+    confirm(rt, audited.is_ok(), "the directory is audited");
+    confirm(rt, pairs.len() == snapshot.shards(), "each shard is listed");
+    let _reader = snapshot.release();
+}
+
 #[test]
 fn the_directory_has_the_root_digest(rt: HostRuntime) {
-    let alloc = rt.alloc();
-    let (writer, reader) = opened(&rt, 64, Format::One);
-    let (_writer, told) = writer.apply(alloc, &[put(&rt, b"m", 1)]);
-    confirm(&rt, told == Ok(1), "the block is made");
-    let mut snapshot = taken(&rt, reader);
-    let root = snapshot.root();
-    let pairs = snapshot.directory(alloc).expect(&rt, "memory");
-    let audited = audit_directory(Format::One, &root, pairs.as_slice());
-    confirm(&rt, audited.is_ok(), "the directory is audited");
-    let _reader = snapshot.release();
+    audit_in(&rt, Format::One);
+    audit_in(&rt, Format::Two);
 }

@@ -1,4 +1,4 @@
-use Rattle.std.proofs.Common.{◌≡◌, ◌≢◌, ◌≤◌, ℕ, List, length, set, vec_items, vec_len, rules, sym, ap, subst, ◌∙◌}
+use Rattle.std.proofs.Common.{◌≡◌, ◌≢◌, ◌≤◌, ◌+◌, ℕ, List, length, set, vec_items, vec_len, rules, sym, ap, subst, ◌∙◌}
 use Rattle.std.specs.Arc.{arc_value}
 use Rattle.mst_key.specs.History.{after}
 use Rattle.mst_key.specs.Map.{map_get}
@@ -91,6 +91,17 @@ returns-clause-overtaken g c err =
     c.lift_at-pass.result c.get_last-pass.result.0 c.self.invariant.0.writer (within g c)
     c.lift_at-pass.ensures.pass (now g c) c.get_last-pass.ensures.looks k step (at g c)
     (c.get_last-pass.ensures.looks, c.get_last-pass.ensures.other err))
+
+pub returns-clause-once : goal.returns-clause-once
+returns-clause-once g c =
+    let k : List ℕ = c.args.key.now in
+    let zs : List Known = vec_items c.lay_at.new.laid in
+    let step : Known → Known → Type 0 = λ x y. y.asked ≡ x.asked + 1 in
+    subst (λ (w : Whole). Routes k step w.sharding (sharding (splits g c) zs)) c.self.view_is
+    (routed (splits g c) (ps g c) zs c.self.inside.directory c.place_of-place.result
+    c.lift_at-pass.result c.get_last-pass.result.0 c.self.invariant.0.writer (within g c)
+    c.lift_at-pass.ensures.pass (now g c) c.get_last-pass.ensures.looks k step (at g c)
+    c.get_last-pass.ensures.once)
 
 pub returns-clause-map : goal.returns-clause-map
 returns-clause-map g c =
