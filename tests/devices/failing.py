@@ -49,7 +49,7 @@ PINS = Work("run --rows 5 --passes 4", [
     (b"1 unpin\n", b"unpinned\n"), (b"1 get 61\n", b"some 32\n"), (b"2 rows\n", b"rows 2\n")])
 
 SHARDS = Work("run --splits 1c --passes 3", [
-    (b"1 put 11 31\n", b"none\n"), (b"2 put 1f 32\n", b"none\n"), (b"1 pin\n", b"pinned\n"),
+    (b"1 put 11 31\n", b"none\n"), (b"2 put 1f 32\n", b"none\n"), (b"1 pin\n", b"pinned 2\n"),
     (b"2 del 11\n", b"some 31\n"), (b"1 range - - 9\n", b"pairs 2\npair 11 31\npair 1f 32\n"),
     (b"1 unpin\n", b"unpinned\n"), (b"3 get 1f", b"some 32\n")])
 

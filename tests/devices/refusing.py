@@ -78,7 +78,6 @@ def load_of(calls):
 
 STARTS = [
     Refusals("run --rows 4 --passes 4", SCRIPT.given, SCRIPT.out),
-    Refusals("run --rows 4 --passes 4 --splits 61,62", SCRIPT.given, SCRIPT.out),
     Refusals("replay", EVENTS.given, EVENTS.out),
     Refusals(f"verify {NONE} 62", b"0" * 40_000, b"P1\n", status=PROOF_REFUSED),
     load_of(3),
@@ -143,66 +142,122 @@ def of_reads_under_a_pin():
 
 # ---- lines of scripts over shards
 
+
+class Map:
+    """A sharded map, and what it answers to lines that are refused memory, and to others."""
+
+    def __init__(self, splits):
+        self.splits, self.known, self.format = splits, {}, 1
+        # of each pass that pins: the pairs and the format
+        self.pinned = {}
+
+    def edit(self, fields):
+        """Makes the edits that these fields are, and returns the last value that was there."""
+        fields, old = list(fields), None
+        while fields:
+            name, key = fields.pop(0), bytes.fromhex(fields.pop(0))
+            old = self.known.pop(key, None)
+            if name == "put":
+                self.known[key] = bytes.fromhex(fields.pop(0).replace("-", ""))
+        return old
+
+    def write(self, fields, refused):
+        if refused:
+            return "memory"
+        if fields[0] == "migrate":
+            was, self.format = self.format, int(fields[1])
+            return f"was {was}"
+        if fields[0] == "batch":
+            self.edit(fields[1:])
+            return "done"
+        return told(self.edit(fields))
+
+    def pin(self, number):
+        self.pinned[number] = dict(self.known), self.format
+        # the scripts pin after one version
+        return "pinned 1" if self.known else "pinned 0"
+
+    def unpin(self, number):
+        del self.pinned[number]
+        return "unpinned"
+
+    def read(self, number, fields, refused):
+        """A lookup, a root digest and a format take no memory, and no list of no pairs does."""
+        known, format = self.pinned.get(number, (self.known, self.format))
+        model = sharding.split(format, known, self.splits)
+        if refused and (fields[0] == "prove" or fields[0] == "range" and known):
+            return "memory"
+        pairs = [f"pair {key.hex()} {known[key].hex()}" for key in sorted(known)]
+        found = {"range": lambda: "\n".join([f"pairs {len(pairs)}", *pairs]),
+                 "root": lambda: model.root.hex(), "format": lambda: f"format {format}",
+                 "get": lambda: told(known.get(bytes.fromhex(fields[1]))),
+                 "prove": lambda: model.proof(bytes.fromhex(fields[1])).hex()}
+        return found[fields[0]]()
+
+    def answer(self, line, refused):
+        number, *fields = line.split(" ")
+        if fields[0] in ("pin", "unpin"):
+            return getattr(self, fields[0])(number)
+        if fields[0] in ("put", "del", "batch", "migrate"):
+            return self.write(fields, refused)
+        return self.read(number, fields, refused)
+
+
+def told(value):
+    return "none" if value is None else f"some {value.hex() or '-'}"
+
+
+def over_shards(words, splits, lines):
+    """The answers with ample memory, those where one line is refused it, and those where all from
+    one on are."""
+    refusals = [(place, end) for place in range(len(lines))
+                for end in (place + 1, len(lines))]
+    answers = []
+    for first, end in [(0, 0), *refusals]:
+        it = Map(splits)
+        told = lines_of(*(it.answer(line, first <= place < end)
+                          for place, line in enumerate(lines)))
+        answers += [] if told in answers else [told]
+    return Refusals(words, lines_of(*lines), answers[0], answers[1:])
+
+
 SPLIT = b"\x1c"
 SHARDS = f"run --rows 32 --passes 3 --splits {SPLIT.hex()}"
 # The second shard has more keys than the first one, so that it takes more memory to migrate.
 HELD = {b"\x11": b"1", b"\x1c": b"2", b"\x1d": b"3", b"\x1e": b"4", b"\x1f": b"5", b"\x20": b"6",
         b"\x21": b"7"}
-MAP = sharding.split(1, HELD, [SPLIT])
-PAIRS = [f"pair {key.hex()} {value.hex()}" for key, value in HELD.items()]
-# Lines, their answers, and those if memory is refused: of a batch to the list of its edits, or to
-# the shard that has more of them, for a shard with one edit takes none.
-REFUSED = [
-    ("1 range - - 9", "1 get 11", ["pairs 7", *PAIRS, "some 31"], ["memory", "some 31"]),
-    # asked again with no change between, the root digest takes none
-    ("1 root", "1 root", "1 get 11", [*[MAP.root.hex()] * 2, "some 31"],
-     ["memory", "memory", "some 31"], ["memory", MAP.root.hex(), "some 31"]),
-    ("2 prove 11", "1 get 11", [MAP.proof(b"\x11").hex(), "some 31"], ["memory", "some 31"]),
-    ("3 batch put 11 38 put 12 39 put 13 - put 1f 3a", "1 get 11", "1 get 1f",
-     ["done", "some 38", "some 3a"], ["memory", "some 31", "some 35"],
-     ["shard 0 memory", "some 31", "some 35"]),
-    ("3 batch put 11 38 put 1f 39 put 1e - put 1d -", "1 get 11", "1 get 1f",
-     ["done", "some 38", "some 39"], ["memory", "some 31", "some 35"],
-     ["shard 1 memory", "some 38", "some 35"]),
-    ("1 migrate 2", "2 format", ["was 1", "format 2"], ["shard 0 memory", "format 1"],
-     ["shard 1 memory", "mixed"]),
+OF_TWO = [
+    ("1 range - - 9", "1 get 11"),
+    ("1 root", "1 root", "1 get 11"),
+    ("2 prove 11", "1 get 11"),
+    ("2 put 11 38", "1 get 11"),
+    ("2 del 1f", "1 get 1f"),
+    ("1 batch", "1 get 11"),
+    ("3 batch put 11 38 put 12 39 put 13 - put 1f 3a", "1 get 11", "1 get 1f"),
+    ("3 batch put 11 38 put 1f 39 put 1e - put 1d -", "1 get 11", "1 get 1f"),
+    ("1 migrate 1", "2 format"),
+    ("1 migrate 2", "2 format", "2 root", "1 get 21"),
+    # a pinned pass stays in the map that it has pinned
+    ("2 pin", "1 migrate 2", "2 format", "2 root", "2 unpin", "2 format", "2 root"),
+    ("1 pin", "2 migrate 2", "3 migrate 1", "1 root", "1 unpin", "1 root"),
 ]
 
 
 def of_two_shards():
-    puts = [f"{1 + place % 3} put {key.hex()} {value.hex()}"
-            for place, (key, value) in enumerate(HELD.items())]
-    for case in REFUSED:
-        lines = [it for it in case if isinstance(it, str)]
-        answers = [lines_of(*["none"] * len(puts), *it) for it in case if isinstance(it, list)]
-        yield Refusals(SHARDS, lines_of(*puts, *lines), answers[0], answers[1:])
+    puts = " ".join(f"put {key.hex()} {value.hex()}" for key, value in HELD.items())
+    for lines in OF_TWO:
+        yield over_shards(SHARDS, [SPLIT], [f"1 batch {puts}", *lines])
 
 
-# Four shards of ten keys each.
-FOUR = [bytes([16 * (1 + shard), number]) for shard in range(4) for number in range(10)]
-OF_FOUR = "run --rows 64 --passes 1 --splits 20,30,40"
-PUTS = [f"put {key.hex()} 31" for key in FOUR]
-GETS = [f"1 get {key.hex()}" for key in FOUR]
-
-
-def of_a_batch_over_four_shards():
-    """The shards before the one that was refused have their edits."""
-    found = [["some 31"] * 10 * shards + ["none"] * 10 * (4 - shards) for shards in range(5)]
-    others = [["memory", *found[0]]]
-    others += [[f"shard {shard} memory", *found[shard]] for shard in range(4)]
-    batch = " ".join(["1 batch", *PUTS])
-    return Refusals(OF_FOUR, lines_of(batch, *GETS), lines_of("done", *found[4]),
-                    [lines_of(*it) for it in others])
-
-
-def of_a_migration_of_four_shards():
-    """The shards before the one that was refused are migrated, and the map stays."""
-    puts, found = [f"1 {put}" for put in PUTS], ["some 31"] * len(FOUR)
-    moved = [[f"shard {shard} memory", "mixed" if shard else "format 1"] for shard in range(4)]
-    answers = [lines_of(*["none"] * len(puts), *it, *found)
-               for it in (["was 1", "format 2"], *moved)]
-    lines = lines_of(*puts, "1 migrate 2", "1 format", *GETS)
-    return Refusals(OF_FOUR, lines, answers[0], answers[1:])
+def of_four_shards():
+    """Four shards of ten keys each: all have their edits, or none."""
+    keys = [bytes([16 * (1 + shard), number]) for shard in range(4) for number in range(10)]
+    batch = " ".join(["1 batch", *(f"put {key.hex()} 31" for key in keys)])
+    gets = [f"1 get {key.hex()}" for key in keys]
+    words = "run --rows 64 --passes 1 --splits 20,30,40"
+    splits = [b"\x20", b"\x30", b"\x40"]
+    yield over_shards(words, splits, [batch, *gets])
+    yield over_shards(words, splits, [batch, "1 migrate 2", "1 format", *gets])
 
 
 def of_odd_digits(program):
@@ -216,8 +271,7 @@ def of_odd_digits(program):
 def judged(program):
     """A title and a fault, or none, of each run."""
     cases = [*STARTS, of_ranges(), of_proofs(), of_migrations(), of_batches(),
-             *of_reads_under_a_pin(), *of_two_shards(), of_a_batch_over_four_shards(),
-             of_a_migration_of_four_shards()]
+             *of_reads_under_a_pin(), *of_two_shards(), *of_four_shards()]
     for case in cases:
         for fault in case.faults(program):
             yield f"memory that is refused: {case.words}: {case.given[-80:]!r}", fault

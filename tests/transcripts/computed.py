@@ -1,17 +1,18 @@
 """Cases whose texts are computed: by other programs for nodes and proofs (vectors/nodes.py, the
 verifier in Python), at random, from what an earlier run has answered, or by a plain model of a
 store (modelled.py, longer.py) or of a sharded map (sharded.py)."""
+import glob
 import hashlib
 import itertools
 import os
 import random
-import re
 import sys
 
 import longer
 import model
 import modelled
 import sharded
+import transcript
 from model import Version
 from transcript import Case
 
@@ -236,16 +237,46 @@ def random_command(draw):
 
 
 def shards_next_to_a_store(run):
-    """Whatever the splits, each line is answered as one store answers it, which also says what
-    version it pins."""
+    """Whatever the splits, each line is answered as one store answers it."""
     for seed in range(1, 9):
         draw = random.Random(seed)
         lines = (draw.choice([random_read, random_command])(draw) for _ in range(400))
         script = "".join(f"{draw.randrange(1, 4)} {line}\n" for line in lines)
         answers = run("mst run --passes 3".split(), script.encode()).decode()
-        wanted = re.sub(r"(?m)^pinned \d+$", "pinned", answers)
         for shards in (2, 7, 24):
-            yield case(f"shards next to a store, by {seed}", splits(shards), script, wanted)
+            yield case(f"shards next to a store, by {seed}", splits(shards), script, answers)
+
+
+# Splits of the keys of transcripts: one, and several, some of which are keys or begin keys.
+SPLITS = ["62", "0001,31,3339,61,616263,62,6261,63,80,ff"]
+# What a sharded map does not have, or has of its own.
+OWN = {b"root", b"node", b"prove", b"rows"}
+
+
+def asked_of_all(given):
+    """The lines of a script that a sharded map answers as one store does."""
+    lines = given.split(b"\n")
+    return b"\n".join(line for line in lines if not OWN & set(line.split(b" ")[1:2]))
+
+
+def is_over_a_store(case):
+    """Whether a case is a script over a store."""
+    return (case.words[:2] == [b"mst", b"run"] and case.given and case.is_read
+            and not case.status and not any(b"splits" in word for word in case.words))
+
+
+def transcripts_over_shards(run):
+    """The scripts of the transcripts, but for those that one store has no room for, and those of
+    all its passes, of which one is the writer's."""
+    paths = sorted(glob.glob(os.path.join(HERE, "*.txt")))
+    for it in filter(is_over_a_store, (it for path in paths for it in transcript.read(path))):
+        given = asked_of_all(it.given)
+        answers = run(it.words, given)
+        if b"noroom\n" in answers or {b"32", b"--passes=32"} & set(it.words):
+            continue
+        for keys in SPLITS:
+            words = [b"mst", b"run", b"--splits", keys.encode(), *it.words[2:]]
+            yield Case(f"over shards: {it.place}", words, given, True, 0, answers)
 
 
 def shards_next_to_a_list():
@@ -280,6 +311,7 @@ def cases(run):
     yield from proofs_of_shards(run)
     yield from shards_next_to_a_store(run)
     yield from shards_next_to_a_list()
+    yield from transcripts_over_shards(run)
     yield from modelled.cases()
     yield from longer.cases()
     yield from sharded.cases()

@@ -13,9 +13,9 @@ RANGES = [(0, 127, 200), (17, 101, 1), (63, 64, 5), (64, 32, 5), (3, 120, 40)]
 # The keys with the least bytes and with the greatest.
 LEAST, GREATEST = b"\0", b"\xff" * 32
 FEWEST_ROWS = 4
-# Shards, handles, rows of each shard, and the bytes of a split.
+# Shards, passes, rows of each shard, and the bytes of a split.
 ENDS = [
-    (2, 1, FEWEST_ROWS, 2), (2, 1, 65_535, 32), (64, 8, 16, 32), (65, 9, 16, 2), (1_023, 32, 16, 2),
+    (2, 1, FEWEST_ROWS, 2), (2, 1, 65_535, 32), (64, 8, 16, 32), (65, 9, 16, 2), (1_023, 31, 16, 2),
     (1_024, 1, 16, 32),
 ]
 # So few rows that a shard has room for some keys, and not for all of its own.
@@ -28,7 +28,7 @@ def splits_into(count):
 
 class Script:
     """The lines of a script over a sharded map with their answers: each method is a line or some.
-    Handle 1 writes. All answers are those of the dict, for no handle pins while another writes."""
+    Pass 1 writes. All answers are those of the dict, for no pass pins while another writes."""
 
     def __init__(self, count, seed=1, rows=1024, passes=2, splits=None):
         self.splits = splits_into(count) if splits is None else splits
@@ -37,6 +37,7 @@ class Script:
         # without splits it would be a store
         self.words += f" --splits {keys}" if keys else ""
         self.known, self.format, self.lines, self.answers = {}, 1, [], []
+        self.versions = 0
 
     def case(self, title):
         given, out = ("".join(f"{it}\n" for it in text) for text in (self.lines, self.answers))
@@ -48,6 +49,7 @@ class Script:
         self.answers.append(answer)
 
     def make(self, edits):
+        self.versions += 1
         self.known.update(edits)
         self.known = {key: value for key, value in self.known.items() if value is not None}
 
@@ -70,9 +72,14 @@ class Script:
         if answer == "done":
             self.make(edits)
 
-    def migrate(self, format):
-        self.line(f"migrate {format}", f"was {self.format}")
-        self.format = format
+    def migrate(self, format, answer=None):
+        self.line(f"migrate {format}", answer or f"was {self.format}")
+        if not answer:
+            self.versions += 1
+            self.format = format
+
+    def pin(self, number=1):
+        self.line("pin", f"pinned {self.versions}", number)
 
     # ---- reads
 
@@ -110,7 +117,7 @@ class Script:
 
     def looks(self):
         """All reads, by a snapshot that is kept, and by one of each line."""
-        self.line("pin", "pinned")
+        self.pin()
         for number in (1, 2):
             self.gets(number)
             self.steps(number)
@@ -181,57 +188,82 @@ def directories_that_are_kept():
 
 
 def shards_without_room():
-    """The second of two shards refuses its part, and the first one has its own."""
-    script, uneven = Script(2, rows=FEW_ROWS), [(key, b"1") for key in KEYS[:2] + KEYS[64:]]
-    script.batch(uneven, "shard 1 noroom")
-    script.make(uneven[:2])
+    """The second of two shards has no room for its part, so that nothing is made."""
+    script = Script(2, rows=FEW_ROWS)
+    script.batch([(KEYS[0], b"1"), (KEYS[64], b"2")])
+    script.batch([(key, b"3") for key in KEYS[:2] + KEYS[64:]], "noroom")
     script.gets()
-    yield script.case("a shard without room stops a batch")
+    script.looks()
+    yield script.case("a shard without room refuses a batch")
 
-    for rows, keys in ((FEW_ROWS, KEYS[64:75]), (64, KEYS[64:104])):
+    for rows, keys in ((FEW_ROWS, KEYS[64:84]), (64, KEYS[64:120])):
         script = Script(2, rows=rows)
-        for key in keys:
-            script.batch([(key, b"1")])
-        script.line("migrate 2", "shard 1 noroom")
-        for text in ("format", "root", f"prove {spelt(keys[6])}"):
-            script.line(text, "mixed")
+        script.batch([(KEYS[0], b"1"), *((key, b"2") for key in keys)])
+        # the tree of the second shard has more nodes in format 2
+        script.migrate(2, "noroom")
         script.gets()
-        yield script.case("a shard without room stops a migration")
+        script.looks()
+        yield script.case("a shard without room refuses a migration")
 
 
-def ends_of(script, handle):
-    """What a handle reads and proves at both ends of what a line takes."""
-    script.line("pin", "pinned", handle)
+def pins_over_migrations():
+    """Pass 2 pins a block, and stays in its map while the map moves, and moves back."""
+    for count in COUNTS:
+        script, kept = Script(count, 3), Script(count, 3)
+        edits = script.edits(80)
+        for it in (script, kept):
+            it.batch(edits)
+        script.pin(2)
+        for format in (2, 1, 2):
+            script.migrate(format)
+            for edit in script.edits(10):
+                script.write(*edit)
+            for it, number in ((script, 1), (kept, 2)):
+                first = len(it.lines)
+                it.proves(number)
+                if it is kept:
+                    script.lines += it.lines[first:]
+                    script.answers += it.answers[first:]
+        script.line("unpin", "unpinned", 2)
+        script.gets(2)
+        script.proves(2)
+        script.pin(2)
+        yield script.case("a pin over migrations")
+
+
+def ends_of(script, number):
+    """What a pass reads and proves at both ends of what a line takes."""
+    script.pin(number)
     pairs = sorted(script.known.items())
     for limit in (0, 1, 1_000, 1_001, 65_535):
         answers = [f"pairs {len(pairs[:limit])}", *(pair_line(*it) for it in pairs[:limit])]
-        script.line(f"range - - {limit}", "\n".join(answers), handle)
-    script.line("next " + spelt(GREATEST), "none", handle)
-    model = script.root(handle)
+        script.line(f"range - - {limit}", "\n".join(answers), number)
+    script.line("next " + spelt(GREATEST), "none", number)
+    model = script.root(number)
     for key in (LEAST, GREATEST):
-        script.line(f"get {spelt(key)}", told(script.known.get(key)), handle)
-        script.line(f"prove {spelt(key)}", model.proof(key).hex(), handle)
-    script.line("format", f"format {script.format}", handle)
-    script.line("unpin", "unpinned", handle)
+        script.line(f"get {spelt(key)}", told(script.known.get(key)), number)
+        script.line(f"prove {spelt(key)}", model.proof(key).hex(), number)
+    script.line("format", f"format {script.format}", number)
+    script.line("unpin", "unpinned", number)
 
 
 def at_both_ends():
-    """Maps of the fewest and the most shards, handles and rows, whose splits, keys and values are
+    """Maps of the fewest and the most shards, passes and rows, whose splits, keys and values are
     the shortest and the longest: with ample memory none is refused it."""
-    for count, handles, rows, length in ENDS:
+    for count, passes, rows, length in ENDS:
         numbers = range(257, 256 + count)
         splits = [number.to_bytes(2, "big").ljust(length, b"\0") for number in numbers]
-        script = Script(count, 1, rows, handles, splits)
-        ends_of(script, handles)
+        script = Script(count, 1, rows, passes, splits)
+        ends_of(script, passes)
         few = rows == FEWEST_ROWS
         for key in (LEAST, GREATEST)[: 1 if few else 2]:
             for value in (b"", b"\7" * 64, None):
                 script.write(key, value)
         script.batch([] if few else [(LEAST, b""), (GREATEST, b"\7" * 64)])
-        ends_of(script, handles)
+        ends_of(script, passes)
         script.migrate(2)
-        ends_of(script, handles)
-        yield script.case(f"both ends, {handles} handles, {rows} rows, splits of {length} bytes")
+        ends_of(script, passes)
+        yield script.case(f"both ends, {passes} passes, {rows} rows, splits of {length} bytes")
 
 
 def cases():
@@ -242,3 +274,4 @@ def cases():
     yield from between_writes_and_migrations()
     yield from directories_that_are_kept()
     yield from shards_without_room()
+    yield from pins_over_migrations()

@@ -25,8 +25,8 @@ use Rattle.mst_command.specs.Reading.{piece}
 use Rattle.mst_command.specs.Recalling.{Recalls}
 use Rattle.mst_command.specs.Splits.{splits_of}
 use Rattle.mst_shards.specs.Sharding.{IsSplits}
-use Rattle.mst_sharded.specs.Opening.{Shards, HasShards, new_handles}
-use Rattle.mst_sharded_script.specs.States.{State, are_free}
+use Rattle.mst_sharded_script.specs.Opening.{IsScriptShape, IsNewScript}
+use Rattle.mst_sharded_script.specs.States.{ScriptState}
 use Rattle.mst_sharded_script.specs.Serving.{Serves}
 
 -- how the program ends that said this
@@ -54,33 +54,32 @@ pub record BrokeScript {S W : Type 0}
   pub last : Machine
   pub stopped : Stopped gives takes failures (Line store) s w (with_no_pins []) t x last
 
--- a new sharded map with the splits that the word spells, and with shards of this size, all within
--- the limits
-pub record IsOpened (shape : Shape) (word : List ℕ) (shards : Shards) : Type 0 where
-  pub fits : IsShape shape
+-- a script over a new sharded map with the splits that the word spells, and with shards of this
+-- size, all within the limits
+pub record IsOpened (shape : Shape) (word : List ℕ) (script : ScriptState) : Type 0 where
+  pub fits : IsScriptShape shape
   pub splits : List (List ℕ)
   pub spelt : splits_of word ≡ Some splits
   pub rise : IsSplits splits
-  pub opened : HasShards splits shape shards
+  pub opened : IsNewScript splits shape script
 
--- The source gave a script, and the sink took what the handles of such a map answer its lines, none
--- of which had done anything.
+-- The source gave a script, and the sink took what such a map answers its lines.
 pub record RanSharded {S W : Type 0}
     (gives : Flow S) (takes : Flow W) (shape : Shape) (word : List ℕ)
     (s : S) (w : W) (t : S) (x : W) : Type 0 where
-  pub shards : Shards
-  pub opened : IsOpened shape word shards
-  pub last : List State
-  pub ran : Ran gives takes Serves s w (are_free (new_handles shards)) t x last
+  pub first : ScriptState
+  pub opened : IsOpened shape word first
+  pub last : ScriptState
+  pub ran : Ran gives takes Serves s w first t x last
 
 -- The same, where a device failed.
 pub record BrokeSharded {S W : Type 0}
     (gives : Flow S) (takes : Flow W) (failures : W → ℕ) (shape : Shape) (word : List ℕ)
     (s : S) (w : W) (t : S) (x : W) : Type 0 where
-  pub shards : Shards
-  pub opened : IsOpened shape word shards
-  pub last : List State
-  pub stopped : Stopped gives takes failures Serves s w (are_free (new_handles shards)) t x last
+  pub first : ScriptState
+  pub opened : IsOpened shape word first
+  pub last : ScriptState
+  pub stopped : Stopped gives takes failures Serves s w first t x last
 
 -- The source gave events of a core, and the sink took what the core answers each of them, from no
 -- core on.
@@ -190,7 +189,7 @@ pub record Helped {S W : Type 0}
 -- cannot have its numbers
 abbrev pub HasBadShape : Task → Type 0
 HasBadShape (Run shape) = ¬ (IsShape shape)
-HasBadShape (RunSharded shape splits) = ¬ (IsShape shape)
+HasBadShape (RunSharded shape splits) = ¬ (IsScriptShape shape)
 HasBadShape UnknownFormat = Unit {0}
 HasBadShape (Load size) = ¬ (IsLoadSize size)
 HasBadShape _ = ⊥

@@ -116,12 +116,12 @@ fn show<W: Sink>(out: &mut W, text: &str) -> Result<Ending, Refusal>
 /// Does the task, and says how the program ends, or why it ends early. The gate is asked before
 /// each call of a load and told after it.
 ///
-/// Returns `Shape` for a size out of the store's limits, for an unknown format and for numbers that
-/// a load may not have, `Splits` for a word that spells no splits of a sharded map, unless their
-/// list was refused memory, and `BadRoot` and then `BadKey` for words that spell no root digest and
-/// no key: all before anything is read or run. Returns `Memory` if a growth was refused or a thread
-/// could not be started: nothing was written then, and nothing read but a proof. Returns `Device`
-/// if a read or a write failed.
+/// Returns `Shape` for a size out of the store's limits, for as many passes over a sharded map as a
+/// store may have, for an unknown format and for numbers that a load may not have, `Splits` for a
+/// word that spells no splits of a sharded map, unless their list was refused memory, and `BadRoot`
+/// and then `BadKey` for words that spell no root digest and no key: all before anything is read or
+/// run. Returns `Memory` if a growth was refused or a thread could not be started: nothing was
+/// written then, and nothing read but a proof. Returns `Device` if a read or a write failed.
 pub fn execute<R, A: Allocator + Copy, G: Gate + Sync, S: Source, W: Sink>(
     rt: &R,
     alloc: A,
@@ -156,7 +156,7 @@ where
 {
     match task {
         Task::Run(shape) => run_script(alloc, shape, source, out),
-        Task::RunSharded(shape, splits) => run_sharded(alloc, shape, splits, source, out),
+        Task::RunSharded(shape, splits) => run_sharded(rt, alloc, shape, splits, source, out),
         Task::Verify(kind, format, root, key) => {
             run_verify(alloc, kind, format, root, key, source, out)
         }

@@ -1,68 +1,72 @@
 //! A script over a sharded map.
-ghost use Rattle.std.specs.Prelude.{◌≡◌, ◌<◌, ◌-◌, ◌+◌, ◌^◌, ◌↔◌, OnOk, IfOk, IfErr, IsErrOf};
-ghost use Rattle.mst_store.specs.Passes.{IsShape};
-ghost use Rattle.mst_sharded_script.specs.States.{are_free};
-ghost use Rattle.mst_sharded.specs.Opening.{seats_of, new_handles};
+ghost use Rattle.std.specs.Prelude.{◌≡◌, ◌<◌, ◌-◌, ◌+◌, ◌^◌, ◌↔◌, Some, OnOk, IfOk, IfErr, IsErrOf};
+ghost use Rattle.mst_shards.specs.Sharding.{IsSplits};
+ghost use Rattle.mst_sharded_script.specs.Opening.{IsScriptShape};
 ghost use Rattle.mst_command.specs.Programs.{RanSharded, BrokeSharded, IsOpened, RefusesSplits, SpellsBadSplits};
+ghost use Rattle.mst_command.specs.Splits.{splits_of};
 ghost use Rattle.mst_arguments.specs.Commanding.{IsDevice, EndsSharded, Untouched};
 ghost use Rattle.mst_arguments.specs.declared.task.Ending.TheVariants.{Done};
 
 use crate::splits::{NoSplits, splits_in};
 use mst_arguments::{Ending, Refusal};
 use mst_devices::{Sink, Source};
-use mst_key::Memory;
+use mst_key::Key;
 use mst_script::RunFault;
-use mst_sharded::{AllSeats, Sharded, ShardsFault};
-use mst_sharded_script::{HandleState, run, states_of};
-use mst_store::{Shape, is_shape};
+use mst_sharded_script::{Script, is_script_shape, run};
+use mst_shards::are_splits;
+use mst_store::Shape;
 use std::alloc::Allocator;
+use std::sync::Wait;
 
-// Opens a sharded map with the splits that the word spells.
-fn open_at<A: Allocator + Copy>(
-    alloc: A,
-    shape: Shape,
-    splits: &str,
-) -> Result<(Sharded<A>, AllSeats<A>), Refusal>
-    requires shape { IsShape shape }
-    ensures opened { IfOk result (λ opened. IsOpened shape splits.now opened.0) }
-    ensures seats { IfOk result (λ opened. opened.1 ≡ seats_of opened.0) }
-    ensures why { IfErr result (λ why. RefusesSplits why splits.now) }
+// The splits that the word spells, if a sharded map may have them.
+fn splits_at<A: Allocator>(alloc: A, word: &str) -> Result<Vec<Key, A>, Refusal>
+    ensures spelt { IfOk result (λ splits. splits_of word.now ≡ Some splits.items) }
+    ensures rise { IfOk result (λ splits. IsSplits splits.items) }
+    ensures why { IfErr result (λ why. RefusesSplits why word.now) }
 {
-    let splits = match splits_in(alloc, splits) {
+    let splits = match splits_in(alloc, word) {
         Ok(splits) => splits,
         Err(NoSplits::Spelling) => return Err(Refusal::Splits),
         Err(NoSplits::Memory(refused)) => return Err(Refusal::Memory(refused)),
     };
-    match Sharded::open(alloc, splits, shape) {
-        Ok(opened) => Ok(opened),
-        Err(ShardsFault::Splits) => Err(Refusal::Splits),
-        Err(ShardsFault::Shape) => unreachable!(),
-        Err(ShardsFault::Memory(refused)) => Err(Refusal::Memory(refused)),
+    if are_splits(splits.as_slice()) {
+        Ok(splits)
+    } else {
+        Err(Refusal::Splits)
     }
 }
 
-// The handles of a map that was opened, none of which has done anything.
-fn states_in<'a, A: Allocator + Copy>(
+// Opens a script over a map with the splits that the word spells.
+fn open_at<R: Wait, A: Allocator + Copy>(
+    rt: &R,
     alloc: A,
-    sharded: &'a Sharded<A>,
-    seats: AllSeats<A>,
-) -> Result<Vec<HandleState<'a, A>, A>, Memory>
-    requires own { seats ≡ seats_of sharded.now }
-    ensures states { IfOk result
-        (λ states. states.items ≡ are_free (new_handles sharded.now)) }
+    shape: Shape,
+    word: &str,
+) -> Result<Script<A>, Refusal>
+    requires shape { IsScriptShape shape }
+    ensures opened { IfOk result (λ script. IsOpened shape word.now script) }
+    ensures why { IfErr result (λ why. RefusesSplits why word.now) }
 {
-    let handles = sharded.deal(alloc, seats)?;
-    states_of(alloc, handles)
+    let splits = match splits_at(alloc, word) {
+        Ok(splits) => splits,
+        Err(why) => return Err(why),
+    };
+    match Script::open(rt, alloc, splits, shape) {
+        Ok(script) => Ok(script),
+        Err(refused) => Err(Refusal::Memory(refused)),
+    }
 }
 
 /// Answers the lines of the source over a new sharded map, with the splits that a word spells and
-/// with shards of this shape.
+/// with shards of this shape, whose passes are those of the script.
 ///
-/// Returns `Shape`, before anything is read, exactly if a shard may not have this shape. Otherwise
+/// Returns `Shape`, before anything is read, exactly if a store may not have this shape, or if its
+/// passes are as many as a store may have, so that none is left for the map's writer. Otherwise
 /// returns `Splits`, before anything is read, if the word spells no splits that a sharded map may
 /// have and their list was not refused memory; `Memory` if a growth at the start was refused;
 /// `Device` if a read or a write failed.
-pub fn run_sharded<A: Allocator + Copy, S: Source, W: Sink>(
+pub fn run_sharded<R: Wait, A: Allocator + Copy, S: Source, W: Sink>(
+    rt: &R,
     alloc: A,
     shape: Shape,
     splits: &str,
@@ -86,18 +90,14 @@ pub fn run_sharded<A: Allocator + Copy, S: Source, W: Sink>(
     ensures stopped { IsErrOf result Refusal.Device
         → BrokeSharded S.gives W.takes W.failures shape splits.now source.old out.old source.new
         out.new }
-    ensures shape { IsErrOf result Refusal.Shape ↔ ¬ (IsShape shape) }
+    ensures shape { IsErrOf result Refusal.Shape ↔ ¬ (IsScriptShape shape) }
     ensures splits { IsErrOf result Refusal.Splits → SpellsBadSplits splits.now }
 {
-    if !is_shape(shape) {
+    if !is_script_shape(shape) {
         return Err(Refusal::Shape);
     }
-    let (sharded, seats) = open_at(alloc, shape, splits)?;
-    let mut states = match states_in(alloc, &sharded, seats) {
-        Ok(states) => states,
-        Err(refused) => return Err(Refusal::Memory(refused)),
-    };
-    match run(alloc, source, out, &mut states) {
+    let script = open_at(rt, alloc, shape, splits)?;
+    match run(rt, alloc, source, out, script) {
         Ok(()) => Ok(Ending::Done),
         Err(RunFault::Device) => Err(Refusal::Device),
         Err(RunFault::Memory(refused)) => Err(Refusal::Memory(refused)),

@@ -1,1 +1,4 @@
+pub mod Giving
+pub mod Loading
+pub mod Opened
 pub mod Stepping

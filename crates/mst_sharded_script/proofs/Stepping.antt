@@ -1,21 +1,18 @@
--- From what a call says to the step of its handle.
-use Rattle.std.proofs.Common.{◌≡◌, ℕ, ◌+◌, ◌<◌, true, false, List, [], ◌∷◌, ◌++◌, length, get_or, Option, Err, IfSome, IfNone, refl, sym, ◌∙◌, subst, arith}
+-- From what a call says to the step of its pass.
+use Rattle.std.proofs.Common.{◌≡◌, ℕ, ◌+◌, ◌<◌, true, false, List, [], ◌∷◌, ◌++◌, length, get_or, set, Option, Some, None, refl, sym, ap, ◌∙◌, subst, arith}
 use Rattle.std.specs.Prelude.{codes}
 use Rattle.std.specs.List.{swap_remove, SwappedAt}
 use Rattle.std.proofs.lemmas.Bool.{false≢true}
+use Rattle.std.proofs.lemmas.Option.{none-some, same_Some}
 use Rattle.mst_key.specs.declared.format.Format.{Format}
-use Rattle.mst_key.specs.declared.history.Edit.{Edit}
-use Rattle.mst_key.specs.declared.memory.Memory.{Memory}
 use Rattle.mst_requests.specs.declared.request.Command.{Command}
 use Rattle.mst_requests.specs.declared.request.Command.TheVariants.{Put, Remove, Migrate, Batch, Get, Next, Range, Root, Node, Prove, Pin, Unpin, Rows}
 use Rattle.mst_requests.specs.declared.request.Command.TheVariants as ask
 use Rattle.mst_requests.specs.Texts.{line_of}
-use Rattle.mst_sharded.specs.declared.faults.SpreadFault.TheVariants as spread
-use Rattle.mst_shards.specs.Directory.{AllIn}
-use Rattle.mst_shards.specs.Sharding.{Sharding, PinsAll}
+use Rattle.mst_shards.specs.BlockHistory.{Whole}
 use Rattle.mst_shards.proofs.Moved.{read_any, put_back}
-use Rattle.mst_sharded_script.specs.States.{State, Free, Pinned}
-use Rattle.mst_sharded_script.specs.Serving.{Applies, WereIn, Finds, Acts, Recalls, FreeStep, PinnedStep, Step, StepsAt, is_pin, is_unpin, is_look}
+use Rattle.mst_sharded_script.specs.States.{PassState, Free, Pinned, unpinned, LayoutState, ScriptState, NewMapState, moved}
+use Rattle.mst_sharded_script.specs.Serving.{Takes, Finds, LooksAt, Moves, Migrates, Acts, Recalls, FreeStep, PinnedStep, Step, StepsAt, stepped, moved_if, is_unpin, migration_of, is_look}
 
 -- ---- which command it is
 
@@ -26,24 +23,24 @@ not_false : {P : Type 0} → true ≡ false → P
 not_false is = absurd (false≢true (sym is))
 
 -- a snapshot finds what it recalls
-pub found : (command : Command) (h : Sharding) (text : List ℕ) → is_look command ≡ true
-    → Recalls command h text → Finds command h text
-found (Put k v) h text is r = not_true is
-found (Remove k) h text is r = not_true is
-found (Migrate to) h text is r = not_true is
-found (Batch es) h text is r = not_true is
-found (Get k) h text is r = not_true is
-found (Next bound) h text is r = r
-found (Range from to n) h text is r = r
-found Root h text is r = r
-found Node h text is r = not_true is
-found (Prove k) h text is r = r
-found ask.Format h text is r = r
-found Rows h text is r = not_true is
-found Pin h text is r = not_true is
-found Unpin h text is r = not_true is
+pub found : (command : Command) (y : Whole) (text : List ℕ) → is_look command ≡ true
+    → Recalls command y text → Finds command y text
+found (Put k v) y text is r = not_true is
+found (Remove k) y text is r = not_true is
+found (Migrate to) y text is r = not_true is
+found (Batch es) y text is r = not_true is
+found (Get k) y text is r = not_true is
+found (Next bound) y text is r = r
+found (Range from to n) y text is r = r
+found Root y text is r = r
+found Node y text is r = not_true is
+found (Prove k) y text is r = r
+found ask.Format y text is r = r
+found Rows y text is r = not_true is
+found Pin y text is r = not_true is
+found Unpin y text is r = not_true is
 
--- a command that is asked of all shards does not unpin
+-- a command that is asked of a snapshot for one line does not unpin
 pub looks_on : (command : Command) → is_look command ≡ true → is_unpin command ≡ false
 looks_on (Put k v) is = refl
 looks_on (Remove k) is = refl
@@ -60,107 +57,131 @@ looks_on Rows is = refl
 looks_on Pin is = refl
 looks_on Unpin is = not_true is
 
+-- it was released as that what it found is said of
+pub looked : (command : Command) (r y z : Whole) (text : List ℕ) (p : PassState) → Takes r y
+    → z ≡ y → p ≡ Free z → is_look command ≡ true → Recalls command y text
+    → LooksAt command r text p
+looked command r y z text p takes same free is recalls = record {
+  y = z;
+  takes = subst (Takes r) (sym same) takes;
+  finds = subst (λ (v : Whole). Finds command v text) (sym same) (found command y text is recalls);
+  free = free;
+}
+
 -- ---- the steps
 
-pub pin_step : (command : Command) (h i : Sharding) (s : State) → is_pin command ≡ true
-    → s ≡ Pinned i → PinsAll h i → FreeStep command h (line_of (codes "pinned")) s
-pin_step (Put k v) h i s is now pins = not_true is
-pin_step (Remove k) h i s is now pins = not_true is
-pin_step (Migrate to) h i s is now pins = not_true is
-pin_step (Batch es) h i s is now pins = not_true is
-pin_step (Get k) h i s is now pins = not_true is
-pin_step (Next bound) h i s is now pins = not_true is
-pin_step (Range from to n) h i s is now pins = not_true is
-pin_step Root h i s is now pins = not_true is
-pin_step Node h i s is now pins = not_true is
-pin_step (Prove k) h i s is now pins = not_true is
-pin_step ask.Format h i s is now pins = not_true is
-pin_step Rows h i s is now pins = not_true is
-pin_step Pin h i s is now pins = (refl, (i, now, pins))
-pin_step Unpin h i s is now pins = not_true is
+-- a snapshot was asked for its format, and then moved
+pub moved_on : (was to : Format) (l : LayoutState) (w y z : Whole) (text : List ℕ)
+    (new : Option NewMapState) → z ≡ y → Moves was to l w z text new → Moves was to l w y text new
+moved_on was to l w y z text new same moves =
+    subst (λ (v : Whole). Moves was to l w v text new) same moves
 
-pub free_step : (command : Command) (h i : Sharding) (text : List ℕ) (s : State)
-    → is_pin command ≡ false → s ≡ Free i → Acts command h text i → FreeStep command h text s
-free_step (Put k v) h i text s is now acts = (i, now, acts)
-free_step (Remove k) h i text s is now acts = (i, now, acts)
-free_step (Migrate to) h i text s is now acts = (i, now, acts)
-free_step (Batch es) h i text s is now acts = (i, now, acts)
-free_step (Get k) h i text s is now acts = (i, now, acts)
-free_step (Next bound) h i text s is now acts = (i, now, acts)
-free_step (Range from to n) h i text s is now acts = (i, now, acts)
-free_step Root h i text s is now acts = (i, now, acts)
-free_step Node h i text s is now acts = (i, now, acts)
-free_step (Prove k) h i text s is now acts = (i, now, acts)
-free_step ask.Format h i text s is now acts = (i, now, acts)
-free_step Rows h i text s is now acts = (i, now, acts)
-free_step Pin h i text s is now acts = not_false is
-free_step Unpin h i text s is now acts = (i, now, acts)
+pub migration_step : (command : Command) (to : Format) (l : LayoutState) (w r : Whole)
+    (text : List ℕ) (x : Whole) (p : PassState) (new : Option NewMapState)
+    → Some to ≡ migration_of command → Migrates to l w r text x p new
+    → FreeStep command l w r text x p new
+migration_step (Put k v) to l w r text x p new is m = absurd (none-some to (sym is))
+migration_step (Remove k) to l w r text x p new is m = absurd (none-some to (sym is))
+migration_step (Migrate f) to l w r text x p new is m =
+    subst (λ (z : Format). Migrates z l w r text x p new) (same_Some to f is) m
+migration_step (Batch es) to l w r text x p new is m = absurd (none-some to (sym is))
+migration_step (Get k) to l w r text x p new is m = absurd (none-some to (sym is))
+migration_step (Next bound) to l w r text x p new is m = absurd (none-some to (sym is))
+migration_step (Range from up n) to l w r text x p new is m = absurd (none-some to (sym is))
+migration_step Root to l w r text x p new is m = absurd (none-some to (sym is))
+migration_step Node to l w r text x p new is m = absurd (none-some to (sym is))
+migration_step (Prove k) to l w r text x p new is m = absurd (none-some to (sym is))
+migration_step ask.Format to l w r text x p new is m = absurd (none-some to (sym is))
+migration_step Rows to l w r text x p new is m = absurd (none-some to (sym is))
+migration_step Pin to l w r text x p new is m = absurd (none-some to (sym is))
+migration_step Unpin to l w r text x p new is m = absurd (none-some to (sym is))
 
-pub unpin_step : (command : Command) (h : Sharding) (s : State) → is_unpin command ≡ true
-    → s ≡ Free h → PinnedStep command h (line_of (codes "unpinned")) s
-unpin_step (Put k v) h s is now = not_true is
-unpin_step (Remove k) h s is now = not_true is
-unpin_step (Migrate to) h s is now = not_true is
-unpin_step (Batch es) h s is now = not_true is
-unpin_step (Get k) h s is now = not_true is
-unpin_step (Next bound) h s is now = not_true is
-unpin_step (Range from to n) h s is now = not_true is
-unpin_step Root h s is now = not_true is
-unpin_step Node h s is now = not_true is
-unpin_step (Prove k) h s is now = not_true is
-unpin_step ask.Format h s is now = not_true is
-unpin_step Rows h s is now = not_true is
-unpin_step Pin h s is now = not_true is
-unpin_step Unpin h s is now = (refl, now)
+pub acts_step : (command : Command) (l : LayoutState) (w r : Whole) (text : List ℕ) (x : Whole)
+    (p : PassState) → None ≡ migration_of command → Acts command l.before w r text x p
+    → FreeStep command l w r text x p None
+acts_step (Put k v) l w r text x p is a = (a, refl)
+acts_step (Remove k) l w r text x p is a = (a, refl)
+acts_step (Migrate to) l w r text x p is a = absurd (none-some to is)
+acts_step (Batch es) l w r text x p is a = (a, refl)
+acts_step (Get k) l w r text x p is a = (a, refl)
+acts_step (Next bound) l w r text x p is a = (a, refl)
+acts_step (Range from to n) l w r text x p is a = (a, refl)
+acts_step Root l w r text x p is a = (a, refl)
+acts_step Node l w r text x p is a = (a, refl)
+acts_step (Prove k) l w r text x p is a = (a, refl)
+acts_step ask.Format l w r text x p is a = (a, refl)
+acts_step Rows l w r text x p is a = (a, refl)
+acts_step Pin l w r text x p is a = (a, refl)
+acts_step Unpin l w r text x p is a = (a, refl)
 
-pub pinned_step : (command : Command) (h : Sharding) (text : List ℕ) (s : State)
-    → is_unpin command ≡ false → s ≡ Pinned h → Recalls command h text
-    → PinnedStep command h text s
-pinned_step (Put k v) h text s is now r = (r, now)
-pinned_step (Remove k) h text s is now r = (r, now)
-pinned_step (Migrate to) h text s is now r = (r, now)
-pinned_step (Batch es) h text s is now r = (r, now)
-pinned_step (Get k) h text s is now r = (r, now)
-pinned_step (Next bound) h text s is now r = (r, now)
-pinned_step (Range from to n) h text s is now r = (r, now)
-pinned_step Root h text s is now r = (r, now)
-pinned_step Node h text s is now r = (r, now)
-pinned_step (Prove k) h text s is now r = (r, now)
-pinned_step ask.Format h text s is now r = (r, now)
-pinned_step Rows h text s is now r = (r, now)
-pinned_step Pin h text s is now r = (r, now)
-pinned_step Unpin h text s is now r = not_false is
+pub unpin_step : (command : Command) (y : Whole) (spare : Option Whole) (p : PassState)
+    → is_unpin command ≡ true → p ≡ Free (unpinned y spare)
+    → PinnedStep command y spare (line_of (codes "unpinned")) p
+unpin_step (Put k v) y spare p is now = not_true is
+unpin_step (Remove k) y spare p is now = not_true is
+unpin_step (Migrate to) y spare p is now = not_true is
+unpin_step (Batch es) y spare p is now = not_true is
+unpin_step (Get k) y spare p is now = not_true is
+unpin_step (Next bound) y spare p is now = not_true is
+unpin_step (Range from to n) y spare p is now = not_true is
+unpin_step Root y spare p is now = not_true is
+unpin_step Node y spare p is now = not_true is
+unpin_step (Prove k) y spare p is now = not_true is
+unpin_step ask.Format y spare p is now = not_true is
+unpin_step Rows y spare p is now = not_true is
+unpin_step Pin y spare p is now = not_true is
+unpin_step Unpin y spare p is now = (refl, now)
+
+pub pinned_step : (command : Command) (y : Whole) (spare : Option Whole) (text : List ℕ)
+    (p : PassState) → is_unpin command ≡ false → p ≡ Pinned y spare → Recalls command y text
+    → PinnedStep command y spare text p
+pinned_step (Put k v) y spare text p is now r = (r, now)
+pinned_step (Remove k) y spare text p is now r = (r, now)
+pinned_step (Migrate to) y spare text p is now r = (r, now)
+pinned_step (Batch es) y spare text p is now r = (r, now)
+pinned_step (Get k) y spare text p is now r = (r, now)
+pinned_step (Next bound) y spare text p is now r = (r, now)
+pinned_step (Range from to n) y spare text p is now r = (r, now)
+pinned_step Root y spare text p is now r = (r, now)
+pinned_step Node y spare text p is now r = (r, now)
+pinned_step (Prove k) y spare text p is now r = (r, now)
+pinned_step ask.Format y spare text p is now r = (r, now)
+pinned_step Rows y spare text p is now r = (r, now)
+pinned_step Pin y spare text p is now r = (r, now)
+pinned_step Unpin y spare text p is now r = not_false is
 
 -- ---- at a place
 
--- the handle at a place was taken out, made its step and was put back
-pub steps_at : (command : Command) (xs ys zs : List State) (i n : ℕ) (x q : State)
-    (text : List ℕ) → i < length xs → n + 1 ≡ length xs → length zs ≡ n + 1
-    → x ≡ get_or xs i x → ys ≡ swap_remove xs i x → SwappedAt (ys ++ q ∷ []) zs i n
-    → Step command x text q → StepsAt i command xs text zs
-steps_at command xs ys zs i n x q text low count again there left back step = record {
-  before = x;
-  after = q;
-  here = λ d. read_any xs i d x low ∙ sym there;
+-- the pass at a place was taken out, made its step and was put back
+pub back_again : (xs ys zs : List PassState) (i n : ℕ) (x q : PassState) → i < length xs
+    → n + 1 ≡ length xs → length zs ≡ n + 1 → ys ≡ swap_remove xs i x
+    → SwappedAt (ys ++ q ∷ []) zs i n → zs ≡ set xs i q
+back_again xs ys zs i n x q low count again left back =
+    put_back xs ys zs i n x q (sym count) again (omega (arith, low, count)) left back
+
+pub steps_at : (command : Command) (s t : ScriptState) (place : ℕ) (pass : PassState)
+    (text : List ℕ) (x : Whole) (p : PassState) (new : Option NewMapState)
+    → place < length s.passes → pass ≡ get_or s.passes place pass
+    → Step command s.layout s.writer pass text x p new → t ≡ moved_if new (stepped place x p s)
+    → StepsAt place command s text t
+steps_at command s t place pass text x p new low there step now = record {
+  pass = pass;
+  here = λ d. read_any s.passes place d pass low ∙ sym there;
+  x = x;
+  p = p;
+  new = new;
   step = step;
-  now = put_back xs ys zs i n x q (sym count) again (omega (arith, low, count)) left back;
+  now = now;
 }
 
--- ---- by a snapshot for one line
+-- ---- over the map that a step moved to, if it did
 
--- what it found of the formats, the handle that it was released as has seen
-pub were_in : (was : Option Format) (h j k : Sharding) → k ≡ j → PinsAll h j
-    → IfSome was (λ format. AllIn format j) → IfNone was ((format : Format) → AllIn format j → ⊥)
-    → WereIn was h k
-were_in was h j k same pins some none = subst (λ (i : Sharding). WereIn was h i) (sym same)
-    (record { looked = pins; some = some; none = none })
+pub over_new : (new : Option NewMapState) (it : NewMapState) (t after s : ScriptState)
+    → new ≡ Some it → t ≡ moved it after → after ≡ s → t ≡ moved_if new s
+over_new new it t after s is over now =
+    subst (λ (n : Option NewMapState). t ≡ moved_if n s) (sym is) (over ∙ ap (moved it) now)
 
-pub found_by : (command : Command) (j k : Sharding) (text : List ℕ) → k ≡ j
-    → is_look command ≡ true → Recalls command j text → Finds command k text
-found_by command j k text same is r =
-    subst (λ (i : Sharding). Finds command i text) (sym same) (found command j text is r)
-
--- no list of the edits of a batch
-pub no_list : (es : List Edit) (h : Sharding) (refused : Memory)
-    → Applies es h (line_of (codes "memory")) h
-no_list es h refused = (Err (spread.Memory refused), refl, tt, refl)
+pub over_none : (new : Option NewMapState) (t s : ScriptState) → new ≡ None → t ≡ s
+    → t ≡ moved_if new s
+over_none new t s is now =
+    subst (λ (n : Option NewMapState). t ≡ moved_if n s) (sym is) now

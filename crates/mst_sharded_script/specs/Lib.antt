@@ -1,3 +1,4 @@
 pub mod Answers
 pub mod States
+pub mod Opening
 pub mod Serving

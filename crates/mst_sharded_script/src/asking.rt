@@ -1,214 +1,149 @@
-//! What a handle is asked for that has pinned nothing.
-ghost use Rattle.std.specs.Prelude.{◌≡◌, false, true};
-ghost use Rattle.mst_key.specs.declared.history.Change.TheVariants as change;
-ghost use Rattle.mst_shards.specs.Sharding.{PinsAll};
-ghost use Rattle.mst_requests.specs.Texts.{line_of};
-ghost use Rattle.mst_sharded_script.specs.Answers.{text_of, write_words, batch_words, migration_words, apply_stop as stop_of_batch, migrate_stop as stop_of_migration, left_words};
-ghost use Rattle.mst_sharded_script.specs.Serving.{Writes, Gets, Applies, WereIn, Moves, Finds, Acts, is_pin, is_look};
+//! What a pass is asked for that has pinned nothing, but to migrate.
+ghost use Rattle.std.specs.Prelude.{◌≡◌, true, None};
+ghost use Rattle.mst_script.specs.Machine.{IsMispinned};
+ghost use Rattle.mst_shards.specs.BlockHistory.{Whole};
+ghost use Rattle.mst_sharded_script.specs.Answers.{text_of};
+ghost use Rattle.mst_sharded_script.specs.Serving.{Acts, Gets, LooksAt, Pins, is_look, migration_of};
+ghost use Rattle.mst_sharded_script.specs.States.{Free};
 
-use crate::answer::{ShardedAnswer, Stop};
+use crate::answer::ShardedAnswer;
 use crate::recalling::recall;
-use mst_key::{Format, Key, Value};
-use mst_requests::{Answer, Command, Edits, Fault};
-use mst_sharded::{Handle, SpreadFault, StoppedMigration};
-use mst_store::{ApplyFault, MigrateFault, WriteFault};
+use crate::state::ScriptPass;
+use crate::writing::{apply, put, remove};
+use mst_blocks::Writer;
+use mst_key::Key;
+use mst_requests::{Answer, Command, Fault};
+use mst_snapshots::Reader;
 use std::alloc::Allocator;
-
-// What a write returned, as an answer.
-fn write_answer<A: Allocator>(written: Result<Option<Value>, WriteFault>) -> ShardedAnswer<A>
-    ensures { text_of result ≡ line_of (write_words written) }
-{
-    match written {
-        Ok(old) => ShardedAnswer::Store(Answer::Value(old)),
-        Err(WriteFault::Busy) => ShardedAnswer::Store(Answer::Busy),
-        Err(WriteFault::VersionsSpent) => ShardedAnswer::Store(Answer::Spent),
-        Err(WriteFault::NoRoom) => ShardedAnswer::Store(Answer::NoRoom),
-    }
-}
-
-// Why a shard refused its part of a batch.
-fn apply_stop(fault: ApplyFault) -> Stop
-    ensures { result ≡ stop_of_batch fault }
-{
-    match fault {
-        ApplyFault::Busy => Stop::Busy,
-        ApplyFault::VersionsSpent => Stop::Spent,
-        ApplyFault::Memory(_) => Stop::Memory,
-        ApplyFault::NoRoom => Stop::NoRoom,
-    }
-}
-
-// Why a shard refused a migration.
-fn migrate_stop(fault: MigrateFault) -> Stop
-    ensures { result ≡ stop_of_migration fault }
-{
-    match fault {
-        MigrateFault::Busy => Stop::Busy,
-        MigrateFault::VersionsSpent => Stop::Spent,
-        MigrateFault::Memory(_) => Stop::Memory,
-        MigrateFault::NoRoom => Stop::NoRoom,
-    }
-}
-
-// The format that a migration left, as an answer.
-fn left_answer<A: Allocator>(was: Option<Format>) -> ShardedAnswer<A>
-    ensures { text_of result ≡ line_of (left_words was) }
-{
-    match was {
-        Some(format) => ShardedAnswer::Store(Answer::Was(format)),
-        None => ShardedAnswer::Store(Answer::Done),
-    }
-}
-
-// What a handle answers, and the handle.
-type Asked<'a, A> = (ShardedAnswer<A>, Handle<'a, A, A>);
-
-// Asks a handle for a put.
-fn ask_put<'a, A: Allocator + Copy>(
-    handle: Handle<'a, A, A>,
-    key: &Key,
-    value: &Value,
-) -> Asked<'a, A>
-    ensures { Writes (change.Put key.now value.now) key.now handle.entry (text_of result.0)
-        result.1 }
-{
-    let mut handle = handle;
-    let answer = write_answer(handle.try_put(key, value));
-    (answer, handle)
-}
-
-// Asks a handle for a remove.
-fn ask_remove<'a, A: Allocator + Copy>(handle: Handle<'a, A, A>, key: &Key) -> Asked<'a, A>
-    ensures { Writes (change.Remove key.now) key.now handle.entry (text_of result.0) result.1 }
-{
-    let mut handle = handle;
-    let answer = write_answer(handle.try_remove(key));
-    (answer, handle)
-}
-
-// Asks a handle for a look-up.
-fn ask_get<'a, A: Allocator + Copy>(handle: Handle<'a, A, A>, key: &Key) -> Asked<'a, A>
-    ensures { Gets key.now handle.entry (text_of result.0) result.1 }
-{
-    let mut handle = handle;
-    let found = handle.get(key);
-    (ShardedAnswer::Store(Answer::Value(found)), handle)
-}
-
-// What a batch returned, as an answer.
-fn batch_answer<A: Allocator>(applied: Result<(), SpreadFault>) -> ShardedAnswer<A>
-    ensures { text_of result ≡ line_of (batch_words applied) }
-{
-    match applied {
-        Ok(()) => ShardedAnswer::Store(Answer::Done),
-        Err(SpreadFault::Memory(refused)) => ShardedAnswer::Store(Answer::Memory(refused)),
-        Err(SpreadFault::Shard(shard, fault)) => ShardedAnswer::Stopped(shard, apply_stop(fault)),
-    }
-}
-
-// Asks a handle to make the edits of a batch.
-fn ask_batch<'a, A: Allocator + Copy>(
-    alloc: A,
-    handle: Handle<'a, A, A>,
-    edits: &Edits<'_>,
-) -> Asked<'a, A>
-    ensures { Applies edits.now handle.entry (text_of result.0) result.1 }
-{
-    let mut handle = handle;
-    match edits.to_vec(alloc) {
-        Ok(list) => {
-            let answer = batch_answer(handle.try_apply(alloc, list.as_slice()));
-            (answer, handle)
-        }
-        Err(refused) => (ShardedAnswer::Store(Answer::Memory(refused)), handle),
-    }
-}
-
-// Asks for the format of all shards, by a snapshot.
-fn format_of<'a, A: Allocator + Copy>(
-    handle: Handle<'a, A, A>,
-) -> (Option<Format>, Handle<'a, A, A>)
-    ensures { WereIn result.0 handle.entry result.1 }
-{
-    let mut snapshot = handle.snapshot();
-    let format = snapshot.format();
-    (format, snapshot.release())
-}
-
-// What a migration returned, as an answer.
-fn migration_answer<A: Allocator>(
-    was: Option<Format>,
-    migrated: Result<(), StoppedMigration>,
-) -> ShardedAnswer<A>
-    ensures { text_of result ≡ line_of (migration_words was migrated) }
-{
-    match migrated {
-        Ok(()) => left_answer(was),
-        Err(StoppedMigration { shard, fault }) => {
-            ShardedAnswer::Stopped(shard, migrate_stop(fault))
-        }
-    }
-}
-
-// Asks a handle for a migration.
-fn ask_migrate<'a, A: Allocator + Copy>(
-    alloc: A,
-    handle: Handle<'a, A, A>,
-    to: Format,
-) -> Asked<'a, A>
-    ensures { Moves to handle.entry (text_of result.0) result.1 }
-{
-    let (was, handle) = format_of(handle);
-    let mut handle = handle;
-    let answer = migration_answer(was, handle.try_migrate(alloc, to));
-    (answer, handle)
-}
+use std::sync::Wait;
 
 // Asks a snapshot that is taken for this line alone.
-fn look<'a, A: Allocator + Copy>(
+fn look<R: Wait, A: Allocator + Copy>(
+    rt: &R,
     alloc: A,
-    handle: Handle<'a, A, A>,
+    reader: Reader<A>,
     command: &Command<'_>,
-) -> Asked<'a, A>
+) -> (ShardedAnswer<A>, ScriptPass<A>)
     requires look { is_look command.now ≡ true }
-    ensures pins { PinsAll handle.entry result.1 }
-    ensures found { Finds command.now result.1 (text_of result.0) }
+    ensures { LooksAt command.now reader (text_of result.0) result.1 }
 {
-    let mut snapshot = handle.snapshot();
+    let mut snapshot = reader.snapshot(rt);
     let answer = recall(alloc, &mut snapshot, command);
-    (answer, snapshot.release())
+    (answer, ScriptPass::free(snapshot.release()))
 }
 
-/// Lets a handle that has pinned nothing do what it is asked for, but to pin.
-pub fn ask<'a, A: Allocator + Copy>(
+// Pins the last block that was published, and tells the number of its version.
+fn pin<R: Wait, A: Allocator + Copy>(
+    rt: &R,
+    reader: Reader<A>,
+    before: u64,
+) -> (ShardedAnswer<A>, ScriptPass<A>)
+    ensures { Pins before reader (text_of result.0) result.1 }
+{
+    let snapshot = reader.snapshot(rt);
+    match before.checked_add(snapshot.number()) {
+        Some(version) => (
+            ShardedAnswer::Store(Answer::Pinned(version)),
+            ScriptPass::pinned(snapshot, None),
+        ),
+        None => (
+            ShardedAnswer::Store(Answer::Spent),
+            ScriptPass::free(snapshot.release()),
+        ),
+    }
+}
+
+/// What a line is answered, and the writer and the pass then.
+pub type Acted<A> = (ShardedAnswer<A>, Writer<A>, ScriptPass<A>);
+
+// Asks a reader for a look-up.
+fn get<A: Allocator + Copy>(writer: Writer<A>, reader: Reader<A>, key: &Key) -> Acted<A>
+    ensures gets { (q : Whole) × Gets key.now reader (text_of result.0) q × (result.2 ≡ Free q) }
+    ensures same { result.1 ≡ writer }
+{
+    let mut reader = reader;
+    let found = reader.get(key);
+    (
+        ShardedAnswer::Store(Answer::Value(found)),
+        writer,
+        ScriptPass::free(reader),
+    )
+}
+
+// Reads by a snapshot, while the writer waits.
+fn read<R: Wait, A: Allocator + Copy>(
+    rt: &R,
     alloc: A,
-    handle: Handle<'a, A, A>,
+    writer: Writer<A>,
+    reader: Reader<A>,
     command: &Command<'_>,
-) -> Asked<'a, A>
-    requires other { is_pin command.now ≡ false }
-    ensures { Acts command.now handle.entry (text_of result.0) result.1 }
+) -> Acted<A>
+    requires look { is_look command.now ≡ true }
+    ensures looks { LooksAt command.now reader (text_of result.0) result.2 }
+    ensures same { result.1 ≡ writer }
+{
+    let (answer, pass) = look(rt, alloc, reader, command);
+    (answer, writer, pass)
+}
+
+// The answer of a pass that has pinned nothing and is to end a pin.
+fn mispinned<A: Allocator>() -> ShardedAnswer<A>
+    ensures { IsMispinned (text_of result) }
+{
+    ShardedAnswer::Store(Answer::Refused(Fault::Pinning))
+}
+
+// Tells what a pass may not be asked for.
+fn refuse<A: Allocator + Copy>(
+    writer: Writer<A>,
+    reader: Reader<A>,
+    why: ShardedAnswer<A>,
+) -> Acted<A>
+    ensures told { text_of result.0 ≡ text_of why }
+    ensures free { result.2 ≡ Free reader }
+    ensures same { result.1 ≡ writer }
+{
+    (why, writer, ScriptPass::free(reader))
+}
+
+/// Lets a pass do what it is asked for that has pinned nothing.
+pub fn act<R: Wait, A: Allocator + Copy>(
+    rt: &R,
+    alloc: A,
+    writer: Writer<A>,
+    reader: Reader<A>,
+    command: &Command<'_>,
+    before: u64,
+) -> Acted<A>
+    requires other { migration_of command.now ≡ None }
+    ensures { Acts command.now before writer reader (text_of result.0) result.1 result.2 }
 {
     match command {
-        Command::Put(key, value) => ask_put(handle, key, value),
-        Command::Remove(key) => ask_remove(handle, key),
-        Command::Batch(edits) => ask_batch(alloc, handle, edits),
-        Command::Migrate(to) => ask_migrate(alloc, handle, *to),
-        Command::Get(key) => ask_get(handle, key),
-        Command::Next(_) => look(alloc, handle, command),
-        Command::Range(..) => look(alloc, handle, command),
-        Command::Root => look(alloc, handle, command),
-        Command::Prove(_) => look(alloc, handle, command),
-        Command::Format => look(alloc, handle, command),
-        Command::Node => (ShardedAnswer::NoSuch, handle),
-        Command::Rows => (ShardedAnswer::NoSuch, handle),
-        Command::Unpin => (
-            ShardedAnswer::Store(Answer::Refused(Fault::Pinning)),
-            handle,
-        ),
-        // a handle that pins is no longer free
-        Command::Pin => (
-            ShardedAnswer::Store(Answer::Refused(Fault::Pinning)),
-            handle,
-        ),
+        Command::Put(key, value) => {
+            let (answer, writer) = put(alloc, writer, key, value);
+            (answer, writer, ScriptPass::free(reader))
+        }
+        Command::Remove(key) => {
+            let (answer, writer) = remove(alloc, writer, key);
+            (answer, writer, ScriptPass::free(reader))
+        }
+        Command::Batch(edits) => {
+            let (answer, writer) = apply(alloc, writer, edits);
+            (answer, writer, ScriptPass::free(reader))
+        }
+        Command::Get(key) => get(writer, reader, key),
+        Command::Next(_) => read(rt, alloc, writer, reader, command),
+        Command::Range(..) => read(rt, alloc, writer, reader, command),
+        Command::Root => read(rt, alloc, writer, reader, command),
+        Command::Prove(_) => read(rt, alloc, writer, reader, command),
+        Command::Format => read(rt, alloc, writer, reader, command),
+        Command::Pin => {
+            let (answer, pass) = pin(rt, reader, before);
+            (answer, writer, pass)
+        }
+        Command::Node => refuse(writer, reader, ShardedAnswer::NoSuch),
+        Command::Rows => refuse(writer, reader, ShardedAnswer::NoSuch),
+        Command::Unpin => refuse(writer, reader, mispinned()),
+        Command::Migrate(_) => unreachable!(),
     }
 }

@@ -1,132 +1,131 @@
-//! A script: the lines of a source, asked of the handles of a sharded map, and answered into a
+//! A script: the lines of a source, asked of the passes over a sharded map, and answered into a
 //! sink.
-ghost use Rattle.std.specs.Prelude.{◌≡◌, ◌<◌, ◌≤◌, ◌-◌, ◌+◌, ◌^◌, [], length, Err, IfErr, OnOk, OnErr};
+ghost use Rattle.std.specs.Prelude.{◌≡◌, ◌<◌, ◌-◌, ◌+◌, ◌^◌, [], Err, IfOk, IfErr, OnOk, OnErr};
 ghost use Rattle.mst_lines.specs.Runs.{Ran, Stopped};
 ghost use Rattle.mst_lines.specs.Driving.{Answered, Lost, Closed, NotClosed};
 ghost use Rattle.mst_script.specs.Scripts.{HasFailed, OnMemory};
 ghost use Rattle.mst_sharded_script.specs.Serving.{Serves};
+ghost use Rattle.mst_sharded_script.specs.States.{ScriptState};
 
 use crate::answer::put_sharded;
 use crate::serve::serve;
-use crate::state::HandleState;
+use crate::state::Script;
 use mst_devices::{Device, Pending, Sink, Source};
 use mst_key::Memory;
 use mst_lines::{LineBuffer, Reader};
 use mst_script::RunFault;
 use std::alloc::Allocator;
+use std::sync::Wait;
 
 // Answers the line that was read.
-fn answer_line<W: Sink, A: Allocator + Copy>(
+fn answer_line<R: Wait, W: Sink, A: Allocator + Copy>(
+    rt: &R,
     alloc: A,
     sink: &mut W,
     pending: &mut Pending<A>,
     line: &LineBuffer,
-    states: &mut Vec<HandleState<'_, A>, A>,
-) -> Result<(), Device>
+    script: Script<A>,
+) -> Result<Script<A>, Device>
     requires few { W.failures sink.old < 2 ^ 64 - 1 }
-    requires handles { length states.old.items ≤ 32 }
-    ensures handles { length states.new.items ≡ length states.old.items }
-    ensures ok { OnOk result (Answered W.takes Serves line.now
-        sink.old pending.old states.old.items sink.new pending.new states.new.items) }
+    ensures ok { IfOk result (λ last. Answered W.takes Serves line.now sink.old pending.old script
+        sink.new pending.new last) }
     ensures steady { OnOk result (W.failures sink.new ≡ W.failures sink.old) }
-    ensures err { OnErr result (Lost W.takes Serves line.now
-        sink.old pending.old states.old.items sink.new states.new.items) }
+    ensures err { OnErr result ((last : ScriptState) × Lost W.takes Serves line.now sink.old
+        pending.old script sink.new last) }
     ensures failed { OnErr result (W.failures sink.old < W.failures sink.new) }
 {
-    let answer = serve(alloc, states, line);
-    put_sharded(sink, pending, &answer)
+    let (answer, script) = serve(rt, alloc, script, line);
+    put_sharded(sink, pending, &answer)?;
+    Ok(script)
 }
 
 // Answers a rest that is not empty, and writes what waits.
-fn finish<W: Sink, A: Allocator + Copy>(
+fn finish<R: Wait, W: Sink, A: Allocator + Copy>(
+    rt: &R,
     alloc: A,
     sink: &mut W,
     pending: &mut Pending<A>,
     line: &LineBuffer,
-    states: &mut Vec<HandleState<'_, A>, A>,
+    script: Script<A>,
 ) -> Result<(), Device>
     requires few { W.failures sink.old < 2 ^ 64 - 1 }
-    requires handles { length states.old.items ≤ 32 }
-    ensures handles { length states.new.items ≡ length states.old.items }
-    ensures ok { OnOk result (Closed W.takes Serves line.now
-        sink.old pending.old states.old.items sink.new states.new.items) }
+    ensures ok { OnOk result ((last : ScriptState) × Closed W.takes Serves line.now sink.old
+        pending.old script sink.new last) }
     ensures steady { OnOk result (W.failures sink.new ≡ W.failures sink.old) }
-    ensures err { OnErr result (NotClosed W.takes Serves line.now
-        sink.old pending.old states.old.items sink.new states.new.items) }
+    ensures err { OnErr result ((last : ScriptState) × NotClosed W.takes Serves line.now sink.old
+        pending.old script sink.new last) }
     ensures failed { OnErr result (W.failures sink.old < W.failures sink.new) }
 {
     if line.is_empty() {
         return pending.flush(sink);
     }
-    answer_line(alloc, sink, pending, line, states)?;
+    let _last = answer_line(rt, alloc, sink, pending, line, script)?;
     pending.flush(sink)
 }
 
 // Answers all lines.
-fn drive<S: Source, W: Sink, A: Allocator + Copy>(
+fn drive<R: Wait, S: Source, W: Sink, A: Allocator + Copy>(
+    rt: &R,
     alloc: A,
     source: &mut S,
     sink: &mut W,
     pending: &mut Pending<A>,
     reader: &mut Reader<A>,
-    states: &mut Vec<HandleState<'_, A>, A>,
+    script: Script<A>,
 ) -> Result<(), Device>
     requires source { S.failures source.old < 2 ^ 64 - 1 }
     requires sink { W.failures sink.old < 2 ^ 64 - 1 }
     requires pending { pending.old ≡ [] }
     requires reader { reader.old ≡ [] }
-    requires handles { length states.old.items ≤ 32 }
-    ensures handles { length states.new.items ≡ length states.old.items }
-    ensures ok { OnOk result (Ran S.gives W.takes Serves
-        source.old sink.old states.old.items source.new sink.new states.new.items) }
+    ensures ok { OnOk result ((last : ScriptState) × Ran S.gives W.takes Serves
+        source.old sink.old script source.new sink.new last) }
     ensures ended { OnOk result (S.left source.new ≡ 0) }
     ensures steady_source { OnOk result (S.failures source.new ≡ S.failures source.old) }
     ensures steady_sink { OnOk result (W.failures sink.new ≡ W.failures sink.old) }
-    ensures err { OnErr result (Stopped S.gives W.takes W.failures Serves
-        source.old sink.old states.old.items source.new sink.new states.new.items) }
+    ensures err { OnErr result ((last : ScriptState) × Stopped S.gives W.takes W.failures Serves
+        source.old sink.old script source.new sink.new last) }
     ensures failed { OnErr result
         (HasFailed S.failures W.failures source.old sink.old source.new sink.new) }
 {
     let mut line = LineBuffer::new();
+    let mut script = script;
     while reader.next(source, sink, pending, &mut line)? {
-        answer_line(alloc, sink, pending, &line, states)?;
+        let later = answer_line(rt, alloc, sink, pending, &line, script)?;
+        script = later;
     }
-    finish(alloc, sink, pending, &line, states)
+    finish(rt, alloc, sink, pending, &line, script)
 }
 
 /// Answers the lines of the source into the sink, up to the end of the source or to the first
-/// failure of a device. The number in front of a line is the place of a handle, from 1; pins last
-/// until their `unpin`, also beyond the run.
+/// failure of a device. The number in front of a line is that of a pass, from 1. A read of the
+/// whole map waits while a block is just being published, which no script does.
 ///
-/// Returns `Memory` if a growth at the start was refused, before anything was read, written or
-/// changed; `Device` if a read or a write failed. A line takes memory only for what its `range`,
-/// `prove` or `root` finds, for a migration or for a batch, and is answered `memory` if that is
-/// refused.
-pub fn run<S: Source, W: Sink, A: Allocator + Copy>(
+/// Returns `Memory` if a growth at the start was refused, before anything was read or written;
+/// `Device` if a read or a write failed. A line takes memory only for what its `range` or `prove`
+/// finds and for a write, and is answered `memory` if that is refused.
+pub fn run<R: Wait, S: Source, W: Sink, A: Allocator + Copy>(
+    rt: &R,
     alloc: A,
     source: &mut S,
     sink: &mut W,
-    states: &mut Vec<HandleState<'_, A>, A>,
+    script: Script<A>,
 ) -> Result<(), RunFault>
     requires source { S.failures source.old < 2 ^ 64 - 1 }
     requires sink { W.failures sink.old < 2 ^ 64 - 1 }
-    requires handles { length states.old.items ≤ 32 }
 
-    ensures handles { length states.new.items ≡ length states.old.items }
-    ensures ok { OnOk result (Ran S.gives W.takes Serves
-        source.old sink.old states.old.items source.new sink.new states.new.items) }
+    ensures ok { OnOk result ((last : ScriptState) × Ran S.gives W.takes Serves
+        source.old sink.old script source.new sink.new last) }
     ensures ended { OnOk result (S.left source.new ≡ 0) }
     ensures steady_source { OnOk result (S.failures source.new ≡ S.failures source.old) }
     ensures steady_sink { OnOk result (W.failures sink.new ≡ W.failures sink.old) }
 
-    ensures stopped { result ≡ Err RunFault.Device
-        → Stopped S.gives W.takes W.failures Serves
-        source.old sink.old states.old.items source.new sink.new states.new.items }
+    ensures stopped { result ≡ Err RunFault.Device → (last : ScriptState)
+        × Stopped S.gives W.takes W.failures Serves source.old sink.old script source.new sink.new
+        last }
     ensures device { result ≡ Err RunFault.Device
         → HasFailed S.failures W.failures source.old sink.old source.new sink.new }
     ensures memory { IfErr result (λ fault. OnMemory fault
-        ((source.new ≡ source.old) × (sink.new ≡ sink.old)
-        × (states.new.items ≡ states.old.items))) }
+        ((source.new ≡ source.old) × (sink.new ≡ sink.old))) }
 {
     let mut pending = match Pending::new(alloc) {
         Ok(pending) => pending,
@@ -136,7 +135,7 @@ pub fn run<S: Source, W: Sink, A: Allocator + Copy>(
         Ok(reader) => reader,
         Err(refused) => return Err(RunFault::Memory(Memory::from(refused))),
     };
-    match drive(alloc, source, sink, &mut pending, &mut reader, states) {
+    match drive(rt, alloc, source, sink, &mut pending, &mut reader, script) {
         Ok(()) => Ok(()),
         Err(Device) => Err(RunFault::Device),
     }

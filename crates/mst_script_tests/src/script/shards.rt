@@ -1,19 +1,22 @@
-//! Scripts over maps of one shard and of two: whole, and between devices that fail.
-ghost use Rattle.std.specs.Prelude.{◌≡◌, ◌<◌, ◌≤◌, ◌-◌, ◌^◌, length};
-ghost use Rattle.mst_sharded.specs.Opening.{seats_of};
+//! Scripts over maps of one shard and of two: whole, and between devices that fail. More shards and
+//! the ends of all ranges `tests/transcripts` shows, and memory that is refused `tests/devices`.
+ghost use Rattle.std.specs.Prelude.{◌≡◌, ◌<◌, ◌-◌, ◌^◌, true};
+ghost use Rattle.mst_shards.specs.Sharding.{IsSplits};
+ghost use Rattle.mst_sharded_script.specs.Opening.{IsScriptShape};
 
 use crate::confirming::confirm;
 use crate::failing::{Reader, Writer};
 use mst_devices::{BytesSink, BytesSource, Sink, Source, StdSink, StdSource};
 use mst_key::Key;
 use mst_script::RunFault;
-use mst_sharded::{AllSeats, Sharded};
-use mst_sharded_script::{HandleState, run as run_sharded, states_of};
+use mst_sharded_script::{Script, is_script_shape, run as run_sharded};
+use mst_shards::are_splits;
 use mst_store::{Format, Shape};
 use std::alloc::Global;
 use std::process::Abort;
+use std::sync::Wait;
 
-/// A shard with three passes.
+/// A shard of a script with three passes.
 const SHAPE: Shape = Shape {
     rows: 1024,
     passes: 3,
@@ -21,45 +24,22 @@ const SHAPE: Shape = Shape {
 };
 
 /// Splits into this many shards, each at a key of one byte.
-fn splits_of(rt: &impl Abort, alloc: Global, shards: u8) -> Vec<Key> {
+fn splits_of(rt: &impl Abort, alloc: Global, shards: u8) -> Vec<Key>
+    ensures splits { IsSplits result.items }
+{
     let mut splits = Vec::new(alloc);
     for shard in 1..shards {
         let byte = shard.wrapping_mul(24) / shards.max(1) + 16;
         let split = Key::new(&[byte]).expect(rt, "1 to 32 bytes");
         splits.push(split).expect(rt, "memory");
     }
+    assert!(rt; are_splits(&splits));
     splits
 }
 
-/// A new map of this many shards.
-fn opened(rt: &impl Abort, alloc: Global, shards: u8) -> (Sharded<Global>, AllSeats<Global>)
-    ensures own { result.1 ≡ seats_of result.0 }
-{
-    let Ok(opened) = Sharded::open(alloc, splits_of(rt, alloc, shards), SHAPE) else {
-        panic!(rt; "not opened")
-    };
-    opened
-}
-
-/// The handles of a new map.
-fn states_over<'a>(
-    rt: &impl Abort,
-    alloc: Global,
-    sharded: &'a Sharded<Global>,
-    seats: AllSeats<Global>,
-) -> Vec<HandleState<'a, Global>>
-    requires own { seats ≡ seats_of sharded.now }
-    ensures few { length result.items ≤ 32 }
-{
-    let handles = sharded.deal(alloc, seats).expect(rt, "memory");
-    let states = states_of(alloc, handles).expect(rt, "memory");
-    assert!(rt; states.len() <= 32);
-    states
-}
-
 /// Runs a script over a new map of this many shards.
-fn run_shards<S: Source, W: Sink>(
-    rt: &impl Abort,
+fn run_shards<R: Abort + Wait, S: Source, W: Sink>(
+    rt: &R,
     alloc: Global,
     shards: u8,
     source: &mut S,
@@ -68,9 +48,10 @@ fn run_shards<S: Source, W: Sink>(
     requires source { S.failures source.old < 2 ^ 64 - 1 }
     requires sink { W.failures sink.old < 2 ^ 64 - 1 }
 {
-    let (sharded, seats) = opened(rt, alloc, shards);
-    let mut states = states_over(rt, alloc, &sharded, seats);
-    run_sharded(alloc, source, sink, &mut states)
+    assert!(rt; is_script_shape(SHAPE));
+    let splits = splits_of(rt, alloc, shards);
+    let script = Script::open(rt, alloc, splits, SHAPE).expect(rt, "memory");
+    run_sharded(rt, alloc, source, sink, script)
 }
 
 /// Lines of all kinds, and their answers.
@@ -89,9 +70,17 @@ const SCRIPT: &str = "1 put 11 31
 1 range 11 - 9
 2 range 11 - 9
 1 put 11 35
+2 pin
+3 migrate 1
+1 get 1f
 1 unpin
 1 get 1f
+1 format
 1 rows
+2 format
+2 unpin
+2 format
+3 pin
 ";
 
 const SCRIPT_ANSWERS: &str = "none
@@ -104,7 +93,7 @@ pair 11 31
 pair 1f 32
 pair 1f00 -
 done
-pinned
+pinned 4
 some 32
 was 1
 format 1
@@ -117,13 +106,21 @@ pairs 2
 pair 12 34
 pair 1f00 -
 fault L6
+pinned 6
+was 2
+some 32
 unpinned
 none
+format 1
 fault L7
+format 2
+unpinned
+format 1
+pinned 7
 ";
 
 /// Whether a map of this many shards answers them so.
-fn is_answered(rt: &impl Abort, alloc: Global, shards: u8) -> bool {
+fn is_answered<R: Abort + Wait>(rt: &R, alloc: Global, shards: u8) -> bool {
     let mut source = BytesSource::new(SCRIPT.as_bytes());
     let mut sink = BytesSink::new(alloc, 1_024).expect(rt, "memory");
     let ran = run_shards(rt, alloc, shards, &mut source, &mut sink);
@@ -137,18 +134,52 @@ fn one_shard_answers_as_two(rt: HostRuntime) {
     confirm(&rt, is_answered(&rt, rt.alloc(), 2), "two shards");
 }
 
+/// The passes that a script over shards may not have, and those at the ends of the range.
+const PASSES: [(u32, bool); 6] = [
+    (0, false),
+    (1, true),
+    (31, true),
+    (32, false),
+    (33, false),
+    (u32::MAX, false),
+];
+
+/// The rows.
+const ROWS: [(u32, bool); 4] = [(3, false), (4, true), (65_535, true), (65_536, false)];
+
+/// Whether a shape of these numbers is told so.
+fn is_told(rows: u32, passes: u32, fits: bool) -> bool {
+    let format = Format::Two;
+    let shape = Shape {
+        rows,
+        passes,
+        format,
+    };
+    is_script_shape(shape) == fits
+}
+
+#[test]
+fn a_pass_is_left_for_the_writer(rt: HostRuntime) {
+    for (passes, fits) in PASSES {
+        confirm(&rt, is_told(4, passes, fits), "passes");
+    }
+    for (rows, fits) in ROWS {
+        confirm(&rt, is_told(rows, 31, fits), "rows");
+    }
+}
+
 // ---- devices that fail
 
 /// Lines over one shard or two, and their answers.
 const LINES: &[u8] = b"1 put 11 31\n2 put 1f 32\n1 pin\n2 del 11\n1 range - - 9\n1 unpin\n3 get 1f";
 
 const ANSWERS: &[u8] =
-    b"none\nnone\npinned\nsome 31\npairs 2\npair 11 31\npair 1f 32\nunpinned\nsome 32\n";
+    b"none\nnone\npinned 2\nsome 31\npairs 2\npair 11 31\npair 1f 32\nunpinned\nsome 32\n";
 
 /// How such a run ends that writes into these bytes, seven at a time, and reads so too, where the
 /// reads fail after this many.
-fn ran_into(
-    rt: &impl Abort,
+fn ran_into<R: Abort + Wait>(
+    rt: &R,
     alloc: Global,
     shards: u8,
     reads: u64,
@@ -166,7 +197,7 @@ fn ran_into(
 
 /// Whether a run between devices that fail after this many reads and this many writes, and so is
 /// ended, has written a first part of the answers, and another all.
-fn ends_so(rt: &impl Abort, alloc: Global, shards: u8, reads: u64, writes: u64) -> bool {
+fn ends_so<R: Abort + Wait>(rt: &R, alloc: Global, shards: u8, reads: u64, writes: u64) -> bool {
     let mut out = Writer::new(alloc, 7, writes, false);
     let ran = ran_into(rt, alloc, shards, reads, &mut out);
     let written = out.bytes.as_slice();
@@ -175,14 +206,14 @@ fn ends_so(rt: &impl Abort, alloc: Global, shards: u8, reads: u64, writes: u64) 
 }
 
 /// Whether a run ends so that no device ends.
-fn is_whole(rt: &impl Abort, alloc: Global, shards: u8) -> bool {
+fn is_whole<R: Abort + Wait>(rt: &R, alloc: Global, shards: u8) -> bool {
     let mut out = Writer::new(alloc, 7, u64::MAX, false);
     let ran = ran_into(rt, alloc, shards, u64::MAX, &mut out);
     ran == Ok(()) && out.bytes.as_slice() == ANSWERS
 }
 
 /// Whether all runs over this many shards end so.
-fn all_end(rt: &impl Abort, alloc: Global, shards: u8) -> bool {
+fn all_end<R: Abort + Wait>(rt: &R, alloc: Global, shards: u8) -> bool {
     for count in 0..24u64 {
         let by_reads = ends_so(rt, alloc, shards, count, u64::MAX);
         if !by_reads || !ends_so(rt, alloc, shards, u64::MAX, count) {

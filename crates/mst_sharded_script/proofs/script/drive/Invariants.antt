@@ -1,17 +1,16 @@
-use Rattle.std.proofs.Common.{◌≡◌, ◌+◌, length, vec_items}
+use Rattle.std.proofs.Common.{◌≡◌, ◌+◌, length}
 use Rattle.mst_lines.specs.Driving.{Reached}
 use Rattle.mst_sharded_script.specs.Serving.{Serves}
 use Rattle.mst_sharded_script.proofs.script.drive.Given as goal
 
 -- the lines so far are answered
-abbrev pub invariant-loop-sink : goal.invariant-loop-sink
-invariant-loop-sink g l = record {
+abbrev pub invariant-loop-script : goal.invariant-loop-script
+invariant-loop-script g l = record {
   source_failures : g.S.Source.failures l.source ≡ g.S.Source.failures l.fn.source;
   sink_failures : g.W.Sink.failures l.sink ≡ g.W.Sink.failures l.fn.sink;
-  handles : length (vec_items l.states) ≡ length (vec_items l.fn.states);
-  reached : Reached g.S.Source.gives g.W.Sink.takes Serves l.fn.source l.fn.sink
-      (vec_items l.fn.states) l.reader l.source l.sink l.pending (vec_items l.states);
+  reached : Reached g.S.Source.gives g.W.Sink.takes Serves l.fn.source l.fn.sink l.fn.script
+      l.reader l.source l.sink l.pending l.script;
 }
 
-abbrev pub decreases-loop-sink : goal.decreases-loop-sink
-decreases-loop-sink g l = length l.reader + g.S.Source.left l.source
+abbrev pub decreases-loop-script : goal.decreases-loop-script
+decreases-loop-script g l = length l.reader + g.S.Source.left l.source

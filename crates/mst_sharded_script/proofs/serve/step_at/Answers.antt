@@ -1,38 +1,71 @@
-use Rattle.std.proofs.Common.{◌≡◌, ◌++◌, ◌∷◌, [], ◌∙◌, ℕ, List, length, length-append, drop, vec_items, sym, ap, subst, arith}
-use Rattle.std.specs.List.{SwappedAt}
-use Rattle.mst_shards.proofs.Moved.{written_whole}
-use Rattle.mst_sharded_script.specs.States.{State}
-use Rattle.mst_sharded_script.specs.Serving.{StepsAt}
+use Rattle.std.proofs.Common.{◌≡◌, ◌<◌, ℕ, List, length, vec_items, vec_len, sym, ap, subst, arith}
 use Rattle.mst_sharded_script.specs.Answers.{text_of}
-use Rattle.mst_sharded_script.proofs.Stepping.{steps_at}
+use Rattle.mst_sharded_script.specs.States.{PassState, ScriptState}
+use Rattle.mst_sharded_script.specs.Serving.{StepsAt, stepped}
+use Rattle.mst_sharded_script.proofs.Stepping.{back_again, steps_at, over_new, over_none}
+use Rattle.mst_sharded_script.proofs.serve.step_at.Given.{Over}
+use Rattle.mst_sharded_script.proofs.serve.step_at.Goals.{After-put_back}
 use Rattle.mst_sharded_script.proofs.serve.step_at.Goals as goal
 
-pub returns-clause-steps : goal.returns-clause-steps
-returns-clause-steps g c =
-    let xs : List State = vec_items c.args.states.now in
-    let ys : List State = vec_items c.swap_remove-state.new.self in
-    let pushed = c.push_reserved.new.self in
-    let ws : List State = c.swap.new.self in
-    let n : ℕ = c.len-last.result in
-    let x : State = c.swap_remove-state.result in
-    let q : State = c.step-answer.result.1 in
-    let text : List ℕ = text_of c.step-answer.result.0 in
-    let put : c.as_mut_slice.result.now ≡ ys ++ q ∷ [] =
-    c.as_mut_slice.ensures.value ∙ c.push_reserved.ensures.items in
-    let taken = c.swap_remove-state.ensures.len in
-    let was = c.args.states.now.ok.0 in
-    let left = c.swap_remove-state.new.self.ok.0 in
-    let last = c.len-last.ensures in
-    let swapped = c.swap.ensures.len in
-    let long = ap (λ (l : List State). length l) put in
-    let more = length-append ys (q ∷ []) in
-    let whole : pushed.len ≡ length ws =
-    pushed.ok.0 ∙ ap (λ (l : List State). length l) (sym c.as_mut_slice.ensures.value)
-    ∙ sym swapped in
-    subst (λ (zs : List State). StepsAt c.args.place c.args.command.now xs text zs)
-    (sym (written_whole pushed.len ws (drop (length ws) pushed.items) whole))
-    (steps_at c.args.command.now xs ys ws c.args.place n x q text c.requires.there
-    (omega (arith, taken, was, last)) (omega (arith, swapped, long, more, left, last))
-    c.swap_remove-state.ensures.value c.swap_remove-state.ensures.items
-    (subst (λ (l : List State). SwappedAt l ws c.args.place n) put c.swap.ensures.by_index)
-    c.step-answer.ensures)
+module _ (g : Over) (c : After-put_back g) where
+  abbrev s : ScriptState
+  s = record {
+    writer = c.script.inside.writer;
+    passes = vec_items c.script.inside.passes;
+    layout = c.script.inside.layout;
+  }
+
+  abbrev after : ScriptState
+  after = record {
+    writer = c.step-answer.result.writer;
+    passes = vec_items c.put_back.new.passes;
+    layout = c.script.inside.layout;
+  }
+
+  low : c.args.place < length (vec_items c.script.inside.passes)
+  low = subst (λ (z : ScriptState). c.args.place < length z.passes) (sym c.script.view_is)
+      c.requires.there
+
+  now : after ≡ stepped c.args.place c.step-answer.result.writer c.step-answer.result.pass s
+  now =
+      let taken = c.swap_remove-pass.ensures.len in
+      let was = c.script.inside.passes.ok.0 in
+      let again = c.put_back.ensures.len in
+      let whole = c.put_back.new.passes.ok.0 in
+      ap (λ (l : List PassState). record {
+        writer = c.step-answer.result.writer;
+        passes = l;
+        layout = c.script.inside.layout;
+      })
+      (back_again (vec_items c.script.inside.passes) (vec_items c.swap_remove-pass.new.self)
+      (vec_items c.put_back.new.passes) c.args.place (vec_len c.swap_remove-pass.new.self)
+      c.swap_remove-pass.result c.step-answer.result.pass low (omega (arith, taken, was))
+      (omega (arith, again, whole)) c.swap_remove-pass.ensures.items c.put_back.ensures.back)
+
+pub returns-in-Some : goal.returns-in-Some
+returns-in-Some g c =
+    let at = (goal.at.returns-in-Some g c).After-put_back in
+    let text : List ℕ = text_of c.step-answer.result.answer in
+    let x = c.step-answer.result.writer in
+    let p = c.step-answer.result.pass in
+    subst (λ (z : ScriptState). StepsAt c.args.place c.args.command.now z text c.moved_to.result)
+    c.script.view_is
+    (steps_at c.args.command.now (s g at) c.moved_to.result c.args.place c.swap_remove-pass.result
+    text x p c.step-answer.result.new (low g at) c.swap_remove-pass.ensures.value
+    c.step-answer.ensures.step
+    (over_new c.step-answer.result.new c.in-Some.new c.moved_to.result (after g at)
+    (stepped c.args.place x p (s g at)) c.in-Some.is c.moved_to.ensures.moved (now g at)))
+
+pub returns-in-None : goal.returns-in-None
+returns-in-None g c =
+    let at = (goal.at.returns-in-None g c).After-put_back in
+    let text : List ℕ = text_of c.step-answer.result.answer in
+    let x = c.step-answer.result.writer in
+    let p = c.step-answer.result.pass in
+    subst (λ (z : ScriptState). StepsAt c.args.place c.args.command.now z text (after g at))
+    c.script.view_is
+    (steps_at c.args.command.now (s g at) (after g at) c.args.place c.swap_remove-pass.result
+    text x p c.step-answer.result.new (low g at) c.swap_remove-pass.ensures.value
+    c.step-answer.ensures.step
+    (over_none c.step-answer.result.new (after g at) (stepped c.args.place x p (s g at))
+    c.in-None.is (now g at)))

@@ -1,0 +1,14 @@
+use Rattle.std.proofs.Common.{refl}
+use Rattle.mst_sharded_script.proofs.asking.get.Goals as goal
+
+pub returns-clause-gets : goal.returns-clause-gets
+returns-clause-gets g c = (
+  c.get-found.new.self,
+  record {
+    found = c.get-found.result;
+    told = refl;
+    answers = c.get-found.ensures.answers;
+    directory = c.get-found.ensures.directory;
+  },
+  c.free.ensures,
+)
