@@ -77,6 +77,19 @@ int is_batch(const uint8_t *edits, size_t length) {
     return at == length;
 }
 
+/* Each put ends before the next pair begins: it has moved by a byte less than the one before. */
+void turn_to_puts(uint8_t *room, size_t count) {
+    size_t put = 0, pair = count;
+    for (size_t at = 0; at < count; at++) {
+        mst_pair its;
+        size_t length = mst_pair_at(room, pair, &its) - pair;
+        room[put] = PUT;
+        memmove(room + put + 1, room + pair, length);
+        put += 1 + length;
+        pair += length;
+    }
+}
+
 /* Of a key that is too long it writes a length alone that no split has. */
 size_t mst_split(uint8_t *room, size_t at, const uint8_t *key, size_t key_length) {
     int fits = key_length <= MST_KEY_LONGEST;

@@ -36,8 +36,8 @@ struct request {
     struct request *next; /* in the queue, and later in the block */
 };
 
-struct mst_blocks_group {
-    mst_blocks_handle writer; /* of the thread that leads */
+struct mst_sharded_group {
+    mst_handle writer; /* of the thread that leads */
     pthread_mutex_t lock;     /* of what follows */
     int is_led;
     struct request *first, *last; /* the queue; if nobody leads, its first was called */
@@ -45,7 +45,7 @@ struct mst_blocks_group {
 
 /* ---- the queue, under the lock ---- */
 
-static void enqueue(mst_blocks_group *group, struct request *request) {
+static void enqueue(mst_sharded_group *group, struct request *request) {
     if (group->first == NULL)
         group->first = request;
     else
@@ -61,7 +61,7 @@ static int is_followed(const struct request *last, size_t bytes) {
 }
 
 /* The last request that goes into the block of the first. */
-static struct request *last_in_block(const mst_blocks_group *group) {
+static struct request *last_in_block(const mst_sharded_group *group) {
     struct request *last = group->first;
     for (size_t bytes = last->length; is_followed(last, bytes); bytes += last->length)
         last = last->next;
@@ -69,7 +69,7 @@ static struct request *last_in_block(const mst_blocks_group *group) {
 }
 
 /* The caller leads: takes the requests of the next block, as a list. */
-static struct request *dequeue(mst_blocks_group *group) {
+static struct request *dequeue(mst_sharded_group *group) {
     struct request *first = group->first, *last = last_in_block(group);
     group->is_led = 1;
     group->first = last->next;
@@ -78,7 +78,7 @@ static struct request *dequeue(mst_blocks_group *group) {
 }
 
 /* The caller leads no more. Returns the first that waits, if there is one, to be called. */
-static struct request *leave(mst_blocks_group *group) {
+static struct request *leave(mst_sharded_group *group) {
     group->is_led = 0;
     if (group->first != NULL)
         group->first->is_called = 1;
@@ -87,9 +87,9 @@ static struct request *leave(mst_blocks_group *group) {
 
 /* ---- blocks, by the thread that leads, without the lock ---- */
 
-static void make_alone(mst_blocks_group *group, struct request *request) {
-    request->told = mst_blocks_apply(&group->writer, request->edits, request->length,
-                                     request->place, request->shard, request->number);
+static void make_alone(mst_sharded_group *group, struct request *request) {
+    request->told = mst_sharded_apply(&group->writer, request->edits, request->length,
+                                      request->place, request->shard, request->number);
 }
 
 static size_t length_of(const struct request *requests) {
@@ -108,7 +108,7 @@ static void join(const struct request *requests, uint8_t *edits) {
 }
 
 /* Whether all requests are made as one block. Otherwise nothing is made. */
-static int make_one_block(mst_blocks_group *group, struct request *requests) {
+static int make_one_block(mst_sharded_group *group, struct request *requests) {
     size_t length = length_of(requests), place, shard;
     uint64_t number;
     /* a byte more, since a malloc may give none for no bytes */
@@ -116,7 +116,7 @@ static int make_one_block(mst_blocks_group *group, struct request *requests) {
     if (edits == NULL)
         return 0;
     join(requests, edits);
-    int32_t told = mst_blocks_apply(&group->writer, edits, length, &place, &shard, &number);
+    int32_t told = mst_sharded_apply(&group->writer, edits, length, &place, &shard, &number);
     free(edits);
     if (told != MST_OK)
         return 0;
@@ -127,7 +127,7 @@ static int make_one_block(mst_blocks_group *group, struct request *requests) {
     return 1;
 }
 
-static void make(mst_blocks_group *group, struct request *requests) {
+static void make(mst_sharded_group *group, struct request *requests) {
     if (requests->next != NULL && make_one_block(group, requests))
         return;
     for (struct request *one = requests; one != NULL; one = one->next)
@@ -164,7 +164,7 @@ static void tell(struct request *block, const struct request *own) {
     }
 }
 
-static void lead(mst_blocks_group *group, struct request *block, const struct request *own) {
+static void lead(mst_sharded_group *group, struct request *block, const struct request *own) {
     make(group, block);
     pthread_mutex_lock(&group->lock);
     struct request *called = leave(group);
@@ -178,7 +178,7 @@ static void lead(mst_blocks_group *group, struct request *block, const struct re
  * Puts the request into the queue. Returns the requests of the next block if its thread leads: if
  * nobody does, and that block has the request.
  */
-static struct request *enter(mst_blocks_group *group, struct request *own) {
+static struct request *enter(mst_sharded_group *group, struct request *own) {
     struct request *block = NULL;
     pthread_mutex_lock(&group->lock);
     enqueue(group, own);
@@ -192,7 +192,7 @@ static struct request *enter(mst_blocks_group *group, struct request *own) {
  * Waits until the request is done, or its thread was called. Then returns the requests of the next
  * block, unless another thread has come first, and has this one in its block.
  */
-static struct request *await_turn(mst_blocks_group *group, struct request *own) {
+static struct request *await_turn(mst_sharded_group *group, struct request *own) {
     struct request *block = NULL;
     await(own);
     if (!own->is_called)
@@ -209,8 +209,8 @@ static struct request *await_turn(mst_blocks_group *group, struct request *own) 
 /* ---- the calls ---- */
 
 /* A thread that is cancelled goes on: others have its request in their hands. */
-int32_t mst_blocks_group_apply(mst_blocks_group *group, const uint8_t *edits, size_t length,
-                               size_t *place, size_t *shard, uint64_t *number) {
+int32_t mst_sharded_group_apply(mst_sharded_group *group, const uint8_t *edits, size_t length,
+                                size_t *place, size_t *shard, uint64_t *number) {
     struct request own = {.edits = edits, .length = length, .place = place, .shard = shard,
                           .number = number, .is_batch = is_batch(edits, length),
                           .posts = posts_here()};
@@ -226,20 +226,20 @@ int32_t mst_blocks_group_apply(mst_blocks_group *group, const uint8_t *edits, si
 }
 
 /* Whether the hand holds a writer: it alone has a number and no format. Otherwise the refusal. */
-static int32_t judge_writer(mst_blocks_handle *hand) {
+static int32_t judge_writer(mst_handle *hand) {
     uint64_t number;
-    int32_t told = mst_blocks_number(hand, &number);
+    int32_t told = mst_sharded_number(hand, &number);
     if (told != MST_OK)
         return told;
-    return mst_blocks_format(hand) == MST_WRONG_STATE ? MST_OK : MST_WRONG_STATE;
+    return mst_sharded_format(hand) == MST_WRONG_STATE ? MST_OK : MST_WRONG_STATE;
 }
 
-int32_t mst_blocks_group_open(mst_blocks_handle *writer, mst_blocks_group **group) {
-    static const mst_blocks_handle closed = MST_BLOCKS_HANDLE_CLOSED;
+int32_t mst_sharded_group_open(mst_handle *writer, mst_sharded_group **group) {
+    static const mst_handle closed = MST_HANDLE_CLOSED;
     int32_t told = judge_writer(writer);
     if (told != MST_OK)
         return told;
-    mst_blocks_group *made = malloc(sizeof *made);
+    mst_sharded_group *made = malloc(sizeof *made);
     if (made == NULL)
         return MST_MEMORY;
     if (pthread_mutex_init(&made->lock, NULL) != 0) {
@@ -254,8 +254,8 @@ int32_t mst_blocks_group_open(mst_blocks_handle *writer, mst_blocks_group **grou
     return MST_OK;
 }
 
-int32_t mst_blocks_group_close(mst_blocks_group *group, mst_blocks_handle *writer) {
-    mst_blocks_close(writer);
+int32_t mst_sharded_group_close(mst_sharded_group *group, mst_handle *writer) {
+    mst_sharded_close(writer);
     *writer = group->writer;
     pthread_mutex_destroy(&group->lock);
     free(group);

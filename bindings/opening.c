@@ -1,8 +1,8 @@
 /*
- * mst_open, mst_close, mst_sharded_open and mst_blocks_open as the header has them. The proved
- * calls, which the library has under other names, close all hands of their arrays before they look
- * at the count; so they get no array that they need not read. And they know of no line: these give
- * each pass of a new store its place there, and take it back.
+ * mst_open, mst_close and mst_sharded_open as the header has them. The proved calls, which the
+ * library has under other names, close all hands of their arrays before they look at the count; so
+ * they get no array that they need not read. And they know of no line: these give each pass of a
+ * new store its place there, and take it back.
  */
 #include "line.h"
 
@@ -10,8 +10,6 @@ int32_t proved_mst_open(uint32_t format, uint32_t rows, mst_pass *passes, size_t
 int32_t proved_mst_close(mst_pass *pass);
 int32_t proved_mst_sharded_open(uint32_t format, uint32_t rows, const uint8_t *splits,
                                 size_t splits_length, mst_handle *handles, size_t count);
-int32_t proved_mst_blocks_open(uint32_t format, uint32_t rows, const uint8_t *splits,
-                               size_t splits_length, mst_blocks_handle *handles, size_t count);
 
 /* No hands are as refused as too many, and with the same number. */
 static size_t fewer(size_t count) {
@@ -43,9 +41,4 @@ int32_t mst_close(mst_pass *pass) {
 int32_t mst_sharded_open(uint32_t format, uint32_t rows, const uint8_t *splits,
                          size_t splits_length, mst_handle *handles, size_t count) {
     return proved_mst_sharded_open(format, rows, splits, splits_length, handles, fewer(count));
-}
-
-int32_t mst_blocks_open(uint32_t format, uint32_t rows, const uint8_t *splits,
-                        size_t splits_length, mst_blocks_handle *handles, size_t count) {
-    return proved_mst_blocks_open(format, rows, splits, splits_length, handles, fewer(count));
 }

@@ -52,7 +52,7 @@ static const char *of_sharded_proof(int32_t told) {
 /* Refusals of the store, and those that the verifier shares with it. */
 static const char *of_store(int32_t told) {
     switch (told) {
-    case MST_ABSENT: return "there is no such key or shard";
+    case MST_ABSENT: return "there is no such key";
     case MST_SHORT_ROOM: return "the room is too short";
     case MST_UNKNOWN_FORMAT: return "no format has this number";
     case MST_BAD_ROOT: return "a root digest has 32 bytes";
@@ -68,8 +68,6 @@ static const char *of_store(int32_t told) {
     case MST_ROWS_PINNED: return "a version is pinned, so the rows are not counted";
     case MST_BAD_BATCH: return "the bytes are no batch of edits";
     case MST_BAD_SPLITS: return "the bytes are no splits of a sharded map";
-    case MST_MIXED_FORMATS: return "the shards are in different formats";
-    case MST_STRAY_KEY: return "a shard has a key of another";
     case MST_OVERTAKEN: return "another than the writer of blocks has written";
     case MST_MOVING: return "a block is just being published";
     default: return NULL;

@@ -225,57 +225,11 @@ int32_t mst_migrate(mst_pass *pass, uint32_t format) {
     return mst_migrate_within(pass, format, WITHOUT_END);
 }
 
-int32_t mst_sharded_put(mst_handle *handle, const uint8_t *key, size_t key_length,
-                        const uint8_t *value, size_t value_length,
-                        uint8_t *room, size_t room_length) {
-    struct waited waited = {0, 0};
-    int32_t told;
-    while ((told = mst_sharded_try_put(handle, key, key_length, value, value_length,
-                                       room, room_length)) == MST_BUSY)
-        wait_more(&waited);
-    return told;
-}
-
-int32_t mst_sharded_remove(mst_handle *handle, const uint8_t *key, size_t key_length,
-                           uint8_t *room, size_t room_length) {
-    struct waited waited = {0, 0};
-    int32_t told;
-    while ((told = mst_sharded_try_remove(handle, key, key_length,
-                                          room, room_length)) == MST_BUSY)
-        wait_more(&waited);
-    return told;
-}
-
-/* Each try goes on at the shard that was busy, so none gets its edits twice. */
-int32_t mst_sharded_apply(mst_handle *handle, const uint8_t *edits, size_t length,
-                          size_t *place, size_t *shard) {
-    struct waited waited = {0, 0};
-    int32_t told;
-    while ((told = mst_sharded_try_apply(handle, edits, length, place, shard)) == MST_BUSY)
-        wait_more(&waited);
-    return told;
-}
-
-/*
- * Each try begins at the first shard. One that is in the format already gets another version then,
- * which takes no row and no memory.
- */
-int32_t mst_sharded_migrate(mst_handle *handle, uint32_t format, size_t *stopped) {
-    struct waited waited = {0, 0};
-    size_t at = SIZE_MAX; /* the shard that the last try stopped at, if one did */
-    int32_t told;
-    while ((told = mst_sharded_try_migrate(handle, format, &at)) == MST_BUSY)
-        wait_more(&waited);
-    if (told != MST_OK && at != SIZE_MAX)
-        *stopped = at;
-    return told;
-}
-
 /* A block is published within moments: the directory goes last, and then a try finds all of it. */
-int32_t mst_blocks_snapshot(mst_blocks_handle *reader) {
+int32_t mst_sharded_snapshot(mst_handle *reader) {
     struct waited waited = {0, 0};
     int32_t told;
-    while ((told = mst_blocks_try_snapshot(reader)) == MST_MOVING)
+    while ((told = mst_sharded_try_snapshot(reader)) == MST_MOVING)
         wait_more(&waited);
     return told;
 }

@@ -58,8 +58,9 @@
  * and so is a count of hands.
  *
  * A call returns a number, for bytes of any kind and any length. Keys have 1 to 32 bytes, values 0
- * to 64. The numbers below never change, and those of mst_verifier.h have the same meaning here. If
- * several refusals apply, a call returns the one that its comment lists first.
+ * to 64. The numbers below never change, one that no call returns any more gets no other meaning,
+ * and those of mst_verifier.h have the same meaning here. If several refusals apply, a call returns
+ * the one that its comment lists first.
  *
  * Link with libmst_store, which `make -C bindings` makes: `pkg-config --cflags --libs mst_store`
  * says how, after `make -C bindings install`. docs/STORE_C.md has examples. If you link the proved
@@ -125,7 +126,7 @@ typedef struct mst_pass {
  */
 #define MST_OK 0
 
-/* There is no such key, or no such shard. For a key this is an answer, not a refusal. */
+/* There is no such key. This is an answer, not a refusal. */
 #define MST_ABSENT (-1)
 
 /*
@@ -144,21 +145,19 @@ typedef struct mst_pass {
 /* A value has 0 to 64 bytes. */
 #define MST_BAD_VALUE (-6)
 
-/* The hand holds no pass; of a sharded map it holds no handle, writer, reader or snapshot. */
+/* The hand holds no pass; of a sharded map it holds no writer, reader or snapshot. */
 #define MST_CLOSED (-7)
 
 /*
  * A pinned pass neither writes, migrates, pins nor counts rows; a free one does not unpin. Of a
- * sharded map a snapshot neither writes, migrates nor takes a snapshot; a handle does nothing that
- * is a snapshot's alone. With blocks, the writer alone makes them, and only a reader takes a
- * snapshot.
+ * sharded map the writer alone makes blocks, only a reader takes a snapshot, and only a snapshot
+ * lists pairs and proves answers.
  */
 #define MST_WRONG_STATE (-8)
 
 /*
- * A growth of memory was refused. In this store nothing has changed, but that mst_open,
- * mst_sharded_open and mst_blocks_open have closed what their hands held; of a sharded batch or
- * migration see those calls.
+ * A growth of memory was refused. Nothing has changed, but that mst_open and mst_sharded_open have
+ * closed what their hands held.
  */
 #define MST_MEMORY (-9)
 
@@ -166,21 +165,15 @@ typedef struct mst_pass {
 #define MST_BAD_SHAPE (-10)
 
 /*
- * Another pass has the turn: it writes, migrates or counts rows. In this store nothing has changed:
- * try again. Of a sharded batch or migration see those calls.
+ * Another pass has the turn: it writes, migrates or counts rows. Nothing has changed: try again. In
+ * a shard of a sharded map only a thread that has ended within a call leaves it so.
  */
 #define MST_BUSY (-21)
 
-/*
- * The store has made all the versions that it can number. In it nothing has changed; of a sharded
- * batch or migration see those calls.
- */
+/* The store has made all the versions that it can number. Nothing has changed. */
 #define MST_VERSIONS_SPENT (-22)
 
-/*
- * The write or the migration needs more rows than are free. In this store nothing has changed; of a
- * sharded batch or migration see those calls.
- */
+/* The write or the migration needs more rows than are free. Nothing has changed. */
 #define MST_NO_FREE_ROWS (-23)
 
 /* Some pass pins a version, so the rows are not counted. */
@@ -194,12 +187,6 @@ typedef struct mst_pass {
  * the keys do not rise strictly from above the key of one zero byte, or are more than 1,023.
  */
 #define MST_BAD_SPLITS (-26)
-
-/* Shards of the snapshot are in different formats, so it has no root digest and no proofs. */
-#define MST_MIXED_FORMATS (-27)
-
-/* A shard has a key outside of its interval. No call makes one so. */
-#define MST_STRAY_KEY (-28)
 
 /*
  * Of a block: a shard or the directory has a version that is not the writer's last, so another has
@@ -465,8 +452,8 @@ size_t mst_edit_remove(uint8_t *room, size_t at, const uint8_t *key, size_t key_
  * that waits, and has not waited as long, leaves the turn to it: it sleeps instead of trying. So a
  * thread that writes without a pause does not keep the turn from the others. A call that waits but
  * gives no sign of it for 50 milliseconds, such as one of a thread that was stopped or has died,
- * holds nobody up any longer. Calls that try leave the turn to nobody, those of sharded maps stand
- * in no line, and of no call it is promised when it gets the turn.
+ * holds nobody up any longer. Calls that try leave the turn to nobody, and of no call it is
+ * promised when it gets the turn.
  */
 int32_t mst_put(mst_pass *pass, const uint8_t *key, size_t key_length,
                 const uint8_t *value, size_t value_length, uint8_t *room, size_t room_length);
@@ -506,32 +493,36 @@ int32_t mst_migrate_within(mst_pass *pass, uint32_t format, uint64_t microsecond
 
 /*
  * A sharded map is one map whose keys are split into intervals, its shards, each of which is a
- * store of its own. So it has more keys than a store has rows, and writers of different shards do
- * not wait for each other. It is used through its handles alone. A handle reads and writes, each
- * key in its shard; a snapshot, into which a handle turns, has one version of each shard. No order
- * between shards is promised: a snapshot pins one shard after the other, so of two writes to
- * different shards it may show the later one alone.
+ * store of its own. So it has more keys than a store has rows. It has one writer, and readers, each
+ * for a thread of its own. The writer makes blocks: a block is a batch of edits of all shards that
+ * is one version of the whole map, with one number and one root digest, made whole or not at all.
+ * Block 0 is the empty map. Readers take snapshots: a snapshot shows exactly one block, unless
+ * SHA-256 collides on the nodes of its trees. Readers wait for no block to be made. A map keeps its
+ * format, its splits and its rows; mst_sharded_copy copies its pairs into a map with others.
  *
- *     mst_handle handles[2] = {MST_HANDLE_CLOSED, MST_HANDLE_CLOSED};
- *     uint8_t splits[2 * MST_SPLIT_LONGEST], old[MST_VALUE_LONGEST], root[MST_ROOT_LENGTH];
- *     size_t length = 0;
- *     length = mst_split(splits, length, (const uint8_t *)"h", 1);
- *     length = mst_split(splits, length, (const uint8_t *)"p", 1);
- *     if (mst_sharded_open(1, 1000, splits, length, handles, 2) != MST_OK)    // three shards
+ *     mst_handle hands[2] = {MST_HANDLE_CLOSED, MST_HANDLE_CLOSED};
+ *     mst_handle *writer = &hands[0], *reader = &hands[1];
+ *     uint8_t splits[MST_SPLIT_LONGEST], edits[2 * MST_EDIT_LONGEST], root[MST_ROOT_LENGTH];
+ *     size_t length = mst_split(splits, 0, (const uint8_t *)"m", 1), place, shard;
+ *     uint64_t number;
+ *     if (mst_sharded_open(1, 1000, splits, length, hands, 2) != MST_OK)    // two shards
  *         give_up();
- *     mst_sharded_put(&handles[0], key, key_length, value, value_length, old, sizeof old);
- *     mst_sharded_snapshot(&handles[1]);
- *     mst_sharded_root(&handles[1], root, sizeof root);     // of all shards
- *     mst_sharded_release(&handles[1]);
- *     mst_sharded_close(&handles[0]);
- *     mst_sharded_close(&handles[1]);                       // the map is gone
+ *     length = mst_edit_put(edits, 0, (const uint8_t *)"apple", 5, (const uint8_t *)"30", 2);
+ *     length = mst_edit_remove(edits, length, (const uint8_t *)"pear", 4);
+ *     mst_sharded_apply(writer, edits, length, &place, &shard, &number);    // block 1
+ *     mst_sharded_snapshot(reader);                         // in another thread, say
+ *     mst_sharded_number(reader, &number);                  // 1
+ *     mst_sharded_root(reader, root, sizeof root);          // that of block 1, as the writer's
+ *     mst_sharded_release(reader);
+ *     mst_sharded_close(writer);
+ *     mst_sharded_close(reader);                            // the map is gone
  *
- * What is owed for the hands of passes is owed for those of handles too.
+ * What is owed for the hands of passes is owed for these too.
  */
 
 /*
- * A hand of a sharded map: what holds a handle or a snapshot for its thread, or nothing. It has 256
- * bytes, as that of a pass.
+ * A hand of a sharded map: what holds the writer, a reader or a snapshot for its thread, or
+ * nothing. It has 256 bytes, as that of a pass.
  */
 typedef struct mst_handle {
     void *at; /* the library's alone */
@@ -552,12 +543,13 @@ typedef struct mst_handle {
 #define MST_SPLITS_MOST 1023
 
 /*
- * Opens a sharded map of the empty map in format 1 or 2, and puts a handle into each of the `count`
- * hands. What a hand held before is closed, whatever the call returns. Each shard is a store with
- * `rows` rows and `count` passes. The splits stand in `splits_length` bytes, one after the other:
- * each is a byte for the length of a key, and the key. They rise strictly, from above the key of
- * one zero byte. The keys from a split on, and below the next one, are those of a shard, so there
- * is one shard more than splits. mst_split below writes a split.
+ * Opens a sharded map of the empty map in format 1 or 2. Its writer goes into the first of the
+ * `count` hands, and a reader into each of the others. What a hand held before is closed, whatever
+ * the call returns. Each shard is a store with `rows` rows and `count` passes. The splits stand in
+ * `splits_length` bytes, one after the other: each is a byte for the length of a key, and the key.
+ * They rise strictly, from above the key of one zero byte. The keys from a split on, and below the
+ * next one, are those of a shard, so there is one shard more than splits. mst_split below writes a
+ * split. Block 0, the empty map, is made.
  *
  * Returns MST_OK; MST_UNKNOWN_FORMAT for another format; MST_BAD_SPLITS; MST_BAD_SHAPE if rows or
  * count are out of their limits; MST_MEMORY, which is asked for only after these tests. If it does
@@ -568,141 +560,11 @@ int32_t mst_sharded_open(uint32_t format, uint32_t rows, const uint8_t *splits,
                          size_t splits_length, mst_handle *handles, size_t count);
 
 /*
- * Closes the handle or the snapshot, whose pins end first. Returns MST_OK, and then the hand is
- * empty, or MST_CLOSED. The map is freed with its last handle.
+ * Closes the writer, the reader or the snapshot, whose pins end first. Returns MST_OK, and then the
+ * hand is empty, or MST_CLOSED. The map is freed with the last hand that is closed. Once the writer
+ * is closed, no more blocks are made, and readers go on.
  */
 int32_t mst_sharded_close(mst_handle *handle);
-
-/* Returns how many shards the map has, 1 to 1,024; or MST_CLOSED. */
-int32_t mst_sharded_shards(mst_handle *handle);
-
-/*
- * As mst_get: a handle reads the current version of the key's shard, a snapshot the one that it
- * pins. Returns what mst_get returns.
- */
-int32_t mst_sharded_get(mst_handle *handle, const uint8_t *key, size_t key_length,
-                        uint8_t *room, size_t room_length);
-
-/*
- * As mst_try_put, in the key's shard. Returns what mst_try_put returns, MST_WRONG_STATE for a
- * snapshot, and MST_BUSY only if another handle has the turn of this shard.
- */
-int32_t mst_sharded_try_put(mst_handle *handle, const uint8_t *key, size_t key_length,
-                            const uint8_t *value, size_t value_length,
-                            uint8_t *room, size_t room_length);
-
-/*
- * As mst_try_remove, in the key's shard. Returns what mst_sharded_try_put returns, without
- * MST_BAD_VALUE.
- */
-int32_t mst_sharded_try_remove(mst_handle *handle, const uint8_t *key, size_t key_length,
-                               uint8_t *room, size_t room_length);
-
-/*
- * Turns the handle into a snapshot, which pins the current version of each shard, one shard after
- * the other: until mst_sharded_release each read is of these. Returns MST_OK, MST_CLOSED, or
- * MST_WRONG_STATE for a snapshot. It takes no memory.
- */
-int32_t mst_sharded_snapshot(mst_handle *handle);
-
-/*
- * Turns the snapshot into a handle: its pins end. Returns MST_OK, MST_CLOSED, or MST_WRONG_STATE
- * for a handle.
- */
-int32_t mst_sharded_release(mst_handle *handle);
-
-/*
- * Returns 32, the length of the root digest of all shards together, and its bytes stand first in
- * `root`. It depends on the content, the format and the splits alone. Returns MST_CLOSED;
- * MST_WRONG_STATE for a handle; then, in no order that is promised, MST_MIXED_FORMATS,
- * MST_STRAY_KEY, MST_MEMORY, and MST_VERSIONS_SPENT if the handle's list of shards has changed
- * 2^63 - 1 times; last MST_SHORT_ROOM if root_length is less than 32.
- */
-int32_t mst_sharded_root(mst_handle *handle, uint8_t *root, size_t root_length);
-
-/*
- * Makes the proof of the key's answer, which mst_verify_sharded judges in the format and by the
- * root digest of the same snapshot. Returns MST_OK: its bytes stand first in the room, and *length
- * is their number. Returns MST_CLOSED, MST_BAD_KEY, and what mst_sharded_root returns but
- * MST_SHORT_ROOM: room and *length are as they were. Returns MST_SHORT_ROOM if the room is too
- * short: *length is the length of the proof, and the room is as it was.
- */
-int32_t mst_sharded_prove(mst_handle *handle, const uint8_t *key, size_t key_length,
-                          uint8_t *room, size_t room_length, size_t *length);
-
-/*
- * As mst_next, in the map of all shards of a snapshot. Returns what mst_next returns; right after
- * MST_BAD_KEY come MST_WRONG_STATE for a handle, and MST_MEMORY.
- */
-int32_t mst_sharded_next(mst_handle *handle, const uint8_t *key, size_t key_length,
-                         uint8_t *key_room, size_t key_room_length, size_t *next_length,
-                         uint8_t *room, size_t room_length);
-
-/*
- * As mst_range, in the map of all shards of a snapshot. Returns what mst_range returns; right after
- * MST_BAD_KEY comes MST_WRONG_STATE for a handle.
- */
-int32_t mst_sharded_range(mst_handle *handle, const uint8_t *from, size_t from_length,
-                          const uint8_t *to, size_t to_length, uint32_t limit,
-                          uint8_t *room, size_t room_length, size_t *count, size_t *length);
-
-/*
- * Sets *version to the number of the version that the snapshot pins of a shard, from 0 on. Returns
- * MST_OK; MST_CLOSED; MST_WRONG_STATE for a handle; MST_ABSENT if there is no such shard.
- */
-int32_t mst_sharded_version_at(mst_handle *handle, size_t shard, uint64_t *version);
-
-/*
- * Returns the format of the snapshot's versions, 1 or 2, in which its root digest and its proofs
- * are. Returns MST_CLOSED; MST_WRONG_STATE for a handle; MST_MEMORY; MST_MIXED_FORMATS if they are
- * in two, as during a migration.
- */
-int32_t mst_sharded_format(mst_handle *handle);
-
-/*
- * Lists of each shard, in the order of their keys, its lower bound as a key, and as its value the
- * shard's root digest, of 32 bytes, and the upper bound, of none if there is no bound: the pairs of
- * the directory, whose root digest is that of mst_sharded_root. They stand in the room as those of
- * mst_range, and MST_PAIR_LONGEST bytes for each shard are enough. Returns MST_OK or MST_SHORT_ROOM
- * as mst_range; otherwise what mst_sharded_root returns: room, *count and *length are as they were.
- */
-int32_t mst_sharded_directory(mst_handle *handle, uint8_t *room, size_t room_length,
-                              size_t *count, size_t *length);
-
-/*
- * Turns each shard to format 1 or 2, one after the other. Meanwhile a snapshot may find shards in
- * both. Returns MST_OK. Returns MST_CLOSED; MST_UNKNOWN_FORMAT; MST_WRONG_STATE for a snapshot;
- * MST_MEMORY if there is none for the list of the shards: nothing has changed, and *stopped is as
- * it was. Then returns MST_BUSY, MST_VERSIONS_SPENT, MST_MEMORY, MST_NO_FREE_ROWS if a shard
- * refused it: *stopped is the number of this shard, from 0. Those before it are migrated, those
- * behind it not tried: call again with the same format, since a shard in it takes no row and no
- * memory.
- */
-int32_t mst_sharded_try_migrate(mst_handle *handle, uint32_t format, size_t *stopped);
-
-/*
- * Makes a batch of edits, in the form of mst_try_apply: those of each shard as one version of that
- * shard, one shard after the other. Set *shard to 0 before the first call: edits of shards before
- * the one of this number are passed over. A shard with no edits gets no version. Meanwhile a reader
- * may find the edits of some shards without those of the others.
- *
- * Returns MST_OK: all edits are made, and *shard is 0, for the next batch. Returns MST_CLOSED; if
- * an edit is none, then for the first such one MST_BAD_KEY, MST_BAD_VALUE or MST_BAD_BATCH, and
- * *place is the number of that edit, from 0; MST_WRONG_STATE for a snapshot; MST_ABSENT if there is
- * no shard of the number *shard; MST_MEMORY if there is none for the lists of the edits and the
- * shards: nothing has changed, and *shard is as it was. Where no edit is refused, *place is as it
- * was.
- *
- * Then returns MST_BUSY, MST_VERSIONS_SPENT, MST_MEMORY, MST_NO_FREE_ROWS if a shard refused its
- * edits: *shard is the number of this shard, from 0. Those before it have theirs, and neither it
- * nor one behind it has any. Call again with the same edits and the same *shard: it goes on there,
- * and makes none again. Or set *shard to 0 for another batch.
- *
- * It takes the memory of these lists before it changes a shard; and for each shard the rows and the
- * memory of mst_try_apply.
- */
-int32_t mst_sharded_try_apply(mst_handle *handle, const uint8_t *edits, size_t length,
-                              size_t *place, size_t *shard);
 
 /*
  * Writes a split at `at` bytes into the room, which needs MST_SPLIT_LONGEST bytes from there, and
@@ -711,97 +573,8 @@ int32_t mst_sharded_try_apply(mst_handle *handle, const uint8_t *edits, size_t l
  */
 size_t mst_split(uint8_t *room, size_t at, const uint8_t *key, size_t key_length);
 
-/* As mst_sharded_try_put, but waits as mst_put does. */
-int32_t mst_sharded_put(mst_handle *handle, const uint8_t *key, size_t key_length,
-                        const uint8_t *value, size_t value_length,
-                        uint8_t *room, size_t room_length);
-
-/* As mst_sharded_try_remove, but waits as mst_put does. */
-int32_t mst_sharded_remove(mst_handle *handle, const uint8_t *key, size_t key_length,
-                           uint8_t *room, size_t room_length);
-
-/*
- * As mst_sharded_try_apply, but waits for the turn of each shard as mst_put does: no shard gets its
- * edits twice. If there is no memory for the lists after it has waited, *shard is the number of the
- * shard that it waited for: those before it have their edits, and a further call goes on there.
- *
- *     size_t place, shard = 0;
- *     int32_t told = mst_sharded_apply(handle, edits, length, &place, &shard);
- */
-int32_t mst_sharded_apply(mst_handle *handle, const uint8_t *edits, size_t length,
-                          size_t *place, size_t *shard);
-
-/*
- * As mst_sharded_try_migrate, but waits for the turn of each shard as mst_put does. After each wait
- * it begins again at the first shard, so a shard may get several versions. If it is refused, those
- * before *stopped are migrated, and some behind it may be; if there is no memory for the list after
- * it has waited, *stopped is the number of the shard that it waited for.
- */
-int32_t mst_sharded_migrate(mst_handle *handle, uint32_t format, size_t *stopped);
-
-/* ---- blocks of a sharded map ---- */
-
-/*
- * A block is a batch of edits of all shards that is one version of the whole map, with one number
- * and one root digest, made whole or not at all. A sharded map that is opened with blocks has one
- * writer, which alone makes them, and readers, which take snapshots. A snapshot shows exactly one
- * block, unless SHA-256 collides on the nodes of its trees; block 0 is the empty map. The map keeps
- * its format.
- *
- *     mst_blocks_handle hands[2] = {MST_BLOCKS_HANDLE_CLOSED, MST_BLOCKS_HANDLE_CLOSED};
- *     mst_blocks_handle *writer = &hands[0], *reader = &hands[1];
- *     uint8_t splits[MST_SPLIT_LONGEST], edits[2 * MST_EDIT_LONGEST], root[MST_ROOT_LENGTH];
- *     size_t length = mst_split(splits, 0, (const uint8_t *)"m", 1), place, shard;
- *     uint64_t number;
- *     if (mst_blocks_open(1, 1000, splits, length, hands, 2) != MST_OK)       // two shards
- *         give_up();
- *     length = mst_edit_put(edits, 0, (const uint8_t *)"apple", 5, (const uint8_t *)"30", 2);
- *     length = mst_edit_remove(edits, length, (const uint8_t *)"pear", 4);
- *     mst_blocks_apply(writer, edits, length, &place, &shard, &number);       // block 1
- *     mst_blocks_snapshot(reader);                          // in another thread, say
- *     mst_blocks_number(reader, &number);                   // 1
- *     mst_blocks_root(reader, root, sizeof root);           // that of block 1, as the writer's
- *     mst_blocks_release(reader);
- *     mst_blocks_close(writer);
- *     mst_blocks_close(reader);                             // the map is gone
- *
- * What is owed for the hands of passes is owed for these too.
- */
-
-/*
- * A hand of a sharded map with blocks: what holds the writer, a reader or a snapshot for its
- * thread, or nothing. It has 256 bytes, as that of a pass. It is no mst_handle, and neither is
- * given to the calls of the other.
- */
-typedef struct mst_blocks_handle {
-    void *at; /* the library's alone */
-    uint64_t padding[31];
-} mst_blocks_handle;
-
-/* A hand that holds nothing. */
-#ifdef __cplusplus
-#define MST_BLOCKS_HANDLE_CLOSED {}
-#else
-#define MST_BLOCKS_HANDLE_CLOSED {0}
-#endif
-
-/*
- * As mst_sharded_open, but the writer goes into the first of the `count` hands, and a reader into
- * each of the others. Each shard is a store with `rows` rows and `count` passes. Block 0, the empty
- * map, is made. Returns what mst_sharded_open returns.
- */
-int32_t mst_blocks_open(uint32_t format, uint32_t rows, const uint8_t *splits,
-                        size_t splits_length, mst_blocks_handle *handles, size_t count);
-
-/*
- * Closes the writer, the reader or the snapshot, whose pins end first. Returns MST_OK, and then the
- * hand is empty, or MST_CLOSED. The map is freed with the last hand that is closed. Once the writer
- * is closed, no more blocks are made, and readers go on.
- */
-int32_t mst_blocks_close(mst_blocks_handle *handle);
-
 /* Returns how many shards the map has, 1 to 1,024; or MST_CLOSED. */
-int32_t mst_blocks_shards(mst_blocks_handle *handle);
+int32_t mst_sharded_shards(mst_handle *handle);
 
 /*
  * Makes the next block of edits of all shards, in the form of mst_try_apply. Readers see none of
@@ -817,62 +590,62 @@ int32_t mst_blocks_shards(mst_blocks_handle *handle);
  *
  * Where no edit is refused, *place is as it was; where no block is refused, *shard is.
  */
-int32_t mst_blocks_apply(mst_blocks_handle *writer, const uint8_t *edits, size_t length,
-                         size_t *place, size_t *shard, uint64_t *number);
+int32_t mst_sharded_apply(mst_handle *writer, const uint8_t *edits, size_t length,
+                          size_t *place, size_t *shard, uint64_t *number);
 
 /*
  * Sets *number to the number of the writer's last block, or of the snapshot's block: how many
  * blocks led to this map. Two snapshots with one number show one map, unless SHA-256 collides.
  * Returns MST_OK; MST_CLOSED; MST_WRONG_STATE for a reader.
  */
-int32_t mst_blocks_number(mst_blocks_handle *handle, uint64_t *number);
+int32_t mst_sharded_number(mst_handle *handle, uint64_t *number);
 
 /*
- * Turns the reader into a snapshot of one block: until mst_blocks_release each read is of it.
+ * Turns the reader into a snapshot of one block: until mst_sharded_release each read is of it.
  * Returns MST_OK; MST_CLOSED; MST_WRONG_STATE for the writer or a snapshot; MST_MOVING while a
  * block is just being published: the hand still holds the reader, so try again. It takes no memory.
  *
  * If no block was made since the reader's last snapshot, this compares numbers alone; otherwise the
  * root digest of each shard with what the directory lists.
  */
-int32_t mst_blocks_try_snapshot(mst_blocks_handle *reader);
+int32_t mst_sharded_try_snapshot(mst_handle *reader);
 
 /*
  * Turns the snapshot into a reader: its pins end. Returns MST_OK, MST_CLOSED, or MST_WRONG_STATE
  * for the writer or a reader.
  */
-int32_t mst_blocks_release(mst_blocks_handle *reader);
+int32_t mst_sharded_release(mst_handle *reader);
 
 /*
- * As mst_get: the writer reads its last block, a snapshot its block, a reader the current version of
- * the key's shard. Two such reads of a reader need not be of one block. Returns what mst_get
+ * As mst_get: the writer reads its last block, a snapshot its block, a reader the current version
+ * of the key's shard. Two such reads of a reader need not be of one block. Returns what mst_get
  * returns, or for the writer MST_OVERTAKEN if another than the writer has written to the key's
  * shard, which no call makes so.
  */
-int32_t mst_blocks_get(mst_blocks_handle *hand, const uint8_t *key, size_t key_length,
-                       uint8_t *room, size_t room_length);
+int32_t mst_sharded_get(mst_handle *hand, const uint8_t *key, size_t key_length,
+                        uint8_t *room, size_t room_length);
 
 /*
  * As mst_next, in the map of a snapshot. Returns what mst_next returns; right after MST_BAD_KEY
  * comes MST_WRONG_STATE for the writer or a reader. It takes no memory.
  */
-int32_t mst_blocks_next(mst_blocks_handle *reader, const uint8_t *key, size_t key_length,
-                        uint8_t *key_room, size_t key_room_length, size_t *next_length,
-                        uint8_t *room, size_t room_length);
+int32_t mst_sharded_next(mst_handle *reader, const uint8_t *key, size_t key_length,
+                         uint8_t *key_room, size_t key_room_length, size_t *next_length,
+                         uint8_t *room, size_t room_length);
 
 /*
  * As mst_range, in the map of a snapshot. Returns what mst_range returns; right after MST_BAD_KEY
  * comes MST_WRONG_STATE for the writer or a reader.
  */
-int32_t mst_blocks_range(mst_blocks_handle *reader, const uint8_t *from, size_t from_length,
-                         const uint8_t *to, size_t to_length, uint32_t limit,
-                         uint8_t *room, size_t room_length, size_t *count, size_t *length);
+int32_t mst_sharded_range(mst_handle *reader, const uint8_t *from, size_t from_length,
+                          const uint8_t *to, size_t to_length, uint32_t limit,
+                          uint8_t *room, size_t room_length, size_t *count, size_t *length);
 
 /*
  * Returns the format of a snapshot, 1 or 2, in which its root digest and its proofs are. Returns
  * MST_CLOSED; MST_WRONG_STATE for the writer or a reader.
  */
-int32_t mst_blocks_format(mst_blocks_handle *reader);
+int32_t mst_sharded_format(mst_handle *reader);
 
 /*
  * Returns 32, the length of the root digest of all shards together, and its bytes stand first in
@@ -880,7 +653,7 @@ int32_t mst_blocks_format(mst_blocks_handle *reader);
  * the format and the splits alone. Returns MST_CLOSED; MST_WRONG_STATE for a reader; MST_SHORT_ROOM
  * if root_length is less than 32. It takes no memory.
  */
-int32_t mst_blocks_root(mst_blocks_handle *handle, uint8_t *root, size_t root_length);
+int32_t mst_sharded_root(mst_handle *handle, uint8_t *root, size_t root_length);
 
 /*
  * Makes the proof of the key's answer, which mst_verify_sharded judges in the format and by the
@@ -889,23 +662,50 @@ int32_t mst_blocks_root(mst_blocks_handle *handle, uint8_t *root, size_t root_le
  * MST_MEMORY: room and *length are as they were. Returns MST_SHORT_ROOM if the room is too short:
  * *length is the length of the proof, and the room is as it was.
  */
-int32_t mst_blocks_prove(mst_blocks_handle *reader, const uint8_t *key, size_t key_length,
-                         uint8_t *room, size_t room_length, size_t *length);
+int32_t mst_sharded_prove(mst_handle *reader, const uint8_t *key, size_t key_length,
+                          uint8_t *room, size_t room_length, size_t *length);
 
 /*
- * Lists the directory of a snapshot as mst_sharded_directory does. Returns MST_OK or MST_SHORT_ROOM
- * as mst_range; MST_CLOSED; MST_WRONG_STATE for the writer or a reader; MST_MEMORY: room, *count
- * and *length are as they were.
+ * Lists of each shard of a snapshot, in the order of their keys, its lower bound as a key, and as
+ * its value the shard's root digest, of 32 bytes, and the upper bound, of none if there is no
+ * bound: the pairs of the directory, whose root digest is that of mst_sharded_root. They stand in
+ * the room as those of mst_range, and MST_PAIR_LONGEST bytes for each shard are enough. Returns
+ * MST_OK or MST_SHORT_ROOM as mst_range; MST_CLOSED; MST_WRONG_STATE for the writer or a reader;
+ * MST_MEMORY: room, *count and *length are as they were.
  */
-int32_t mst_blocks_directory(mst_blocks_handle *reader, uint8_t *room, size_t room_length,
-                             size_t *count, size_t *length);
+int32_t mst_sharded_directory(mst_handle *reader, uint8_t *room, size_t room_length,
+                              size_t *count, size_t *length);
 
 /*
- * As mst_blocks_try_snapshot, but while a block is being published it tries again, after pauses as
+ * As mst_sharded_try_snapshot, but while a block is being published it tries again, after pauses as
  * those of mst_put, instead of returning MST_MOVING. It is not promised when a try falls between
- * two blocks; and if the writer's thread has died within mst_blocks_apply, none may.
+ * two blocks; and if the writer's thread has died within mst_sharded_apply, none may.
  */
-int32_t mst_blocks_snapshot(mst_blocks_handle *reader);
+int32_t mst_sharded_snapshot(mst_handle *reader);
+
+/*
+ * Puts all pairs of a snapshot, as one block, into another sharded map: one of the other format,
+ * with other splits, or with more rows. The second hand holds the writer of that map. So a map is
+ * migrated, split anew, or enlarged, while its readers go on. Keys that the other map has besides
+ * keep their values. Blocks that are made after the snapshot are not copied: make none meanwhile,
+ * or make each of them in the other map too, once the copy is made.
+ *
+ *     mst_handle more[2] = {MST_HANDLE_CLOSED, MST_HANDLE_CLOSED};
+ *     if (mst_sharded_open(2, 2000, NULL, 0, more, 2) == MST_OK
+ *         && mst_sharded_snapshot(reader) == MST_OK)
+ *         told = mst_sharded_copy(reader, &more[0], &shard, &number);    // its block 1
+ *
+ * Returns MST_OK, and *number is the number of the block. Otherwise nothing has changed in any
+ * shard, and *number is as it was. Returns MST_CLOSED, or MST_WRONG_STATE for the writer or a
+ * reader, if the first hand holds no snapshot; MST_MEMORY if there is none for the list of all
+ * pairs: *shard is the number of the shards of the other map. Then returns what mst_sharded_apply
+ * returns, and tells *shard as that does. Both hands are in the call until it returns.
+ *
+ * It takes memory for all pairs as edits, and besides for a list of the pairs first, and for what
+ * mst_sharded_apply takes then. It gives all back.
+ */
+int32_t mst_sharded_copy(mst_handle *snapshot, mst_handle *writer, size_t *shard,
+                         uint64_t *number);
 
 /* ---- several threads that write blocks ---- */
 
@@ -913,23 +713,23 @@ int32_t mst_blocks_snapshot(mst_blocks_handle *reader);
  * A group is a writer of blocks for any number of threads (group commit). While one of them makes a
  * block, the edits of the others wait, and then all that wait are made as one block.
  *
- *     mst_blocks_group *group;
- *     if (mst_blocks_group_open(writer, &group) != MST_OK)      // the writer's hand is empty now
+ *     mst_sharded_group *group;
+ *     if (mst_sharded_group_open(writer, &group) != MST_OK)     // the writer's hand is empty now
  *         give_up();
- *     int32_t told = mst_blocks_group_apply(group, edits, length, &place, &shard, &number);
- *                                               // in any thread, with edits of its own
- *     mst_blocks_group_close(group, writer);    // once all threads are done: the hand has it again
+ *     int32_t told = mst_sharded_group_apply(group, edits, length, &place, &shard, &number);
+ *                                              // in any thread, with edits of its own
+ *     mst_sharded_group_close(group, writer);  // once all threads are done: the hand has it again
  */
 
 /* A group. The library takes memory for it, and a caller has only its address. */
-typedef struct mst_blocks_group mst_blocks_group;
+typedef struct mst_sharded_group mst_sharded_group;
 
 /*
  * Makes a group of the writer in the hand, and sets *group to its address. Returns MST_OK, and then
  * the hand is empty. Otherwise the hand and *group are as they were: returns MST_CLOSED;
  * MST_WRONG_STATE for a reader or a snapshot; MST_MEMORY.
  */
-int32_t mst_blocks_group_open(mst_blocks_handle *writer, mst_blocks_group **group);
+int32_t mst_sharded_group_open(mst_handle *writer, mst_sharded_group **group);
 
 /*
  * Makes the edits, in the form of mst_try_apply, in a block of the group's writer. Any number of
@@ -938,8 +738,8 @@ int32_t mst_blocks_group_open(mst_blocks_handle *writer, mst_blocks_group **grou
  * Returns MST_OK, and *number is the number of the block that has the edits; the numbers that a
  * thread is told rise. The root digest of this block is not told: a snapshot that is taken
  * afterwards has it only if no later block was made, which its number tells. Otherwise none of the
- * edits is made: returns what mst_blocks_apply returns, without MST_CLOSED and MST_WRONG_STATE, and
- * tells *place, of an edit among these, and *shard as that does. What is not told is as it was.
+ * edits is made: returns what mst_sharded_apply returns, without MST_CLOSED and MST_WRONG_STATE,
+ * and tells *place, of an edit among these, and *shard as that does. What is not told is as it was.
  *
  * If no block is being made when the call comes, it makes one of its edits at once. Calls that come
  * meanwhile sleep. Then the first of them, or a call that comes before it is awake, makes one block
@@ -949,7 +749,7 @@ int32_t mst_blocks_group_open(mst_blocks_handle *writer, mst_blocks_group **grou
  * calls.
  *
  * If a block of several calls is refused, each of them gets a block of its own, in the same order.
- * So a call is refused only if mst_blocks_apply would refuse its edits alone, after those of the
+ * So a call is refused only if mst_sharded_apply would refuse its edits alone, after those of the
  * calls before it. Bad edits go into no block with others. A block of several calls takes memory
  * for all their edits; if there is none, each call gets a block of its own.
  *
@@ -957,14 +757,14 @@ int32_t mst_blocks_group_open(mst_blocks_handle *writer, mst_blocks_group **grou
  * of the call (pthread_cancel with deferred cancellation). If a thread ends within it, others may
  * wait without end.
  */
-int32_t mst_blocks_group_apply(mst_blocks_group *group, const uint8_t *edits, size_t length,
-                               size_t *place, size_t *shard, uint64_t *number);
+int32_t mst_sharded_group_apply(mst_sharded_group *group, const uint8_t *edits, size_t length,
+                                size_t *place, size_t *shard, uint64_t *number);
 
 /*
  * Ends the group, and puts its writer into the hand. What the hand held before is closed. No other
  * call may be in the group then, and none may follow. Returns MST_OK.
  */
-int32_t mst_blocks_group_close(mst_blocks_group *group, mst_blocks_handle *writer);
+int32_t mst_sharded_group_close(mst_sharded_group *group, mst_handle *writer);
 
 #ifdef __cplusplus
 }

@@ -4,7 +4,7 @@
  *     blocks FORMAT FILE KEY_LENGTH KEYS SHARDS ROWS EDITS BLOCKS SNAPSHOTS LASTS
  *
  * Loads KEYS keys into SHARDS shards of ROWS rows, and makes BLOCKS blocks of EDITS new values at
- * random keys. SNAPSHOTS handles hold a snapshot each, one after the other: each lasts for LASTS
+ * random keys. SNAPSHOTS readers hold a snapshot each, one after the other: each lasts for LASTS
  * blocks. Ends at the first refusal. Writes the nanoseconds of a block, of processor time: the
  * median, the 99th percentile and the worst; the same of a new snapshot with its root digest; and
  * the megabytes that the process has in memory, with the map opened and at the end.
@@ -15,9 +15,9 @@
 #include <stdio.h>
 #include <stdlib.h>
 
-#define LOADED 4096 /* keys of a batch while the map is filled */
+#define LOADED 4096 /* keys of a block while the map is filled */
 
-static mst_handle handles[MST_PASSES_MOST];
+static mst_handle handles[MST_PASSES_MOST]; /* the writer, and the readers */
 
 static void expect(const char *what, int32_t told) {
     if (told < MST_OK)
@@ -37,10 +37,12 @@ static void open_map(uint32_t format, size_t shards, uint32_t rows, size_t count
     expect("mst_sharded_open", mst_sharded_open(format, rows, splits, length, handles, count));
 }
 
-/* Makes the batch, shard by shard, and empties it. */
+/* Makes the batch as one block, and empties it. */
 static void apply_all(struct batch *batch) {
     size_t place, shard = 0;
-    int32_t told = mst_sharded_apply(&handles[0], batch->edits, batch->length, &place, &shard);
+    uint64_t number;
+    int32_t told = mst_sharded_apply(&handles[0], batch->edits, batch->length, &place, &shard,
+                                     &number);
     if (told != MST_OK)
         fprintf(stderr, "shard %zu refused its part\n", shard);
     expect("mst_sharded_apply", told);
@@ -57,13 +59,13 @@ static void fill(struct keys *keys, size_t size) {
     free_batch(&batch);
 }
 
-/* Takes the snapshot of a handle anew, with its root digest. */
-static void renew(mst_handle *handle, int is_taken) {
+/* Takes the snapshot of a reader anew, with its root digest. */
+static void renew(mst_handle *reader, int is_taken) {
     uint8_t root[MST_ROOT_LENGTH];
     if (is_taken)
-        expect("mst_sharded_release", mst_sharded_release(handle));
-    expect("mst_sharded_snapshot", mst_sharded_snapshot(handle));
-    expect("mst_sharded_root", mst_sharded_root(handle, root, sizeof root));
+        expect("mst_sharded_release", mst_sharded_release(reader));
+    expect("mst_sharded_snapshot", mst_sharded_snapshot(reader));
+    expect("mst_sharded_root", mst_sharded_root(reader, root, sizeof root));
 }
 
 struct load {

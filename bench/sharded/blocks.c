@@ -15,8 +15,9 @@
  * median`, the milliseconds of one with N puts of keys that are there, which the engines make in
  * turn, round for round. `snapshot` is the least microseconds of a snapshot, with its release, if
  * nothing has changed. And of a reader that takes one snapshot after another while blocks of N are
- * made: `tries`, how many of a thousand had to try again; `waited, median` and `waited, longest`,
- * the microseconds from the first try of such a snapshot to its end.
+ * made: `tries`, how many of a thousand had to try again; of such a snapshot `waited, median` and
+ * `waited, longest`, the microseconds from its first try to the beginning of the one that was of one
+ * block, and `taken, median` and `taken, longest`, those to its end.
  */
 #include "../common.h"
 #include "mst_store.h"
@@ -27,10 +28,10 @@
 #include <stdlib.h>
 #include <string.h>
 
-enum { BLOCK_MOST = 10000, WAITS_MOST = 100000, ROUNDS_MOST = 10000 };
+enum { BLOCK_MOST = PAIRS_MOST, WAITS_MOST = 100000, ROUNDS_MOST = 10000 };
 
-static mst_blocks_handle hands[2];
-static double waits[WAITS_MOST];
+static mst_handle hands[2];
+static double waits[WAITS_MOST], ends[WAITS_MOST];
 static size_t keys = 1000000, shards = 32;
 
 _Noreturn void give_up(const char *what, int told) {
@@ -47,14 +48,14 @@ static double now(void) {
 static void open_map(size_t count, size_t parts) {
     static uint8_t splits[SPLITS_ROOM];
     size_t length = write_splits(splits, parts);
-    int32_t told = mst_blocks_open(1, rows_of(count, parts), splits, length, hands, 2);
+    int32_t told = mst_sharded_open(1, rows_of(count, parts), splits, length, hands, 2);
     if (told != MST_OK)
-        give_up("mst_blocks_open", told);
+        give_up("mst_sharded_open", told);
 }
 
 static void close_map(void) {
     for (int hand = 0; hand < 2; hand++)
-        mst_blocks_close(&hands[hand]);
+        mst_sharded_close(&hands[hand]);
 }
 
 /* One block. */
@@ -65,9 +66,9 @@ static void put_all(const uint8_t *pairs, size_t count) {
     uint64_t number;
     for (size_t i = 0; i < count; i++, pairs += PAIR_LENGTH)
         length = mst_edit_put(edits, length, pairs, KEY_LENGTH, pairs + KEY_LENGTH, VALUE_LENGTH);
-    int32_t told = mst_blocks_apply(&hands[0], edits, length, &place, &shard, &number);
+    int32_t told = mst_sharded_apply(&hands[0], edits, length, &place, &shard, &number);
     if (told != MST_OK || number != ++last)
-        give_up("mst_blocks_apply", told);
+        give_up("mst_sharded_apply", told);
 }
 
 static const struct engine blocks_engine = {
@@ -164,12 +165,12 @@ static void still(void) {
     double found = 1e9;
     for (int round = 0; round < 1000; round++) {
         double began = now();
-        int32_t told = mst_blocks_snapshot(&hands[1]);
+        int32_t told = mst_sharded_snapshot(&hands[1]);
         if (told == MST_OK)
-            told = mst_blocks_release(&hands[1]);
+            told = mst_sharded_release(&hands[1]);
         double took = now() - began;
         if (told != MST_OK)
-            give_up("mst_blocks_snapshot", told);
+            give_up("mst_sharded_snapshot", told);
         found = took < found ? took : found;
     }
     printf("snapshot\t%.2f\n", found * 1e6);
@@ -181,20 +182,27 @@ static size_t taken, waited;
 /* Takes one snapshot after another until the writer is done. */
 static void *read_on(void *nothing) {
     while (!atomic_load(&is_done)) {
-        double began = now();
-        int tries = 0;
+        double began = now(), tried = began;
         int32_t told;
-        while ((told = mst_blocks_try_snapshot(&hands[1])) == MST_MOVING)
-            tries++;
-        if (tries > 0 && waited < WAITS_MOST)
-            waits[waited++] = now() - began;
+        while ((told = mst_sharded_try_snapshot(&hands[1])) == MST_MOVING)
+            tried = now();
+        if (tried > began && waited < WAITS_MOST) {
+            waits[waited] = tried - began;
+            ends[waited++] = now() - began;
+        }
         taken++;
         if (told == MST_OK)
-            told = mst_blocks_release(&hands[1]);
+            told = mst_sharded_release(&hands[1]);
         if (told != MST_OK)
-            give_up("mst_blocks_try_snapshot", told);
+            give_up("mst_sharded_try_snapshot", told);
     }
     return nothing;
+}
+
+static void tell_waits(size_t count, const char *what, double *times) {
+    qsort(times, waited, sizeof *times, by_length);
+    printf("beside blocks of %zu: %s, median\t%.1f\n", count, what, times[waited / 2] * 1e6);
+    printf("beside blocks of %zu: %s, longest\t%.1f\n", count, what, times[waited - 1] * 1e6);
 }
 
 static void beside_reader(size_t count, int blocks) {
@@ -209,11 +217,10 @@ static void beside_reader(size_t count, int blocks) {
     }
     atomic_store(&is_done, 1);
     pthread_join(reader, NULL);
-    qsort(waits, waited, sizeof *waits, by_length);
     printf("beside blocks of %zu: tries\t%.2f\n", count, 1e3 * (double)waited / (double)taken);
     if (waited > 0) {
-        printf("beside blocks of %zu: waited, median\t%.1f\n", count, waits[waited / 2] * 1e6);
-        printf("beside blocks of %zu: waited, longest\t%.1f\n", count, waits[waited - 1] * 1e6);
+        tell_waits(count, "waited", waits);
+        tell_waits(count, "taken", ends);
     }
 }
 

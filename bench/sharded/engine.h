@@ -13,6 +13,7 @@
 #define PAIR_LENGTH (KEY_LENGTH + VALUE_LENGTH)
 #define SEATS 4
 #define SHARDS_MOST 1024
+#define PAIRS_MOST 10000 /* what is put at once */
 
 struct engine {
     const char *name;
@@ -21,8 +22,7 @@ struct engine {
     void (*close)(void);
     /* a put that waits for its turn, of a key that had a value or had none */
     void (*put)(int seat, const uint8_t *key, const uint8_t *value);
-    /* puts of so many pairs, each a key and its value, as one version of the whole; null if the
-       engine has none */
+    /* puts of at most PAIRS_MOST pairs, each a key and its value, as one version of the whole */
     void (*put_all)(const uint8_t *pairs, size_t count);
     void (*get)(int seat, const uint8_t *key);
     /* a version of the whole, which stays until the end */

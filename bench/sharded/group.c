@@ -1,19 +1,17 @@
 /*
- * How many single puts a second several threads make as blocks, by a group, and beside it by
- * handles of a sharded map, whose puts are versions of one shard each.
+ * How many single puts a second several threads make as blocks of a sharded map, by a group.
  *
  *     group [KEYS [SHARDS [CALLS [ROUNDS]]]]       200000 32 100000 3
  *
  * Build it in this folder, after `make -C ../../bindings`:
  *
- *     cc -std=c11 -D_GNU_SOURCE -Wall -Wextra -O2 -I../../include group.c sharded.c \
+ *     cc -std=c11 -D_GNU_SOURCE -Wall -Wextra -O2 -I../../include group.c \
  *         ../../bindings/out/libmst_store.a -lpthread -o out/group
  *
  * The keys are random, of 16 bytes, with values of 32. Each figure is of so many puts of keys that
  * are there, made by all threads together: the best of the rounds. It writes a line for each: the
  * name, the number of threads, and the figure. `apply` is a writer without a group, one block for
- * each put; `group` the puts a second by a group, `a block` how many of them a block has; `sharded`
- * those of as many handles.
+ * each put; `group` the puts a second by a group, `a block` how many of them a block has.
  */
 #include "../common.h"
 #include "mst_store.h"
@@ -25,8 +23,8 @@
 enum { THREADS_MOST = 8, FILL = 1000 };
 
 static size_t keys = 200000, shards = 32, calls = 100000;
-static mst_blocks_handle writer = MST_BLOCKS_HANDLE_CLOSED;
-static mst_blocks_group *group;
+static mst_handle writer = MST_HANDLE_CLOSED;
+static mst_sharded_group *group;
 
 _Noreturn void give_up(const char *what, int code) {
     fprintf(stderr, "%s returned %d\n", what, code);
@@ -58,24 +56,18 @@ static void put_apply(int seat, uint64_t number, uint64_t round) {
     uint8_t edits[MST_EDIT_LONGEST];
     size_t length = write_put(edits, 0, number, round), place, shard;
     uint64_t block;
-    int32_t told = mst_blocks_apply(&writer, edits, length, &place, &shard, &block);
+    int32_t told = mst_sharded_apply(&writer, edits, length, &place, &shard, &block);
     if (told != MST_OK)
-        give_up("mst_blocks_apply", seat + told);
+        give_up("mst_sharded_apply", seat + told);
 }
 
 static void put_group(int seat, uint64_t number, uint64_t round) {
     uint8_t edits[MST_EDIT_LONGEST];
     size_t length = write_put(edits, 0, number, round), place, shard;
     uint64_t block;
-    int32_t told = mst_blocks_group_apply(group, edits, length, &place, &shard, &block);
+    int32_t told = mst_sharded_group_apply(group, edits, length, &place, &shard, &block);
     if (told != MST_OK)
-        give_up("mst_blocks_group_apply", seat + told);
-}
-
-static void put_sharded(int seat, uint64_t number, uint64_t round) {
-    uint8_t key[KEY_LENGTH], value[VALUE_LENGTH] = {0};
-    pair_of(number, round, key, value);
-    sharded_engine.put(seat, key, value);
+        give_up("mst_sharded_group_apply", seat + told);
 }
 
 /* ---- what is timed ---- */
@@ -114,38 +106,38 @@ static void open_blocks(void) {
     static uint8_t splits[SPLITS_ROOM], edits[FILL * MST_EDIT_LONGEST];
     size_t length = write_splits(splits, shards), place, shard;
     uint64_t block;
-    int32_t told = mst_blocks_open(1, rows_of(keys, shards), splits, length, &writer, 1);
+    int32_t told = mst_sharded_open(1, rows_of(keys, shards), splits, length, &writer, 1);
     for (uint64_t from = 0; told == MST_OK && from < keys; from += FILL) {
         length = 0;
         for (uint64_t key = from; key < keys && key < from + FILL; key++)
             length = write_put(edits, length, key, 0);
-        told = mst_blocks_apply(&writer, edits, length, &place, &shard, &block);
+        told = mst_sharded_apply(&writer, edits, length, &place, &shard, &block);
     }
     if (told != MST_OK)
-        give_up("filling the map with blocks", told);
+        give_up("filling the map", told);
 }
 
 static uint64_t last_block(void) {
     uint64_t number = 0;
-    if (mst_blocks_number(&writer, &number) != MST_OK)
-        give_up("mst_blocks_number", 0);
+    if (mst_sharded_number(&writer, &number) != MST_OK)
+        give_up("mst_sharded_number", 0);
     return number;
 }
 
 /* As `rate`, by a group, which also tells the mean of the puts of a block. */
 static double rate_by_group(int threads, double *a_block) {
     uint64_t before = last_block();
-    if (mst_blocks_group_open(&writer, &group) != MST_OK)
-        give_up("mst_blocks_group_open", threads);
+    if (mst_sharded_group_open(&writer, &group) != MST_OK)
+        give_up("mst_sharded_group_open", threads);
     double figure = rate(threads, put_group);
-    mst_blocks_group_close(group, &writer);
+    mst_sharded_group_close(group, &writer);
     *a_block = (double)calls / (double)(last_block() - before);
     return figure;
 }
 
 /* The best figure of each, of so many rounds. */
 struct figures {
-    double apply, group[THREADS_MOST + 1], a_block[THREADS_MOST + 1], sharded[SEATS + 1];
+    double apply, group[THREADS_MOST + 1], a_block[THREADS_MOST + 1];
 };
 
 static void better(double *best, double figure) {
@@ -160,8 +152,6 @@ static void one_round(struct figures *best) {
         better(&best->group[threads], figure);
         better(&best->a_block[threads], a_block);
     }
-    for (int threads = 1; threads <= SEATS; threads *= 2)
-        better(&best->sharded[threads], rate(threads, put_sharded));
 }
 
 static void tell(const struct figures *best) {
@@ -170,8 +160,6 @@ static void tell(const struct figures *best) {
         printf("group\t%d\t%.0f\n", threads, best->group[threads]);
     for (int threads = 1; threads <= THREADS_MOST; threads *= 2)
         printf("a block\t%d\t%.2f\n", threads, best->a_block[threads]);
-    for (int threads = 1; threads <= SEATS; threads *= 2)
-        printf("sharded\t%d\t%.0f\n", threads, best->sharded[threads]);
 }
 
 int main(int count, char **words) {
@@ -180,13 +168,9 @@ int main(int count, char **words) {
     for (int word = 1; word < count && word <= 4; word++)
         *given[word - 1] = strtoul(words[word], NULL, 10);
     open_blocks();
-    sharded_engine.open(keys, shards);
-    for (uint64_t key = 0; key < keys; key++)
-        put_sharded(0, key, 0);
     while (rounds-- > 0)
         one_round(&best);
     tell(&best);
-    sharded_engine.close();
-    mst_blocks_close(&writer);
+    mst_sharded_close(&writer);
     return 0;
 }

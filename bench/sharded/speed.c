@@ -1,7 +1,8 @@
 /*
  * speed ENGINE KEYS SHARDS CALLS [gets]: fills a map and times calls of it, or gets alone, in
- * several rounds. It writes a line for each figure: its name, the number of threads, and the figure. Rates are calls a
- * second of all threads together, times microseconds a call, memory bytes a key.
+ * several rounds. It writes a line for each figure: its name, the number of threads, and the
+ * figure. Rates are calls a second of all threads together, times microseconds a call, memory bytes
+ * a key.
  */
 #include "../common.h"
 #include "engine.h"
@@ -12,7 +13,7 @@
 #include <time.h>
 #include <unistd.h>
 
-enum { VERSIONS = 1000, GET_ROUNDS = 9 };
+enum { VERSIONS = 1000, GET_ROUNDS = 9, FILL = 1000 };
 
 static const struct engine *engine;
 static size_t keys, calls;
@@ -37,12 +38,18 @@ static void key_of(uint8_t *key, uint64_t number) {
     write_bytes(key + 8, number);
 }
 
+/* The pair of this number, with its value in a round. */
+static void write_pair(uint8_t *pair, uint64_t number, uint64_t round) {
+    key_of(pair, number);
+    memset(pair + KEY_LENGTH, 0, VALUE_LENGTH);
+    write_bytes(pair + KEY_LENGTH, number);
+    write_bytes(pair + KEY_LENGTH + 8, round);
+}
+
 static void put(int seat, uint64_t number, uint64_t round) {
-    uint8_t key[KEY_LENGTH], value[VALUE_LENGTH] = {0};
-    key_of(key, number);
-    write_bytes(value, number);
-    write_bytes(value + 8, round);
-    engine->put(seat, key, value);
+    uint8_t pair[PAIR_LENGTH];
+    write_pair(pair, number, round);
+    engine->put(seat, pair, pair + KEY_LENGTH);
 }
 
 /* The number of one of the keys, random and the same in each run. */
@@ -55,9 +62,16 @@ struct job {
     void (*work)(const struct job *job);
 };
 
+/* Puts all keys, so many at once. */
 static void fill(const struct job *job) {
-    for (size_t key = (size_t)job->seat; key < keys; key += (size_t)job->threads)
-        put(job->seat, key, 0);
+    static uint8_t pairs[FILL * PAIR_LENGTH];
+    (void)job;
+    for (size_t first = 0; first < keys; first += FILL) {
+        size_t count = keys - first < FILL ? keys - first : FILL;
+        for (size_t pair = 0; pair < count; pair++)
+            write_pair(pairs + pair * PAIR_LENGTH, first + pair, 0);
+        engine->put_all(pairs, count);
+    }
 }
 
 static void puts_again(const struct job *job) {
@@ -140,7 +154,6 @@ static void time_versions(void) {
     tell("version", 1, of_versions(0, NULL));
     if (!engine->root)
         return;
-    of_versions(0, root_within); /* the first root digest makes the directory */
     tell("root", 1, of_versions(0, root_within));
     tell("root-after-put", 1, of_versions(1, root_within));
     tell("prove", 1, of_versions(0, prove_within));
@@ -166,7 +179,7 @@ int main(int count, char **words) {
     calls = strtoul(words[4], NULL, 10);
     double before = resident();
     engine->open(keys, strtoul(words[3], NULL, 10));
-    tell("fill", SEATS, (double)keys / seconds(SEATS, fill));
+    tell("fill", 1, (double)keys / seconds(1, fill));
     tell("memory", 1, (resident() - before) / (double)keys);
     for (int threads = 1; threads <= SEATS && !gets_alone; threads *= 2)
         tell("put", threads, (double)calls * threads / seconds(threads, puts_again));

@@ -1,13 +1,15 @@
-// Sharded maps from C++17: one map over many stores, each for an interval of keys, with one root
-// digest.
+// Sharded maps from C++17: one map over many stores, its shards, each for an interval of keys. A
+// block is edits of all shards as one version of the whole map, with one number and one root
+// digest, made whole or not at all.
 //
-//     auto handles = mst::open_sharded(1000, 2, {"h", "p"});    // three shards of 1,000 rows
-//     handles[0].put("apple", "30");
-//     auto then = handles[1].snapshot();                        // each shard pinned
-//     auto root = then.root();                                  // of all shards
+//     auto [writer, readers] = mst::sharded::open(1000, 1, {"m"});  // two shards of 1,000 rows
+//     auto number = writer.apply(mst::batch().put("apple", "30"));  // 1
+//     auto then = readers[0].snapshot();            // of one block, unless SHA-256 collides
+//     auto root = then.root();                                      // as writer.root()
 //
-// A handle is one thread's at a time; it is moved, never copied, and closes itself. The map is
-// freed with its last handle. All else is as in mst_store.hpp.
+// The writer alone makes blocks, and readers take snapshots of them. Each is one thread's at a
+// time; it is moved, never copied, and closes itself. The map is freed with the last of them. All
+// else is as in mst_store.hpp.
 #pragma once
 #include "mst_store.hpp"
 
@@ -69,7 +71,7 @@ std::vector<std::uint8_t> proof(std::vector<std::uint8_t> &room, Call call) {
     }
 }
 
-// The splits as the calls that open take them.
+// The splits as mst_sharded_open takes them.
 inline std::vector<std::uint8_t> packed(const std::vector<std::string> &splits) {
     std::vector<std::uint8_t> bytes_of(MST_SPLIT_LONGEST * splits.size());
     std::size_t length = 0;
@@ -79,63 +81,106 @@ inline std::vector<std::uint8_t> packed(const std::vector<std::string> &splits) 
     return bytes_of;
 }
 
+// The number of a block that a call has made. The shard is the one that refused its edits, if the
+// code says that one did.
+inline std::uint64_t block(int code, std::uint64_t number, std::size_t shard) {
+    switch (code) {
+    case MST_OK: return number;
+    case MST_OVERTAKEN: throw overtaken(shard);
+    case MST_BUSY:
+    case MST_MEMORY:
+    case MST_VERSIONS_SPENT:
+    case MST_NO_FREE_ROWS: throw refused_shard(code, shard);
+    default: throw refused(code);
+    }
+}
+
 } // namespace detail
 
-// The reads that a handle and a snapshot both have. The hand lies on the heap, so that a handle may
-// be moved or closed while it is pinned.
-class sharded_reader {
-protected:
-    std::shared_ptr<detail::sharded_held> hand;
+namespace sharded {
 
-    sharded_reader() noexcept = default;
-    explicit sharded_reader(std::shared_ptr<detail::sharded_held> of) noexcept
-        : hand(std::move(of)) {}
-    ~sharded_reader() = default;
+class writer;
+struct opened;
+
+// What the writer, a reader and a snapshot have in common. The hand lies on the heap, so that a
+// reader may be moved or closed while it has a snapshot.
+class member {
+protected:
+    std::shared_ptr<mst::detail::sharded_held> hand;
+
+    member() noexcept = default;
+    explicit member(std::shared_ptr<mst::detail::sharded_held> of) noexcept : hand(std::move(of)) {}
+    ~member() = default;
 
     mst_handle *at() const {
         if (hand == nullptr) throw refused(MST_CLOSED);
         return &hand->handle;
     }
 
+    void close_hand() noexcept {
+        if (auto of = std::move(hand)) mst_sharded_close(&of->handle);
+    }
+
+    std::uint64_t number_told() const {
+        std::uint64_t number = 0;
+        mst::detail::require(mst_sharded_number(at(), &number));
+        return number;
+    }
+
+    digest root_told() const {
+        digest root;
+        mst::detail::require(mst_sharded_root(at(), root.data(), root.size()));
+        return root;
+    }
+
+    std::optional<std::string> value_told(std::string_view key) const {
+        std::uint8_t room[MST_VALUE_LONGEST];
+        int code = mst_sharded_get(at(), mst::detail::bytes(key), key.size(), room, sizeof room);
+        return mst::detail::told(code, room);
+    }
+
 public:
-    sharded_reader(const sharded_reader &) = delete;
-    sharded_reader &operator=(const sharded_reader &) = delete;
+    member(const member &) = delete;
+    member &operator=(const member &) = delete;
 
     // Returns how many shards there are.
     std::size_t shards() const {
-        return static_cast<std::size_t>(detail::require(mst_sharded_shards(at())));
-    }
-
-    // Returns the value of the key, or nothing if the key is absent.
-    std::optional<std::string> get(std::string_view key) {
-        std::uint8_t room[MST_VALUE_LONGEST];
-        return detail::told(
-            mst_sharded_get(at(), detail::bytes(key), key.size(), room, sizeof room), room);
+        return static_cast<std::size_t>(mst::detail::require(mst_sharded_shards(at())));
     }
 };
 
-// A handle while it pins a version of each shard: all reads are of these. The pins end with the
-// object, or with its handle: then reads by the object are refused. It is used in the thread of its
-// handle.
-class [[nodiscard]] snapshot : public sharded_reader {
-    friend class handle;
-
-    explicit snapshot(std::shared_ptr<detail::sharded_held> of) : sharded_reader(std::move(of)) {
-        detail::require(mst_sharded_snapshot(at()));
-    }
+// A reader while it has a snapshot of exactly one block, unless SHA-256 collides: all reads are of
+// this block. Its pins end with the object, or with its reader: then reads by the object are
+// refused. It is used in the thread of its reader.
+class [[nodiscard]] snapshot : public member {
+    friend class reader;
+    // The hand holds the snapshot already.
+    explicit snapshot(std::shared_ptr<mst::detail::sharded_held> of) noexcept
+        : member(std::move(of)) {}
 
 public:
-    snapshot(snapshot &&other) noexcept : sharded_reader(std::move(other.hand)) {}
+    snapshot(snapshot &&other) noexcept : member(std::move(other.hand)) {}
     snapshot &operator=(snapshot &&) = delete;
     ~snapshot() { release(); }
+
+    // Returns the number of the block: how many blocks led to this map.
+    std::uint64_t number() { return number_told(); }
+
+    // Returns the root digest of all shards. It depends on their pairs, their format and the splits
+    // alone.
+    digest root() { return root_told(); }
+
+    // Returns the value of the key, or nothing if the key is absent.
+    std::optional<std::string> get(std::string_view key) { return value_told(key); }
 
     // Returns the pair of the least key above `after`, or of the least key of all if `after` is
     // empty; nothing if there is no such pair.
     std::optional<pair> next(std::string_view after = {}) {
         std::uint8_t key[MST_KEY_LONGEST], room[MST_VALUE_LONGEST];
         std::size_t length = 0;
-        auto value = detail::told(mst_sharded_next(at(), detail::bytes(after), after.size(), key,
-                                                   sizeof key, &length, room, sizeof room), room);
+        int code = mst_sharded_next(at(), mst::detail::bytes(after), after.size(), key, sizeof key,
+                                    &length, room, sizeof room);
+        auto value = mst::detail::told(code, room);
         if (!value) return std::nullopt;
         return pair(std::string(reinterpret_cast<const char *>(key), length), std::move(*value));
     }
@@ -145,53 +190,43 @@ public:
     std::vector<pair> range(std::string_view from = {}, std::string_view to = {},
                             std::size_t limit = SIZE_MAX) {
         auto most = static_cast<std::uint32_t>(std::min<std::size_t>(limit, UINT32_MAX));
-        return detail::pairs([&](auto &room, std::size_t &count, std::size_t &length) {
-            return mst_sharded_range(at(), detail::bytes(from), from.size(), detail::bytes(to),
-                                     to.size(), most, room.data(), room.size(), &count, &length);
+        return mst::detail::pairs([&](auto &room, std::size_t &count, std::size_t &length) {
+            return mst_sharded_range(at(), mst::detail::bytes(from), from.size(),
+                                     mst::detail::bytes(to), to.size(), most, room.data(),
+                                     room.size(), &count, &length);
         });
     }
 
     // Returns of each shard its lower bound, with its root digest of 32 bytes and its upper bound,
     // which is empty if there is none: the pairs whose root digest is that of the snapshot.
     std::vector<pair> directory() {
-        return detail::pairs([&](auto &room, std::size_t &count, std::size_t &length) {
+        return mst::detail::pairs([&](auto &room, std::size_t &count, std::size_t &length) {
             return mst_sharded_directory(at(), room.data(), room.size(), &count, &length);
         });
     }
 
-    // Returns the number of the version that is pinned of a shard, from 0; nothing if there is no
-    // such shard.
-    std::optional<std::uint64_t> version_at(std::size_t shard) {
-        std::uint64_t number = 0;
-        int code = mst_sharded_version_at(at(), shard, &number);
-        if (code == MST_ABSENT) return std::nullopt;
-        detail::require(code);
-        return number;
-    }
-
-    // Returns the format of the versions, in which the root digest and the proofs are. If they are
-    // in two, the call is refused.
+    // Returns the format of the map, in which the root digest and the proofs are.
     mst::format format() {
-        return static_cast<mst::format>(detail::require(mst_sharded_format(at())));
-    }
-
-    // Returns the root digest of all shards. It depends on their pairs, their format and the splits
-    // alone.
-    digest root() {
-        digest root;
-        detail::require(mst_sharded_root(at(), root.data(), root.size()));
-        return root;
+        return static_cast<mst::format>(mst::detail::require(mst_sharded_format(at())));
     }
 
     // Returns the proof of the key's answer, for mst_verify_sharded and the format and root digest
     // of this snapshot.
     std::vector<std::uint8_t> prove(std::string_view key) {
         mst_handle *from = at();
-        return detail::proof(hand->room, [&](auto &room, std::size_t &length) {
-            return mst_sharded_prove(from, detail::bytes(key), key.size(), room.data(),
+        return mst::detail::proof(hand->room, [&](auto &room, std::size_t &length) {
+            return mst_sharded_prove(from, mst::detail::bytes(key), key.size(), room.data(),
                                      room.size(), &length);
         });
     }
+
+    // Puts all pairs, as one block, into another sharded map, by its writer, and returns the number
+    // of this block. The other map may be of the other format, with other splits, or with more
+    // rows: so a map is migrated, split anew, or enlarged, while its readers go on. Keys that the
+    // other map has besides keep their values. Blocks that are made after the snapshot are not
+    // copied. If the block is refused, nothing has changed in any shard, as with writer::apply.
+    // There may also be no memory for the list of all pairs.
+    std::uint64_t copy_to(writer &other);
 
     // Ends the pins before the object ends. No read may follow: it is refused.
     void release() noexcept {
@@ -199,126 +234,126 @@ public:
     }
 };
 
-// A handle of a sharded map: reads of the current versions, and writes, each in its key's shard.
-class handle : public sharded_reader {
-    friend std::vector<handle> open_sharded(std::uint32_t, std::size_t,
-                                            const std::vector<std::string> &, format);
-
-    // Each of these is by a call that tries or by the one that waits.
-    tried put_by(decltype(mst_sharded_put) call, std::string_view key, std::string_view value) {
-        std::uint8_t room[MST_VALUE_LONGEST];
-        int code = call(at(), detail::bytes(key), key.size(), detail::bytes(value), value.size(),
-                        room, sizeof room);
-        if (code == MST_BUSY) return tried{true, std::nullopt};
-        return tried{false, detail::told(code, room)};
-    }
-
-    tried remove_by(decltype(mst_sharded_remove) call, std::string_view key) {
-        std::uint8_t room[MST_VALUE_LONGEST];
-        int code = call(at(), detail::bytes(key), key.size(), room, sizeof room);
-        if (code == MST_BUSY) return tried{true, std::nullopt};
-        return tried{false, detail::told(code, room)};
-    }
-
-    spread apply_by(decltype(mst_sharded_apply) call, const batch &edits, std::size_t from) {
-        std::size_t place = 0, shard = from;
-        int code = call(at(), edits.edits.data(), edits.edits.size(), &place, &shard);
-        switch (code) {
-        case MST_OK: return spread{};
-        case MST_BUSY: return spread{true, shard};
-        case MST_BAD_KEY:
-        case MST_BAD_VALUE: throw refused_edit(code, place);
-        case MST_MEMORY:
-        case MST_VERSIONS_SPENT:
-        case MST_NO_FREE_ROWS: throw refused_shard(code, shard);
-        default: throw refused(code);
-        }
-    }
+// A reader of a sharded map: it takes snapshots, one at a time.
+class reader : public member {
+    friend opened open(std::uint32_t, std::size_t, const std::vector<std::string> &, mst::format);
 
 public:
-    handle() noexcept = default;
-    handle(handle &&other) noexcept : sharded_reader(std::move(other.hand)) {}
-    handle &operator=(handle &&other) noexcept {
+    reader() noexcept = default;
+    reader(reader &&other) noexcept : member(std::move(other.hand)) {}
+    reader &operator=(reader &&other) noexcept {
         if (this != &other) {
             close();
             hand = std::move(other.hand);
         }
         return *this;
     }
-    ~handle() { close(); }
+    ~reader() { close(); }
 
-    // Closes the handle before the object ends, and ends its pins if it has any. All later calls
-    // are refused.
-    void close() noexcept {
-        if (auto of = std::move(hand)) mst_sharded_close(&of->handle);
+    // Returns the value that the key has now, or nothing if the key is absent. Two such reads need
+    // not be of one block. While the reader has a snapshot, it reads the snapshot's block.
+    std::optional<std::string> get(std::string_view key) { return value_told(key); }
+
+    // Returns a snapshot of one block, or nothing while a block is just being published.
+    std::optional<sharded::snapshot> try_snapshot() {
+        int code = mst_sharded_try_snapshot(at());
+        if (code == MST_MOVING) return std::nullopt;
+        mst::detail::require(code);
+        return sharded::snapshot(hand);
     }
 
-    // Gives the key the value, if no other handle has the turn of the key's shard.
-    tried try_put(std::string_view key, std::string_view value) {
-        return put_by(mst_sharded_try_put, key, value);
+    // As try_snapshot, but tries again while a block is being published. It is not promised when a
+    // try falls between two blocks; and if the writer's thread has died within apply, none may.
+    sharded::snapshot snapshot() {
+        mst::detail::require(mst_sharded_snapshot(at()));
+        return sharded::snapshot(hand);
     }
 
-    // Takes the key out, if no other handle has the turn of the key's shard.
-    tried try_remove(std::string_view key) { return remove_by(mst_sharded_try_remove, key); }
-
-    // As try_put, but waits for the turn. Returns the value that the key had before.
-    std::optional<std::string> put(std::string_view key, std::string_view value) {
-        return put_by(mst_sharded_put, key, value).old;
-    }
-
-    // As try_remove, but waits for the turn. Returns the value that the key had before.
-    std::optional<std::string> remove(std::string_view key) {
-        return remove_by(mst_sharded_remove, key).old;
-    }
-
-    // Makes the edits, those of each shard as one version of that shard, one shard after the other,
-    // if no other handle has its turn. Those of shards before `from` are passed over, so that a
-    // call may go on where one stopped. If a shard refuses its edits, refused_shard is thrown.
-    spread try_apply(const batch &edits, std::size_t from = 0) {
-        return apply_by(mst_sharded_try_apply, edits, from);
-    }
-
-    // As try_apply, but waits for the turn of each shard.
-    void apply(const batch &edits, std::size_t from = 0) {
-        (void)apply_by(mst_sharded_apply, edits, from);
-    }
-
-    // Turns each shard to a format, one after the other, if no other handle has its turn. If a
-    // shard refuses it, those before it are migrated, and those behind it were not tried.
-    applied try_migrate(format to) {
-        std::size_t stopped = 0;
-        int code = mst_sharded_try_migrate(at(), static_cast<std::uint32_t>(to), &stopped);
-        if (code == MST_BUSY) return applied{true};
-        detail::require(code);
-        return applied{};
-    }
-
-    // As try_migrate, but waits for the turn of each shard.
-    void migrate(format to) {
-        std::size_t stopped = 0;
-        detail::require(mst_sharded_migrate(at(), static_cast<std::uint32_t>(to), &stopped));
-    }
-
-    // Pins the current version of each shard, one shard after the other.
-    mst::snapshot snapshot() { return mst::snapshot(hand); }
+    // Closes the reader before the object ends, and ends its pins if it has a snapshot. All later
+    // calls are refused.
+    void close() noexcept { close_hand(); }
 };
 
-// Opens a sharded map of the empty map and returns its 1 to 32 handles. The splits are at most
-// 1,023 keys that rise strictly, from above that of one zero byte: the keys from one of them on,
-// and below the next, are those of a shard, which has 4 to 65,535 rows.
-inline std::vector<handle> open_sharded(std::uint32_t rows, std::size_t handles,
-                                        const std::vector<std::string> &splits,
-                                        format in = format::one) {
-    if (handles > MST_PASSES_MOST) throw refused(MST_BAD_SHAPE);
-    auto packed = detail::packed(splits);
-    std::vector<handle> all(handles);
-    std::vector<mst_handle> hands(handles); // null, as MST_HANDLE_CLOSED
-    for (auto &one : all) one.hand = std::make_shared<detail::sharded_held>();
-    detail::require(mst_sharded_open(static_cast<std::uint32_t>(in), rows, packed.data(),
-                                     packed.size(), hands.data(), handles));
+// The writer of a sharded map, which alone makes its blocks.
+class writer : public member {
+    friend class snapshot;
+    friend opened open(std::uint32_t, std::size_t, const std::vector<std::string> &, mst::format);
+
+public:
+    writer() noexcept = default;
+    writer(writer &&other) noexcept : member(std::move(other.hand)) {}
+    writer &operator=(writer &&other) noexcept {
+        if (this != &other) {
+            close();
+            hand = std::move(other.hand);
+        }
+        return *this;
+    }
+    ~writer() { close(); }
+
+    // Makes the edits of all shards as the next block, and returns its number: one more than that
+    // of the block before. Readers see none of them before all are made. No edits make a block too.
+    // If the block is refused, nothing has changed in any shard: refused_edit tells which edit is
+    // none, and refused_shard, or overtaken, which shard refused its edits.
+    std::uint64_t apply(const batch &edits) {
+        std::size_t place = 0, shard = 0;
+        std::uint64_t number = 0;
+        int code = mst_sharded_apply(at(), edits.edits.data(), edits.edits.size(), &place, &shard,
+                                     &number);
+        if (code == MST_BAD_KEY || code == MST_BAD_VALUE) throw refused_edit(code, place);
+        return mst::detail::block(code, number, shard);
+    }
+
+    // Returns the value of the key in the last block, or nothing if the key is absent: so a block
+    // can depend on what the map has.
+    std::optional<std::string> get(std::string_view key) { return value_told(key); }
+
+    // Returns the number of the last block; 0 is that of the empty map.
+    std::uint64_t number() { return number_told(); }
+
+    // Returns the root digest of all shards after the last block, as a snapshot of it has it.
+    digest root() { return root_told(); }
+
+    // Closes the writer before the object ends: then no more blocks are made, and readers go on.
+    // All later calls are refused.
+    void close() noexcept { close_hand(); }
+};
+
+inline std::uint64_t snapshot::copy_to(writer &other) {
+    std::size_t shard = 0;
+    std::uint64_t number = 0;
+    int code = mst_sharded_copy(at(), other.at(), &shard, &number);
+    return mst::detail::block(code, number, shard);
+}
+
+// The writer of a map, and its readers.
+//
+//     auto [writer, readers] = mst::sharded::open(1000, 3, {"h", "p"});
+struct opened {
+    sharded::writer writer;
+    std::vector<reader> readers;
+};
+
+// Opens a sharded map of the empty map, which is block 0, and returns its writer and its 0 to 31
+// readers. The splits are at most 1,023 keys that rise strictly, from above that of one zero byte:
+// the keys from one of them on, and below the next, are those of a shard, which has 4 to 65,535
+// rows. The map keeps its format; snapshot::copy_to copies it to a map of another.
+inline opened open(std::uint32_t rows, std::size_t readers, const std::vector<std::string> &splits,
+                   mst::format in = mst::format::one) {
+    if (readers >= MST_PASSES_MOST) throw refused(MST_BAD_SHAPE);
+    auto packed = mst::detail::packed(splits);
+    opened all{writer(), std::vector<reader>(readers)};
+    std::vector<mst_handle> hands(readers + 1); // null, as MST_HANDLE_CLOSED
+    all.writer.hand = std::make_shared<mst::detail::sharded_held>();
+    for (auto &one : all.readers) one.hand = std::make_shared<mst::detail::sharded_held>();
+    mst::detail::require(mst_sharded_open(static_cast<std::uint32_t>(in), rows, packed.data(),
+                                          packed.size(), hands.data(), hands.size()));
     // what the hands hold moves, once: those of the array are not looked at again
-    for (std::size_t i = 0; i < handles; i++) all[i].hand->handle = hands[i];
+    all.writer.hand->handle = hands[0];
+    for (std::size_t i = 0; i < readers; i++) all.readers[i].hand->handle = hands[i + 1];
     return all;
 }
+
+} // namespace sharded
 
 } // namespace mst

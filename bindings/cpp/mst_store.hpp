@@ -47,17 +47,17 @@ struct held {
 
 } // namespace detail
 
-namespace blocks {
+namespace sharded {
 class writer;
 }
 
-// Edits that a pass makes as one version, in their order: of those of one key the last decides.
+// Edits that a pass makes as one version, and the writer of a sharded map as one block, in their
+// order: of those of one key the last decides.
 //
 //     pass.apply(mst::batch().put("apple", "30").remove("pear"));
 class batch {
     friend class pass;
-    friend class handle;
-    friend class blocks::writer;
+    friend class sharded::writer;
     std::vector<std::uint8_t> edits; // as mst_try_apply takes them
     std::size_t count = 0;
 

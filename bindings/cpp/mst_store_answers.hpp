@@ -40,18 +40,16 @@ public:
     std::size_t place() const noexcept { return number; }
 };
 
-// Why a batch of a sharded map stopped: a shard refused its edits, or there was no memory for the
-// lists of all edits. The shards before it have theirs, and neither it nor one behind it has any.
-// If it was a block, no shard has any.
+// Why a block was refused: a shard refused its edits, or there was no memory for the lists of all
+// edits. Nothing has changed in any shard.
 class refused_shard : public refused {
     std::size_t number;
 
 public:
     refused_shard(int code, std::size_t shard) : refused(code), number(shard) {}
 
-    // The number of the shard, from 0: a call with the same edits from it on makes the others. Of a
-    // block it is the number of the shards if the directory refused its edits, or if there was no
-    // memory for the lists.
+    // The number of the shard, from 0. It is the number of the shards if the directory refused its
+    // own edits, or if there was no memory for the lists.
     std::size_t shard() const noexcept { return number; }
 };
 
@@ -73,15 +71,6 @@ struct [[nodiscard]] tried {
 // What a call that tries to make a batch has done.
 struct [[nodiscard]] applied {
     bool is_busy = false; // another pass has the turn, and nothing is written
-
-    explicit operator bool() const noexcept { return !is_busy; }
-};
-
-// What a call that tries to make a batch of a sharded map has done. If it is busy, the shards
-// before the one where it stopped have their edits, and neither it nor one behind it has any.
-struct [[nodiscard]] spread {
-    bool is_busy = false;  // another handle has the turn of a shard
-    std::size_t shard = 0; // the number of this shard
 
     explicit operator bool() const noexcept { return !is_busy; }
 };

@@ -1,8 +1,8 @@
 package mst
 
-// Batch is a list of edits that Apply makes as one version, or as one of each shard of a sharded
-// map, or as a block, in their order: of the edits of one key the last decides. The zero Batch has
-// no edits. One goroutine at a time uses a Batch.
+// Batch is a list of edits that Apply makes as one version, of a sharded map as one block, in their
+// order: of the edits of one key the last decides. The zero Batch has no edits. One goroutine at a
+// time uses a Batch.
 //
 //	var batch mst.Batch
 //	batch.Put([]byte("apple"), []byte("35")).Remove([]byte("pear"))

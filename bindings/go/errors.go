@@ -35,12 +35,6 @@ var (
 	// ErrSplits says that splits are at most 1,023 keys that rise strictly, from above that of one
 	// zero byte.
 	ErrSplits = errors.New("mst: splits are at most 1023 keys that rise from above the least")
-	// ErrMixedFormats says that the shards of a snapshot are in different formats.
-	ErrMixedFormats = errors.New("mst: the shards are in different formats")
-	// ErrStrayKey says that a shard has a key of another. No handle makes one so.
-	ErrStrayKey = errors.New("mst: a shard has a key of another")
-	// ErrNoShard says that a sharded map has no shard of this number.
-	ErrNoShard = errors.New("mst: the map has no shard of this number")
 	// ErrOvertaken says that another than the writer of blocks has written. No call makes it so.
 	ErrOvertaken = errors.New("mst: another than the writer of blocks has written")
 	// ErrMoving says that a block is just being published, so that there is no snapshot of one
@@ -49,7 +43,6 @@ var (
 )
 
 var refusals = map[C.int32_t]error{
-	C.MST_ABSENT:         ErrNoShard,
 	C.MST_UNKNOWN_FORMAT: ErrFormat,
 	C.MST_BAD_KEY:        ErrKey,
 	C.MST_BAD_VALUE:      ErrValue,
@@ -62,8 +55,6 @@ var refusals = map[C.int32_t]error{
 	C.MST_NO_FREE_ROWS:   ErrNoFreeRows,
 	C.MST_ROWS_PINNED:    ErrRowsPinned,
 	C.MST_BAD_SPLITS:     ErrSplits,
-	C.MST_MIXED_FORMATS:  ErrMixedFormats,
-	C.MST_STRAY_KEY:      ErrStrayKey,
 	C.MST_OVERTAKEN:      ErrOvertaken,
 	C.MST_MOVING:         ErrMoving,
 }
@@ -104,8 +95,8 @@ func (e *EditError) Unwrap() error {
 	return e.Err
 }
 
-// refusalOfShards is the error for a batch of a sharded map, or for a block.
-func refusalOfShards(told C.int32_t, place, shard C.size_t) error {
+// refusalOfBlock is the error for a block.
+func refusalOfBlock(told C.int32_t, place, shard C.size_t) error {
 	switch told {
 	case C.MST_BUSY, C.MST_VERSIONS_SPENT, C.MST_MEMORY, C.MST_NO_FREE_ROWS, C.MST_OVERTAKEN:
 		return &ShardError{int(shard), refusal(told)}
@@ -113,12 +104,10 @@ func refusalOfShards(told C.int32_t, place, shard C.size_t) error {
 	return refusalOfBatch(told, place)
 }
 
-// ShardError says at which shard a batch of a sharded map stopped: the shards before it have their
-// edits, and neither it nor one behind it has any. If it was a block, no shard has any.
+// ShardError says which shard refused its edits of a block. Nothing has changed in any shard.
 type ShardError struct {
-	// Shard is the number of the shard, from 0: a call with the same edits from it on makes the
-	// others. Of a block it is the number of the shards if the directory refused its edits, or if
-	// there was no memory for the lists of all edits.
+	// Shard is the number of the shard, from 0. It is the number of the shards if the directory
+	// refused its own edits, or if there was no memory for the lists of all edits.
 	Shard int
 	Err   error
 }

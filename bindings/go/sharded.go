@@ -3,34 +3,31 @@ package mst
 // #include "mst_store.h"
 import "C"
 
-import (
-	"runtime"
-	"sync"
-)
+import "runtime"
 
 // SplitsMost is the most splits of a sharded map.
 const SplitsMost = C.MST_SPLITS_MOST
 
-// Handle is a handle of a sharded map, from OpenSharded. Its writes are refused with ErrPinned
-// while it has a snapshot, and its reads are those of the snapshot then. Goroutines that share a
-// handle wait for each other.
-type Handle struct {
-	mutex sync.Mutex
+// ShardedWriter is the writer of a sharded map, from OpenSharded, which alone makes its blocks. A
+// block is edits of all shards as one version of the whole map, with one number and one root
+// digest, made whole or not at all. Goroutines that share it wait for each other.
+type ShardedWriter struct {
+	of member
+}
+
+// ShardedReader is a reader of a sharded map, from OpenSharded: it takes snapshots, one at a time.
+// Goroutines that share it wait for each other.
+type ShardedReader struct {
 	// How many snapshots there were, and whether the last one still pins.
 	snapshots uint64
 	isPinned  bool
-	keyRoom   [C.MST_KEY_LONGEST]byte
-	room      [C.MST_VALUE_LONGEST]byte
-	// The room for proofs and ranges, which grows with the longest.
-	long []byte
-	// It ends with padding, and stands last, as the hand of a pass.
-	hand C.mst_handle
+	of        member
 }
 
-// Snapshot is a handle while it pins a version of each shard: all its reads are of these, which
-// keep their rows. After Release the error of a read is ErrClosed.
-type Snapshot struct {
-	of     *Handle
+// ShardedSnapshot is a reader while it has a snapshot of exactly one block, unless SHA-256
+// collides: all its reads are of this block. After Release the error of a read is ErrClosed.
+type ShardedSnapshot struct {
+	by     *ShardedReader
 	number uint64
 }
 
@@ -47,266 +44,240 @@ func packedSplits(splits [][]byte) []byte {
 	return packed
 }
 
-// OpenSharded opens a sharded map of the empty map in a format, and returns its 1 to 32 handles.
-// The splits are at most SplitsMost keys that rise strictly, from above that of one zero byte: the
-// keys from one of them on, and below the next, are those of a shard, a store of 4 to 65,535 rows.
-// The map is freed when all handles are closed. The error is ErrFormat, ErrSplits, ErrShape, or
-// ErrMemory.
-func OpenSharded(format Format, rows, handles int, splits [][]byte) ([]*Handle, error) {
-	// 33 handles are as refused as any other number out of the limits.
-	if handles < 0 || handles > PassesMost {
-		handles = PassesMost + 1
+// OpenSharded opens a sharded map of the empty map, which is block 0, in a format, and returns its
+// writer and its 0 to 31 readers. The splits are at most SplitsMost keys that rise strictly, from
+// above that of one zero byte: the keys from one of them on, and below the next, are those of a
+// shard, a store of 4 to 65,535 rows. The map keeps its format, and is freed when its writer and
+// all readers are closed. The error is ErrFormat, ErrSplits, ErrShape, or ErrMemory.
+//
+//	writer, readers, err := mst.OpenSharded(mst.Format1, 1000, 1, [][]byte{[]byte("m")})
+//	var batch mst.Batch
+//	number, err := writer.Apply(batch.Put([]byte("apple"), []byte("30"))) // 1
+//	then, err := readers[0].Snapshot()
+//	root, err := then.Root() // as writer.Root()
+//	then.Release()
+func OpenSharded(
+	format Format, rows, readers int, splits [][]byte,
+) (*ShardedWriter, []*ShardedReader, error) {
+	// 33 hands are as refused as any other number out of the limits.
+	if readers < 0 || readers >= PassesMost {
+		readers = PassesMost
 	}
 	packed := packedSplits(splits)
-	hands := make([]C.mst_handle, handles+1)
+	hands := make([]C.mst_handle, readers+1)
 	told := C.mst_sharded_open(C.uint32_t(format), word(rows), at(packed), size(packed), &hands[0],
-		C.size_t(handles))
+		C.size_t(readers+1))
 	if told != C.MST_OK {
-		return nil, refusal(told)
+		return nil, nil, refusal(told)
 	}
-	made := make([]*Handle, handles)
+	// The hands move: their old places are not used again.
+	writer := &ShardedWriter{of: member{hand: hands[0]}}
+	runtime.SetFinalizer(writer, (*ShardedWriter).Close)
+	made := make([]*ShardedReader, readers)
 	for place := range made {
-		// The hand moves: its old place is not used again.
-		made[place] = &Handle{hand: hands[place]}
-		runtime.SetFinalizer(made[place], (*Handle).Close)
+		made[place] = &ShardedReader{of: member{hand: hands[place+1]}}
+		runtime.SetFinalizer(made[place], (*ShardedReader).Close)
 	}
-	return made, nil
+	return writer, made, nil
 }
 
-// Close closes the handle, and ends its pins if it has any. A second close returns ErrClosed and
-// has no other effect. The runtime closes a handle that nothing refers to any more, at some time.
-func (h *Handle) Close() error {
-	h.mutex.Lock()
-	defer h.mutex.Unlock()
-	h.isPinned = false
-	if told := C.mst_sharded_close(&h.hand); told != C.MST_OK {
-		return refusal(told)
+// Close closes the writer: then no more blocks are made, and readers go on. A second close returns
+// ErrClosed and has no other effect. The runtime closes a writer that nothing refers to any more,
+// at some time.
+func (w *ShardedWriter) Close() error {
+	w.of.mutex.Lock()
+	defer w.of.mutex.Unlock()
+	if err := w.of.close(); err != nil {
+		return err
 	}
-	runtime.SetFinalizer(h, nil)
+	runtime.SetFinalizer(w, nil)
 	return nil
 }
 
 // Shards returns how many shards there are. The error is ErrClosed.
-func (h *Handle) Shards() (int, error) {
-	h.mutex.Lock()
-	defer h.mutex.Unlock()
-	told := C.mst_sharded_shards(&h.hand)
-	if told < 0 {
-		return 0, refusal(told)
+func (w *ShardedWriter) Shards() (int, error) {
+	w.of.mutex.Lock()
+	defer w.of.mutex.Unlock()
+	return w.of.shards()
+}
+
+// Apply makes the edits of the batch, of all shards, as the next block, and returns its number: one
+// more than that of the block before. Readers see none of them before all are made. No edits make a
+// block too. After an error nothing has changed in any shard. The error is ErrClosed, an
+// *EditError, or a *ShardError with ErrBusy, ErrVersionsSpent, ErrMemory, ErrNoFreeRows, or
+// ErrOvertaken.
+func (w *ShardedWriter) Apply(batch *Batch) (number uint64, err error) {
+	w.of.mutex.Lock()
+	defer w.of.mutex.Unlock()
+	var place, shard C.size_t
+	var made C.uint64_t
+	told := C.mst_sharded_apply(&w.of.hand, at(batch.packed), size(batch.packed), &place, &shard,
+		&made)
+	return uint64(made), refusalOfBlock(told, place, shard)
+}
+
+// Get returns the value of the key in the last block, if the key is present: so a block can depend
+// on what the map has. The error is ErrClosed, ErrKey, or ErrOvertaken.
+func (w *ShardedWriter) Get(key []byte) (value []byte, present bool, err error) {
+	w.of.mutex.Lock()
+	defer w.of.mutex.Unlock()
+	return w.of.get(key)
+}
+
+// Number returns the number of the last block; 0 is that of the empty map. The error is ErrClosed.
+func (w *ShardedWriter) Number() (uint64, error) {
+	w.of.mutex.Lock()
+	defer w.of.mutex.Unlock()
+	return w.of.number()
+}
+
+// Root returns the root digest of all shards after the last block, as a snapshot of it has it. The
+// error is ErrClosed.
+func (w *ShardedWriter) Root() (Root, error) {
+	w.of.mutex.Lock()
+	defer w.of.mutex.Unlock()
+	return w.of.root()
+}
+
+// Close closes the reader, and ends its pins if it has a snapshot. A second close returns ErrClosed
+// and has no other effect. The runtime closes a reader that nothing refers to any more, at some
+// time.
+func (r *ShardedReader) Close() error {
+	r.of.mutex.Lock()
+	defer r.of.mutex.Unlock()
+	r.isPinned = false
+	if err := r.of.close(); err != nil {
+		return err
 	}
-	return int(told), nil
-}
-
-// value is the value that a call has written to the room, by the number that it returned.
-func (h *Handle) value(told C.int32_t) (value []byte, present bool, err error) {
-	switch {
-	case told >= 0:
-		return copied(h.room[:told]), true, nil
-	case told == C.MST_ABSENT:
-		return nil, false, nil
-	}
-	return nil, false, refusal(told)
-}
-
-func (h *Handle) get(key []byte) (value []byte, present bool, err error) {
-	return h.value(C.mst_sharded_get(&h.hand, at(key), size(key), at(h.room[:]), size(h.room[:])))
-}
-
-// Get returns the value of the key, if the key is present. The error is ErrClosed or ErrKey.
-func (h *Handle) Get(key []byte) (value []byte, present bool, err error) {
-	h.mutex.Lock()
-	defer h.mutex.Unlock()
-	return h.get(key)
-}
-
-// TryPut gives the key the value, if no other handle has the turn of the key's shard. It returns
-// the value that the key had before, if it was present. The error is ErrClosed, ErrKey, ErrValue,
-// ErrPinned, ErrBusy, ErrVersionsSpent, or ErrNoFreeRows.
-func (h *Handle) TryPut(key, value []byte) (old []byte, present bool, err error) {
-	h.mutex.Lock()
-	defer h.mutex.Unlock()
-	return h.value(C.mst_sharded_try_put(&h.hand, at(key), size(key), at(value), size(value),
-		at(h.room[:]), size(h.room[:])))
-}
-
-// Put is as TryPut, but waits for the turn.
-func (h *Handle) Put(key, value []byte) (old []byte, present bool, err error) {
-	h.mutex.Lock()
-	defer h.mutex.Unlock()
-	return h.value(C.mst_sharded_put(&h.hand, at(key), size(key), at(value), size(value),
-		at(h.room[:]), size(h.room[:])))
-}
-
-// TryRemove takes the key out, if no other handle has the turn of the key's shard. It returns the
-// value that the key had before, if it was present. The error is that of TryPut, but for ErrValue.
-func (h *Handle) TryRemove(key []byte) (old []byte, present bool, err error) {
-	h.mutex.Lock()
-	defer h.mutex.Unlock()
-	return h.value(C.mst_sharded_try_remove(&h.hand, at(key), size(key), at(h.room[:]),
-		size(h.room[:])))
-}
-
-// TryApply makes the edits of the batch, those of each shard as one version of that shard, one shard
-// after the other, if no other handle has its turn. Those of shards before from are passed over, so
-// that a call may go on where one stopped: a *ShardError has the number of that shard. The error is
-// ErrClosed, an *EditError, ErrPinned, ErrNoShard, or a *ShardError with ErrBusy, ErrVersionsSpent,
-// ErrMemory, or ErrNoFreeRows.
-func (h *Handle) TryApply(batch *Batch, from int) error {
-	h.mutex.Lock()
-	defer h.mutex.Unlock()
-	place, shard := C.size_t(0), C.size_t(from)
-	told := C.mst_sharded_try_apply(&h.hand, at(batch.packed), size(batch.packed), &place, &shard)
-	return refusalOfShards(told, place, shard)
-}
-
-// Apply is as TryApply, but waits for the turn of each shard.
-func (h *Handle) Apply(batch *Batch, from int) error {
-	h.mutex.Lock()
-	defer h.mutex.Unlock()
-	place, shard := C.size_t(0), C.size_t(from)
-	told := C.mst_sharded_apply(&h.hand, at(batch.packed), size(batch.packed), &place, &shard)
-	return refusalOfShards(told, place, shard)
-}
-
-// TryMigrate turns each shard to a format, one after the other, if no other handle has its turn. If
-// a shard refuses it, those before it are migrated, and those behind it were not tried. The error
-// is ErrClosed, ErrFormat, ErrPinned, ErrBusy, ErrVersionsSpent, ErrMemory, or ErrNoFreeRows.
-func (h *Handle) TryMigrate(to Format) error {
-	h.mutex.Lock()
-	defer h.mutex.Unlock()
-	var stopped C.size_t
-	if told := C.mst_sharded_try_migrate(&h.hand, C.uint32_t(to), &stopped); told != C.MST_OK {
-		return refusal(told)
-	}
+	runtime.SetFinalizer(r, nil)
 	return nil
 }
 
-// Migrate is as TryMigrate, but waits for the turn of each shard.
-func (h *Handle) Migrate(to Format) error {
-	h.mutex.Lock()
-	defer h.mutex.Unlock()
-	var stopped C.size_t
-	if told := C.mst_sharded_migrate(&h.hand, C.uint32_t(to), &stopped); told != C.MST_OK {
-		return refusal(told)
-	}
-	return nil
+// Shards returns how many shards there are. The error is ErrClosed.
+func (r *ShardedReader) Shards() (int, error) {
+	r.of.mutex.Lock()
+	defer r.of.mutex.Unlock()
+	return r.of.shards()
 }
 
-// Remove is as TryRemove, but waits for the turn.
-func (h *Handle) Remove(key []byte) (old []byte, present bool, err error) {
-	h.mutex.Lock()
-	defer h.mutex.Unlock()
-	return h.value(C.mst_sharded_remove(&h.hand, at(key), size(key), at(h.room[:]), size(h.room[:])))
+// Get returns the value that the key has now, if the key is present. Two such reads need not be of
+// one block. While the reader has a snapshot, it reads the snapshot's block. The error is ErrClosed
+// or ErrKey.
+func (r *ShardedReader) Get(key []byte) (value []byte, present bool, err error) {
+	r.of.mutex.Lock()
+	defer r.of.mutex.Unlock()
+	return r.of.get(key)
 }
 
-// Snapshot pins the current version of each shard, one shard after the other: until Release all
-// reads by the handle and by the result are of these. The error is ErrClosed, or ErrPinned if the
-// handle has a snapshot already.
-func (h *Handle) Snapshot() (*Snapshot, error) {
-	h.mutex.Lock()
-	defer h.mutex.Unlock()
-	if told := C.mst_sharded_snapshot(&h.hand); told != C.MST_OK {
+// TrySnapshot takes a snapshot of one block: until Release all reads by the reader and by the
+// result are of it. The error is ErrClosed, ErrPinned if the reader has a snapshot already, or
+// ErrMoving while a block is just being published.
+func (r *ShardedReader) TrySnapshot() (*ShardedSnapshot, error) {
+	r.of.mutex.Lock()
+	defer r.of.mutex.Unlock()
+	return r.taken(C.mst_sharded_try_snapshot(&r.of.hand))
+}
+
+// Snapshot is as TrySnapshot, but tries again while a block is being published. It is not promised
+// when a try falls between two blocks; and if the writer's thread has died within Apply, none may.
+func (r *ShardedReader) Snapshot() (*ShardedSnapshot, error) {
+	r.of.mutex.Lock()
+	defer r.of.mutex.Unlock()
+	return r.taken(C.mst_sharded_snapshot(&r.of.hand))
+}
+
+// taken is the snapshot that a call has taken, by the number that it returned.
+func (r *ShardedReader) taken(told C.int32_t) (*ShardedSnapshot, error) {
+	if told != C.MST_OK {
 		return nil, refusal(told)
 	}
-	h.snapshots, h.isPinned = h.snapshots+1, true
-	made := &Snapshot{of: h, number: h.snapshots}
-	runtime.SetFinalizer(made, (*Snapshot).Release)
+	r.snapshots, r.isPinned = r.snapshots+1, true
+	made := &ShardedSnapshot{by: r, number: r.snapshots}
+	runtime.SetFinalizer(made, (*ShardedSnapshot).Release)
 	return made, nil
 }
 
-// take gets the handle for a call, which then gives it back.
-func (s *Snapshot) take() (*Handle, error) {
-	s.of.mutex.Lock()
-	if !s.of.isPinned || s.of.snapshots != s.number {
-		s.of.mutex.Unlock()
+// take gets the hand for a call, which then gives it back.
+func (s *ShardedSnapshot) take() (*member, error) {
+	s.by.of.mutex.Lock()
+	if !s.by.isPinned || s.by.snapshots != s.number {
+		s.by.of.mutex.Unlock()
 		return nil, ErrClosed
 	}
-	return s.of, nil
+	return &s.by.of, nil
 }
 
-// Get returns the value of the key, if the key is present. The error is ErrClosed or ErrKey.
-func (s *Snapshot) Get(key []byte) (value []byte, present bool, err error) {
-	h, err := s.take()
+// Number returns the number of the block: how many blocks led to this map. The error is ErrClosed.
+func (s *ShardedSnapshot) Number() (uint64, error) {
+	m, err := s.take()
 	if err != nil {
-		return nil, false, err
+		return 0, err
 	}
-	defer h.mutex.Unlock()
-	return h.get(key)
+	defer m.mutex.Unlock()
+	return m.number()
 }
 
-// Root returns the root digest of all shards. The error is ErrClosed, ErrMixedFormats,
-// ErrVersionsSpent, or ErrMemory.
-func (s *Snapshot) Root() (root Root, err error) {
-	h, err := s.take()
+// Root returns the root digest of all shards. It depends on their pairs, their format and the
+// splits alone. The error is ErrClosed.
+func (s *ShardedSnapshot) Root() (root Root, err error) {
+	m, err := s.take()
 	if err != nil {
 		return root, err
 	}
-	defer h.mutex.Unlock()
-	if told := C.mst_sharded_root(&h.hand, at(root[:]), size(root[:])); told < 0 {
-		return root, refusal(told)
-	}
-	return root, nil
+	defer m.mutex.Unlock()
+	return m.root()
 }
 
-// Prove returns the proof of the key's answer, for a verifier of sharded maps and the format and
-// the root digest of this snapshot. The error may also be ErrKey.
-func (s *Snapshot) Prove(key []byte) ([]byte, error) {
-	h, err := s.take()
+// Format returns the format of the map, in which the root digest and the proofs are. The error is
+// ErrClosed.
+func (s *ShardedSnapshot) Format() (Format, error) {
+	m, err := s.take()
 	if err != nil {
-		return nil, err
+		return 0, err
 	}
-	defer h.mutex.Unlock()
-	return h.longest(func(room []byte, length *C.size_t) C.int32_t {
-		return C.mst_sharded_prove(&h.hand, at(key), size(key), at(room), size(room), length)
-	})
+	defer m.mutex.Unlock()
+	return formatOf(C.mst_sharded_format(&m.hand))
 }
 
-// longest calls with the long room until it is long enough, and returns a copy of what then stands
-// in the room.
-func (h *Handle) longest(call func(room []byte, length *C.size_t) C.int32_t) ([]byte, error) {
-	for {
-		var length C.size_t
-		told := call(h.long, &length)
-		switch told {
-		case C.MST_OK:
-			return copied(h.long[:length]), nil
-		case C.MST_SHORT_ROOM:
-			h.long = make([]byte, length)
-		default:
-			return nil, refusal(told)
-		}
+// Get returns the value of the key, if the key is present. The error is ErrClosed or ErrKey.
+func (s *ShardedSnapshot) Get(key []byte) (value []byte, present bool, err error) {
+	m, err := s.take()
+	if err != nil {
+		return nil, false, err
 	}
+	defer m.mutex.Unlock()
+	return m.get(key)
 }
 
 // Next returns the pair of the least key above key, or of the least key of all if key is empty, if
-// there is such a pair. The error is ErrClosed, ErrKey, or ErrMemory.
-func (s *Snapshot) Next(key []byte) (pair Pair, found bool, err error) {
-	h, err := s.take()
+// there is such a pair. The error is ErrClosed or ErrKey.
+func (s *ShardedSnapshot) Next(key []byte) (pair Pair, found bool, err error) {
+	m, err := s.take()
 	if err != nil {
 		return Pair{}, false, err
 	}
-	defer h.mutex.Unlock()
+	defer m.mutex.Unlock()
 	var length C.size_t
-	value, found, err := h.value(C.mst_sharded_next(&h.hand, at(key), size(key), at(h.keyRoom[:]),
-		size(h.keyRoom[:]), &length, at(h.room[:]), size(h.room[:])))
+	value, found, err := m.value(C.mst_sharded_next(&m.hand, at(key), size(key), at(m.keyRoom[:]),
+		size(m.keyRoom[:]), &length, at(m.room[:]), size(m.room[:])))
 	if !found {
 		return Pair{}, false, err
 	}
-	return Pair{copied(h.keyRoom[:length]), value}, true, nil
+	return Pair{copied(m.keyRoom[:length]), value}, true, nil
 }
 
 // Range returns the first pairs, at most limit, whose keys are at least from and below to, by
 // rising keys. An empty bound does not bind, and neither does a limit below 0. The error is
 // ErrClosed, ErrKey, or ErrMemory.
-func (s *Snapshot) Range(from, to []byte, limit int) ([]Pair, error) {
-	h, err := s.take()
+func (s *ShardedSnapshot) Range(from, to []byte, limit int) ([]Pair, error) {
+	m, err := s.take()
 	if err != nil {
 		return nil, err
 	}
-	defer h.mutex.Unlock()
+	defer m.mutex.Unlock()
 	var count C.size_t
-	listing, err := h.longest(func(room []byte, length *C.size_t) C.int32_t {
-		return C.mst_sharded_range(&h.hand, at(from), size(from), at(to), size(to), word(limit),
+	listing, err := m.longest(func(room []byte, length *C.size_t) C.int32_t {
+		return C.mst_sharded_range(&m.hand, at(from), size(from), at(to), size(to), word(limit),
 			at(room), size(room), &count, length)
 	})
 	if err != nil {
@@ -317,16 +288,16 @@ func (s *Snapshot) Range(from, to []byte, limit int) ([]Pair, error) {
 
 // Directory returns of each shard its lower bound, with its root digest of 32 bytes and its upper
 // bound, which is empty if there is none: the pairs whose root digest is that of the snapshot. The
-// error is that of Root.
-func (s *Snapshot) Directory() ([]Pair, error) {
-	h, err := s.take()
+// error is ErrClosed or ErrMemory.
+func (s *ShardedSnapshot) Directory() ([]Pair, error) {
+	m, err := s.take()
 	if err != nil {
 		return nil, err
 	}
-	defer h.mutex.Unlock()
+	defer m.mutex.Unlock()
 	var count C.size_t
-	listing, err := h.longest(func(room []byte, length *C.size_t) C.int32_t {
-		return C.mst_sharded_directory(&h.hand, at(room), size(room), &count, length)
+	listing, err := m.longest(func(room []byte, length *C.size_t) C.int32_t {
+		return C.mst_sharded_directory(&m.hand, at(room), size(room), &count, length)
 	})
 	if err != nil {
 		return nil, err
@@ -334,45 +305,49 @@ func (s *Snapshot) Directory() ([]Pair, error) {
 	return pairsIn(listing, int(count)), nil
 }
 
-// VersionAt returns the number of the version that is pinned of a shard, from 0, if there is such a
-// shard. The error is ErrClosed.
-func (s *Snapshot) VersionAt(shard int) (version uint64, found bool, err error) {
-	h, err := s.take()
+// Prove returns the proof of the key's answer, for a verifier of sharded maps and the format and
+// the root digest of this snapshot. The error is ErrClosed, ErrKey, or ErrMemory.
+func (s *ShardedSnapshot) Prove(key []byte) ([]byte, error) {
+	m, err := s.take()
 	if err != nil {
-		return 0, false, err
+		return nil, err
 	}
-	defer h.mutex.Unlock()
-	var number C.uint64_t
-	switch told := C.mst_sharded_version_at(&h.hand, C.size_t(shard), &number); told {
-	case C.MST_OK:
-		return uint64(number), true, nil
-	case C.MST_ABSENT:
-		return 0, false, nil
-	default:
-		return 0, false, refusal(told)
-	}
+	defer m.mutex.Unlock()
+	return m.longest(func(room []byte, length *C.size_t) C.int32_t {
+		return C.mst_sharded_prove(&m.hand, at(key), size(key), at(room), size(room), length)
+	})
 }
 
-// Format returns the format of the versions, in which the root digest and the proofs are. The error
-// is ErrClosed, ErrMixedFormats, or ErrMemory.
-func (s *Snapshot) Format() (Format, error) {
-	h, err := s.take()
+// CopyTo puts all pairs, as one block, into another sharded map, by its writer, and returns the
+// number of this block. The other map may be of the other format, with other splits, or with more
+// rows: so a map is migrated, split anew, or enlarged, while its readers go on. Keys that the other
+// map has besides keep their values. Blocks that are made after the snapshot are not copied. After an error
+// nothing has changed in any shard. The error is ErrClosed, or a *ShardError as that of Apply, with
+// ErrMemory also if there is no memory for the list of all pairs.
+func (s *ShardedSnapshot) CopyTo(writer *ShardedWriter) (number uint64, err error) {
+	m, err := s.take()
 	if err != nil {
 		return 0, err
 	}
-	defer h.mutex.Unlock()
-	return formatOf(C.mst_sharded_format(&h.hand))
+	defer m.mutex.Unlock()
+	writer.of.mutex.Lock()
+	defer writer.of.mutex.Unlock()
+	var shard C.size_t
+	var made C.uint64_t
+	told := C.mst_sharded_copy(&m.hand, &writer.of.hand, &shard, &made)
+	return uint64(made), refusalOfBlock(told, 0, shard)
 }
 
 // Release ends the pins. It has no effect if they have ended before, by a Release or with the
-// handle. The runtime ends the pins of a Snapshot that nothing refers to any more, at some time.
-func (s *Snapshot) Release() {
-	h, err := s.take()
+// reader. The runtime ends the pins of a ShardedSnapshot that nothing refers to any more, at some
+// time.
+func (s *ShardedSnapshot) Release() {
+	m, err := s.take()
 	if err != nil {
 		return
 	}
-	defer h.mutex.Unlock()
-	h.isPinned = false
-	C.mst_sharded_release(&h.hand)
+	defer m.mutex.Unlock()
+	s.by.isPinned = false
+	C.mst_sharded_release(&m.hand)
 	runtime.SetFinalizer(s, nil)
 }

@@ -1,6 +1,6 @@
 """A log of blocks: a number and a root digest for each, for a reader and for an auditor."""
 import mst_verifier
-from mst_store import Format, open_blocks
+from mst_store import Format, open_sharded
 
 
 def apply(writer, edits):
@@ -28,7 +28,7 @@ def audit(logged, proof):
 
 def main():
     # Each split is the first key of a shard: below h, from h on, from p on.
-    writer, reader = open_blocks(rows=100, readers=1, splits=[b"h", b"p"])
+    writer, reader = open_sharded(rows=100, readers=1, splits=[b"h", b"p"])
     apply(writer, [(b"apple", b"30"), (b"plum", b"12")])
     logged = apply(writer, [(b"apple", b"35"), (b"plum", None)])
     audit(logged, read(reader, logged))

@@ -1,4 +1,4 @@
-"""A worker, in a process of its own: it holds some of the shards, as one map with blocks.
+"""A worker, in a process of its own: it holds some of the shards, as one sharded map.
 
     worker.py [--format F] [--rows N] PORT FOLDER NUMBER
 
@@ -19,7 +19,7 @@ import checkpoints
 import shard_log
 import splits
 from change_log import connect
-from mst_store import open_blocks
+from mst_store import open_sharded
 from versions import Versions
 
 
@@ -61,7 +61,7 @@ def publish(client, checkpoint, block, shards):
 def main(port, folder, number, rows, format):
     client, seconds = connect(port), 0.0
     places = dict.fromkeys(splits.shards_of(number), shard_log.BEGINNING)
-    writer, *readers = open_blocks(rows, 2, splits.splits_of(number), format)
+    writer, *readers = open_sharded(rows, 2, splits.splits_of(number), format)
     versions = Versions([it.snapshot for it in readers])
     versions.serve(os.path.join(folder, f"worker {number}"))
     for checkpoint in itertools.count(1):

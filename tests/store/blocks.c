@@ -1,6 +1,6 @@
 /*
- * Blocks of a sharded map: openings that are refused, closed hands and wrong states, blocks that
- * are refused and leave all as it was, and each order of closing.
+ * Blocks of a sharded map: openings that are refused, splits that are none, closed hands and wrong
+ * states, blocks that are refused and leave all as it was, and each order of closing.
  */
 #include "blocks.h"
 
@@ -13,49 +13,78 @@ static const uint8_t long_bytes[70000] = {1};
 /* ---- opening and closing ---- */
 
 static void openings(void) {
-    static const uint8_t long_split[34] = {33, 1};
-    mst_blocks_handle hands[33] = {MST_BLOCKS_HANDLE_CLOSED};
-    EXPECT(sizeof(mst_blocks_handle) == 256);
-    EXPECT(mst_blocks_open(3, 3, TEXT("\0"), hands, 1) == MST_UNKNOWN_FORMAT);
-    EXPECT(mst_blocks_open(1, 3, TEXT("\0"), hands, 1) == MST_BAD_SPLITS);
-    EXPECT(mst_blocks_open(1, 16, long_split, 34, hands, 1) == MST_BAD_SPLITS);
-    EXPECT(mst_blocks_open(1, 16, TEXT("\2b"), hands, 1) == MST_BAD_SPLITS);
-    EXPECT(mst_blocks_open(1, 16, TEXT("\1b\1b"), hands, 1) == MST_BAD_SPLITS);
-    EXPECT(mst_blocks_open(1, 16, TEXT("\1\0"), hands, 1) == MST_BAD_SPLITS);
-    EXPECT(mst_blocks_open(1, 3, NULL, 0, hands, 1) == MST_BAD_SHAPE);
-    EXPECT(mst_blocks_open(1, 65536, NULL, 0, hands, 1) == MST_BAD_SHAPE);
-    EXPECT(mst_blocks_open(1, 16, NULL, 0, NULL, 0) == MST_BAD_SHAPE);
-    EXPECT(mst_blocks_open(1, 16, NULL, 0, hands, 33) == MST_BAD_SHAPE);
+    mst_handle hands[33] = {MST_HANDLE_CLOSED};
+    EXPECT(sizeof(mst_handle) == 256);
+    EXPECT(mst_sharded_open(3, 3, TEXT("\0"), hands, 1) == MST_UNKNOWN_FORMAT);
+    EXPECT(mst_sharded_open(1, 3, TEXT("\0"), hands, 1) == MST_BAD_SPLITS);
+    EXPECT(mst_sharded_open(1, 3, NULL, 0, hands, 1) == MST_BAD_SHAPE);
+    EXPECT(mst_sharded_open(1, 65536, NULL, 0, hands, 1) == MST_BAD_SHAPE);
+    EXPECT(mst_sharded_open(1, 16, NULL, 0, NULL, 0) == MST_BAD_SHAPE);
+    EXPECT(mst_sharded_open(1, 16, NULL, 0, hands, 33) == MST_BAD_SHAPE);
     /* of too many hands none is looked at, and the other refusals still come first */
-    EXPECT(mst_blocks_open(1, 16, NULL, 0, NULL, SIZE_MAX) == MST_BAD_SHAPE);
-    EXPECT(mst_blocks_open(1, 16, TEXT("\0"), NULL, 33) == MST_BAD_SPLITS);
-    EXPECT(mst_blocks_open(3, 16, NULL, 0, NULL, 33) == MST_UNKNOWN_FORMAT);
-    EXPECT(mst_blocks_open(2, 4, TEXT("\1b"), hands, 32) == MST_OK && hands[32].at == NULL);
+    EXPECT(mst_sharded_open(1, 16, NULL, 0, NULL, SIZE_MAX) == MST_BAD_SHAPE);
+    EXPECT(mst_sharded_open(1, 16, TEXT("\0"), NULL, 33) == MST_BAD_SPLITS);
+    EXPECT(mst_sharded_open(3, 16, NULL, 0, NULL, 33) == MST_UNKNOWN_FORMAT);
+    EXPECT(mst_sharded_open(2, 4, TEXT("\1b"), hands, 32) == MST_OK && hands[32].at == NULL);
     for (int i = 0; i < 32; i++)
-        EXPECT(mst_blocks_shards(&hands[i]) == 2);
+        EXPECT(mst_sharded_shards(&hands[i]) == 2);
     EXPECT(has_number(&hands[0], 0));
     /* a second opening closes what the hands held, and so does one that is refused */
-    EXPECT(mst_blocks_open(1, 16, NULL, 0, hands, 2) == MST_OK);
-    EXPECT(mst_blocks_shards(&hands[1]) == 1 && mst_blocks_shards(&hands[2]) == 2);
-    EXPECT(mst_blocks_open(1, 3, NULL, 0, hands, 2) == MST_BAD_SHAPE);
+    EXPECT(mst_sharded_open(1, 16, NULL, 0, hands, 2) == MST_OK);
+    EXPECT(mst_sharded_shards(&hands[1]) == 1 && mst_sharded_shards(&hands[2]) == 2);
+    EXPECT(mst_sharded_open(1, 3, NULL, 0, hands, 2) == MST_BAD_SHAPE);
     EXPECT(hands[0].at == NULL && hands[1].at == NULL);
     for (int i = 2; i < 32; i++)
-        EXPECT(mst_blocks_close(&hands[i]) == MST_OK);
+        EXPECT(mst_sharded_close(&hands[i]) == MST_OK);
+}
+
+/* What an opening with these splits returns. Its map is closed again. */
+static int32_t opened_with(uint32_t rows, const uint8_t *splits, size_t size) {
+    mst_handle hand = MST_HANDLE_CLOSED;
+    int32_t told = mst_sharded_open(1, rows, splits, size, &hand, 1);
+    EXPECT(mst_sharded_close(&hand) == (told == MST_OK ? MST_OK : MST_CLOSED));
+    return told;
+}
+
+static void splits(void) {
+    static const uint8_t long_split[34] = {33, 1};
+    uint8_t one[MST_SPLIT_LONGEST];
+    EXPECT(opened_with(16, NULL, 0) == MST_OK);
+    EXPECT(opened_with(16, TEXT("\1b\2bb\1c")) == MST_OK);
+    EXPECT(opened_with(16, TEXT("\1a\2a\0\1b")) == MST_OK);
+    EXPECT(opened_with(16, TEXT("\2\0\0")) == MST_OK);
+    /* a length of no key, a key cut short, and bytes left over */
+    EXPECT(opened_with(16, TEXT("\0")) == MST_BAD_SPLITS);
+    EXPECT(opened_with(16, TEXT("\1b\0")) == MST_BAD_SPLITS);
+    EXPECT(opened_with(16, long_split, 34) == MST_BAD_SPLITS);
+    EXPECT(opened_with(16, TEXT("\2b")) == MST_BAD_SPLITS);
+    EXPECT(opened_with(16, TEXT("\1b\1")) == MST_BAD_SPLITS);
+    EXPECT(mst_split(one, 0, long_split, 33) == 1 && opened_with(16, one, 1) == MST_BAD_SPLITS);
+    /* keys that do not rise, or not from above the least */
+    EXPECT(opened_with(16, TEXT("\1b\1b")) == MST_BAD_SPLITS);
+    EXPECT(opened_with(16, TEXT("\1b\1a")) == MST_BAD_SPLITS);
+    EXPECT(opened_with(16, TEXT("\1a\1c\1b")) == MST_BAD_SPLITS);
+    EXPECT(opened_with(16, TEXT("\2bb\1b")) == MST_BAD_SPLITS);
+    EXPECT(opened_with(16, TEXT("\1\0")) == MST_BAD_SPLITS);
+    /* bad splits are told before a bad shape */
+    EXPECT(opened_with(3, TEXT("\1b\1c")) == MST_BAD_SHAPE);
+    EXPECT(opened_with(3, TEXT("\1\0")) == MST_BAD_SPLITS);
+    EXPECT(opened_with(65536, TEXT("\1\0")) == MST_BAD_SPLITS);
 }
 
 static void many_shards(void) {
     static uint8_t many[1024 * 3];
-    mst_blocks_handle hands[2] = {MST_BLOCKS_HANDLE_CLOSED, MST_BLOCKS_HANDLE_CLOSED};
+    mst_handle hands[2] = {MST_HANDLE_CLOSED, MST_HANDLE_CLOSED};
     size_t end = 0;
     for (uint32_t i = 0; i < 1024; i++) {
         uint8_t key[2] = {(uint8_t)(1 + i / 256), (uint8_t)i};
         end = mst_split(many, end, key, 2);
     }
-    EXPECT(mst_blocks_open(1, 4, many, end, hands, 2) == MST_BAD_SPLITS);
-    EXPECT(mst_blocks_open(1, 4, many, end - 3, hands, 2) == MST_OK);
-    EXPECT(mst_blocks_shards(&hands[0]) == 1024 && mst_blocks_snapshot(&hands[1]) == MST_OK);
+    EXPECT(mst_sharded_open(1, 4, many, end, hands, 2) == MST_BAD_SPLITS);
+    EXPECT(mst_sharded_open(1, 4, many, end - 3, hands, 2) == MST_OK);
+    EXPECT(mst_sharded_shards(&hands[0]) == 1024 && mst_sharded_snapshot(&hands[1]) == MST_OK);
     EXPECT(has_number(&hands[1], 0) && have_one_root(&hands[0], &hands[1]));
-    EXPECT(mst_blocks_close(&hands[0]) == MST_OK && mst_blocks_close(&hands[1]) == MST_OK);
+    EXPECT(mst_sharded_close(&hands[0]) == MST_OK && mst_sharded_close(&hands[1]) == MST_OK);
 }
 
 /* The map is there for as long as one of its hands, whichever is closed last. */
@@ -63,12 +92,12 @@ static void each_order_of_closing(void) {
     for (int order = 0; order < 6; order++) {
         static const int orders[6][3] = {{0, 1, 2}, {0, 2, 1}, {1, 0, 2}, {1, 2, 0}, {2, 0, 1},
                                          {2, 1, 0}};
-        mst_blocks_handle hands[3] = {MST_BLOCKS_HANDLE_CLOSED};
-        EXPECT(mst_blocks_open(1, 16, TEXT("\1b"), hands, 3) == MST_OK);
+        mst_handle hands[3] = {MST_HANDLE_CLOSED};
+        EXPECT(mst_sharded_open(1, 16, TEXT("\1b"), hands, 3) == MST_OK);
         length = 0;
         puts_edit("a", "1");
         puts_edit("b", "2");
-        EXPECT(made_by(&hands[0]) == MST_OK && mst_blocks_snapshot(&hands[2]) == MST_OK);
+        EXPECT(made_by(&hands[0]) == MST_OK && mst_sharded_snapshot(&hands[2]) == MST_OK);
         for (int i = 0; i < 3; i++) {
             if (hands[1].at != NULL)
                 EXPECT(has(&hands[1], "a", "1") && has(&hands[1], "b", "2"));
@@ -76,9 +105,9 @@ static void each_order_of_closing(void) {
                 EXPECT(has(&hands[2], "a", "1") && has_number(&hands[2], 1));
             if (hands[0].at != NULL)
                 EXPECT(has_number(&hands[0], 1));
-            mst_blocks_handle *next = &hands[orders[order][i]];
-            EXPECT(mst_blocks_close(next) == MST_OK && next->at == NULL);
-            EXPECT(mst_blocks_close(next) == MST_CLOSED);
+            mst_handle *next = &hands[orders[order][i]];
+            EXPECT(mst_sharded_close(next) == MST_OK && next->at == NULL);
+            EXPECT(mst_sharded_close(next) == MST_CLOSED);
         }
     }
 }
@@ -86,7 +115,7 @@ static void each_order_of_closing(void) {
 /* ---- closed hands, wrong states, lengths ---- */
 
 static void closed_hands(void) {
-    mst_blocks_handle hand = MST_BLOCKS_HANDLE_CLOSED;
+    mst_handle hand = MST_HANDLE_CLOSED;
     uint8_t before[64];
     size_t told = 77;
     memset(room, 0xA5, sizeof room);
@@ -94,102 +123,148 @@ static void closed_hands(void) {
     length = 0, place = shard = 77, number = 77;
     puts_edit("", "1");
     EXPECT(made_by(&hand) == MST_CLOSED && place == 77 && shard == 77);
-    EXPECT(mst_blocks_number(&hand, &number) == MST_CLOSED && number == 77);
-    EXPECT(mst_blocks_shards(&hand) == MST_CLOSED);
-    EXPECT(mst_blocks_try_snapshot(&hand) == MST_CLOSED);
-    EXPECT(mst_blocks_snapshot(&hand) == MST_CLOSED);
-    EXPECT(mst_blocks_release(&hand) == MST_CLOSED);
-    EXPECT(mst_blocks_get(&hand, TEXT("a"), room, 64) == MST_CLOSED);
-    EXPECT(mst_blocks_next(&hand, TEXT("a"), room, 64, &told, room, 64) == MST_CLOSED);
-    EXPECT(mst_blocks_range(&hand, NULL, 0, NULL, 0, 9, room, 64, &told, &told) == MST_CLOSED);
-    EXPECT(mst_blocks_format(&hand) == MST_CLOSED);
-    EXPECT(mst_blocks_root(&hand, room, 64) == MST_CLOSED);
-    EXPECT(mst_blocks_prove(&hand, TEXT("a"), room, 64, &told) == MST_CLOSED);
-    EXPECT(mst_blocks_directory(&hand, room, 64, &told, &told) == MST_CLOSED);
-    EXPECT(mst_blocks_close(&hand) == MST_CLOSED && hand.at == NULL);
+    EXPECT(mst_sharded_number(&hand, &number) == MST_CLOSED && number == 77);
+    EXPECT(mst_sharded_shards(&hand) == MST_CLOSED);
+    EXPECT(mst_sharded_try_snapshot(&hand) == MST_CLOSED);
+    EXPECT(mst_sharded_snapshot(&hand) == MST_CLOSED);
+    EXPECT(mst_sharded_release(&hand) == MST_CLOSED);
+    EXPECT(mst_sharded_get(&hand, TEXT("a"), room, 64) == MST_CLOSED);
+    EXPECT(mst_sharded_next(&hand, TEXT("a"), room, 64, &told, room, 64) == MST_CLOSED);
+    EXPECT(mst_sharded_range(&hand, NULL, 0, NULL, 0, 9, room, 64, &told, &told) == MST_CLOSED);
+    EXPECT(mst_sharded_format(&hand) == MST_CLOSED);
+    EXPECT(mst_sharded_root(&hand, room, 64) == MST_CLOSED);
+    EXPECT(mst_sharded_prove(&hand, TEXT("a"), room, 64, &told) == MST_CLOSED);
+    EXPECT(mst_sharded_directory(&hand, room, 64, &told, &told) == MST_CLOSED);
+    EXPECT(mst_sharded_close(&hand) == MST_CLOSED && hand.at == NULL);
     EXPECT(told == 77 && memcmp(before, room, sizeof room) == 0);
 }
 
 /* What only a snapshot answers. */
-static void answers_nothing(mst_blocks_handle *hand) {
+static void answers_nothing(mst_handle *hand) {
     size_t told = 77;
-    EXPECT(mst_blocks_release(hand) == MST_WRONG_STATE);
-    EXPECT(mst_blocks_next(hand, TEXT("a"), key_room, 32, &told, room, 64) == MST_WRONG_STATE);
-    EXPECT(mst_blocks_next(hand, long_bytes, 33, key_room, 32, &told, room, 64) == MST_BAD_KEY);
-    EXPECT(mst_blocks_range(hand, NULL, 0, NULL, 0, 9, room, 64, &told, &told)
+    EXPECT(mst_sharded_release(hand) == MST_WRONG_STATE);
+    EXPECT(mst_sharded_next(hand, TEXT("a"), key_room, 32, &told, room, 64) == MST_WRONG_STATE);
+    EXPECT(mst_sharded_next(hand, long_bytes, 33, key_room, 32, &told, room, 64) == MST_BAD_KEY);
+    EXPECT(mst_sharded_range(hand, NULL, 0, NULL, 0, 9, room, 64, &told, &told)
            == MST_WRONG_STATE);
-    EXPECT(mst_blocks_range(hand, NULL, 0, long_bytes, 33, 9, room, 64, &told, &told)
+    EXPECT(mst_sharded_range(hand, NULL, 0, long_bytes, 33, 9, room, 64, &told, &told)
            == MST_BAD_KEY);
-    EXPECT(mst_blocks_format(hand) == MST_WRONG_STATE);
-    EXPECT(mst_blocks_prove(hand, TEXT("a"), proof, 64, &told) == MST_WRONG_STATE);
-    EXPECT(mst_blocks_prove(hand, NULL, 0, proof, 64, &told) == MST_BAD_KEY);
-    EXPECT(mst_blocks_directory(hand, room, 64, &told, &told) == MST_WRONG_STATE && told == 77);
+    EXPECT(mst_sharded_format(hand) == MST_WRONG_STATE);
+    EXPECT(mst_sharded_prove(hand, TEXT("a"), proof, 64, &told) == MST_WRONG_STATE);
+    EXPECT(mst_sharded_prove(hand, NULL, 0, proof, 64, &told) == MST_BAD_KEY);
+    EXPECT(mst_sharded_directory(hand, room, 64, &told, &told) == MST_WRONG_STATE && told == 77);
 }
 
 /* A hand that does not hold the writer makes no block. */
-static void makes_nothing(mst_blocks_handle *hand) {
+static void makes_nothing(mst_handle *hand) {
     length = 0, place = shard = 77, number = 77;
     puts_edit("a", "9");
     EXPECT(made_by(hand) == MST_WRONG_STATE && place == 77 && shard == 77 && number == 77);
-    EXPECT(mst_blocks_apply(hand, NULL, 0, &place, &shard, &number) == MST_WRONG_STATE);
+    EXPECT(mst_sharded_apply(hand, NULL, 0, &place, &shard, &number) == MST_WRONG_STATE);
     puts_edit("", "9");
     EXPECT(made_by(hand) == MST_BAD_KEY && place == 1 && shard == 77 && number == 77);
 }
 
 static void wrong_states(void) {
-    mst_blocks_handle hands[2] = {MST_BLOCKS_HANDLE_CLOSED, MST_BLOCKS_HANDLE_CLOSED};
-    mst_blocks_handle *writer = &hands[0], *reader = &hands[1];
+    mst_handle hands[2] = {MST_HANDLE_CLOSED, MST_HANDLE_CLOSED};
+    mst_handle *writer = &hands[0], *reader = &hands[1];
     size_t told = 77;
-    EXPECT(mst_blocks_open(2, 16, TEXT("\1m"), hands, 2) == MST_OK);
+    EXPECT(mst_sharded_open(2, 16, TEXT("\1m"), hands, 2) == MST_OK);
     length = 0;
     puts_edit("a", "12345");
     EXPECT(made_by(writer) == MST_OK && number == 1);
     /* the writer */
     answers_nothing(writer);
-    EXPECT(mst_blocks_try_snapshot(writer) == MST_WRONG_STATE);
-    EXPECT(mst_blocks_snapshot(writer) == MST_WRONG_STATE);
-    EXPECT(has(writer, "a", "12345") && mst_blocks_get(writer, TEXT("b"), room, 64) == MST_ABSENT);
-    EXPECT(mst_blocks_get(writer, TEXT("a"), room, 4) == MST_SHORT_ROOM);
-    EXPECT(mst_blocks_get(writer, NULL, 0, room, 64) == MST_BAD_KEY);
-    EXPECT(mst_blocks_root(writer, root, 31) == MST_SHORT_ROOM);
-    EXPECT(mst_blocks_root(writer, root, 32) == 32 && mst_blocks_shards(writer) == 2);
+    EXPECT(mst_sharded_try_snapshot(writer) == MST_WRONG_STATE);
+    EXPECT(mst_sharded_snapshot(writer) == MST_WRONG_STATE);
+    EXPECT(has(writer, "a", "12345") && mst_sharded_get(writer, TEXT("b"), room, 64) == MST_ABSENT);
+    EXPECT(mst_sharded_get(writer, TEXT("a"), room, 4) == MST_SHORT_ROOM);
+    EXPECT(mst_sharded_get(writer, NULL, 0, room, 64) == MST_BAD_KEY);
+    EXPECT(mst_sharded_root(writer, root, 31) == MST_SHORT_ROOM);
+    EXPECT(mst_sharded_root(writer, root, 32) == 32 && mst_sharded_shards(writer) == 2);
     /* a reader */
     answers_nothing(reader);
     makes_nothing(reader);
     number = 77;
-    EXPECT(mst_blocks_number(reader, &number) == MST_WRONG_STATE && number == 77);
-    EXPECT(mst_blocks_root(reader, root, 31) == MST_WRONG_STATE);
-    EXPECT(mst_blocks_get(reader, long_bytes, 33, room, 64) == MST_BAD_KEY);
-    EXPECT(mst_blocks_get(reader, TEXT("a"), room, 4) == MST_SHORT_ROOM);
-    EXPECT(has(reader, "a", "12345") && mst_blocks_shards(reader) == 2);
+    EXPECT(mst_sharded_number(reader, &number) == MST_WRONG_STATE && number == 77);
+    EXPECT(mst_sharded_root(reader, root, 31) == MST_WRONG_STATE);
+    EXPECT(mst_sharded_get(reader, long_bytes, 33, room, 64) == MST_BAD_KEY);
+    EXPECT(mst_sharded_get(reader, TEXT("a"), room, 4) == MST_SHORT_ROOM);
+    EXPECT(has(reader, "a", "12345") && mst_sharded_shards(reader) == 2);
     /* a snapshot */
-    EXPECT(mst_blocks_try_snapshot(reader) == MST_OK);
-    EXPECT(mst_blocks_try_snapshot(reader) == MST_WRONG_STATE);
-    EXPECT(mst_blocks_snapshot(reader) == MST_WRONG_STATE);
+    EXPECT(mst_sharded_try_snapshot(reader) == MST_OK);
+    EXPECT(mst_sharded_try_snapshot(reader) == MST_WRONG_STATE);
+    EXPECT(mst_sharded_snapshot(reader) == MST_WRONG_STATE);
     makes_nothing(reader);
-    EXPECT(mst_blocks_format(reader) == 2 && mst_blocks_shards(reader) == 2);
-    EXPECT(mst_blocks_root(reader, root, 31) == MST_SHORT_ROOM);
-    EXPECT(mst_blocks_next(reader, NULL, 0, NULL, 0, &told, room, 64) == MST_SHORT_ROOM);
-    EXPECT(mst_blocks_get(reader, TEXT("a"), room, 4) == MST_SHORT_ROOM && told == 77);
-    EXPECT(mst_blocks_prove(reader, TEXT("a"), proof, 8, &told) == MST_SHORT_ROOM && told > 8);
-    EXPECT(mst_blocks_prove(reader, TEXT("a"), proof, told, &told) == MST_OK);
-    EXPECT(mst_blocks_directory(reader, pairs, 0, &told, &told) == MST_SHORT_ROOM);
-    EXPECT(mst_blocks_release(reader) == MST_OK && mst_blocks_release(reader) == MST_WRONG_STATE);
+    EXPECT(mst_sharded_format(reader) == 2 && mst_sharded_shards(reader) == 2);
+    EXPECT(mst_sharded_root(reader, root, 31) == MST_SHORT_ROOM);
+    EXPECT(mst_sharded_next(reader, NULL, 0, NULL, 0, &told, room, 64) == MST_SHORT_ROOM);
+    EXPECT(mst_sharded_get(reader, TEXT("a"), room, 4) == MST_SHORT_ROOM && told == 77);
+    EXPECT(mst_sharded_prove(reader, TEXT("a"), proof, 8, &told) == MST_SHORT_ROOM && told > 8);
+    EXPECT(mst_sharded_prove(reader, TEXT("a"), proof, told, &told) == MST_OK);
+    EXPECT(mst_sharded_directory(reader, pairs, 0, &told, &told) == MST_SHORT_ROOM);
+    EXPECT(mst_sharded_release(reader) == MST_OK && mst_sharded_release(reader) == MST_WRONG_STATE);
     EXPECT(has_number(writer, 1) && has(reader, "a", "12345"));
-    EXPECT(mst_blocks_close(writer) == MST_OK && mst_blocks_close(reader) == MST_OK);
+    EXPECT(mst_sharded_close(writer) == MST_OK && mst_sharded_close(reader) == MST_OK);
+}
+
+/* ---- blocks that are made ---- */
+
+/* Of the edits of one key the last decides, in whatever shard. */
+static void edits_of_one_key(void) {
+    mst_handle hand = MST_HANDLE_CLOSED;
+    EXPECT(mst_sharded_open(1, 16, TEXT("\1b\1c\1d"), &hand, 1) == MST_OK);
+    length = 0, place = shard = 77;
+    puts_edit("d", "1");
+    puts_edit("a", "1");
+    puts_edit("dd", "2");
+    removes_edit("a");
+    puts_edit("b", "3");
+    removes_edit("none");
+    puts_edit("a", "4");
+    puts_edit("d", "5");
+    removes_edit("b");
+    EXPECT(made_by(&hand) == MST_OK && place == 77 && shard == 77 && number == 1);
+    EXPECT(has(&hand, "a", "4") && has(&hand, "b", NULL) && has(&hand, "none", NULL));
+    EXPECT(has(&hand, "d", "5") && has(&hand, "dd", "2"));
+    EXPECT(mst_sharded_apply(&hand, NULL, 0, &place, &shard, &number) == MST_OK && number == 2);
+    EXPECT(has(&hand, "a", "4") && mst_sharded_close(&hand) == MST_OK);
+}
+
+/* Each listing has the shard's bounds, with its root digest before the upper one. */
+static void directories(void) {
+    mst_handle hands[2] = {MST_HANDLE_CLOSED, MST_HANDLE_CLOSED};
+    size_t count = 0, bytes = 0, begins = 0;
+    mst_pair pair;
+    EXPECT(mst_sharded_open(2, 16, TEXT("\1b\2xy"), hands, 2) == MST_OK);
+    length = 0;
+    puts_edit("c", "1");
+    EXPECT(made_by(&hands[0]) == MST_OK && mst_sharded_snapshot(&hands[1]) == MST_OK);
+    EXPECT(mst_sharded_directory(&hands[1], pairs, 0, &count, &bytes) == MST_SHORT_ROOM);
+    EXPECT(count == 3 && bytes == 3 * (4 + 32) + 1 + 1 + 2 + 1 + 2);
+    EXPECT(mst_sharded_directory(&hands[1], pairs, bytes, &count, &bytes) == MST_OK);
+    begins = mst_pair_at(pairs, begins, &pair);
+    EXPECT(pair.key_length == 1 && pair.key[0] == 0 && pair.value_length == 33
+           && pair.value[32] == 'b');
+    begins = mst_pair_at(pairs, begins, &pair);
+    EXPECT(pair.key_length == 1 && pair.key[0] == 'b' && pair.value_length == 34
+           && memcmp(pair.value + 32, "xy", 2) == 0);
+    begins = mst_pair_at(pairs, begins, &pair);
+    EXPECT(pair.key_length == 2 && pair.value_length == 32 && begins == bytes);
+    EXPECT(mst_sharded_close(&hands[0]) == MST_OK && mst_sharded_close(&hands[1]) == MST_OK);
 }
 
 /* ---- blocks that are refused ---- */
 
 /* The third of four shards has too few rows. */
 static void a_shard_without_rows(void) {
-    mst_blocks_handle hands[3] = {MST_BLOCKS_HANDLE_CLOSED};
-    mst_blocks_handle *writer = &hands[0], *reader = &hands[1], *then = &hands[2];
-    EXPECT(mst_blocks_open(2, 12, TEXT("\1b\1c\1d"), hands, 3) == MST_OK);
+    mst_handle hands[3] = {MST_HANDLE_CLOSED};
+    mst_handle *writer = &hands[0], *reader = &hands[1], *then = &hands[2];
+    EXPECT(mst_sharded_open(2, 12, TEXT("\1b\1c\1d"), hands, 3) == MST_OK);
     length = 0;
     puts_edit("a", "old");
     puts_edit("c", "old");
-    EXPECT(made_by(writer) == MST_OK && number == 1 && mst_blocks_snapshot(then) == MST_OK);
+    EXPECT(made_by(writer) == MST_OK && number == 1 && mst_sharded_snapshot(then) == MST_OK);
     length = 0;
     puts_edit("d", "1");
     for (char last = 'a'; last < 'm'; last++)
@@ -202,8 +277,8 @@ static void a_shard_without_rows(void) {
         EXPECT(has(reader, "a", "old") && has(reader, "b", NULL) && has(reader, "d", NULL));
         EXPECT(has(reader, "c", "old") && has(reader, "ca", NULL));
         EXPECT(has_number(writer, 1) && have_one_root(writer, then));
-        EXPECT(mst_blocks_snapshot(reader) == MST_OK && has_number(reader, 1));
-        EXPECT(have_one_root(reader, then) && mst_blocks_release(reader) == MST_OK);
+        EXPECT(mst_sharded_snapshot(reader) == MST_OK && has_number(reader, 1));
+        EXPECT(have_one_root(reader, then) && mst_sharded_release(reader) == MST_OK);
     }
     /* the writer goes on with the next number */
     length = 0, shard = 77;
@@ -211,14 +286,14 @@ static void a_shard_without_rows(void) {
     puts_edit("d", "new");
     EXPECT(made_by(writer) == MST_OK && number == 2 && shard == 77);
     EXPECT(has(then, "a", "old") && has(then, "d", NULL) && has_number(then, 1));
-    EXPECT(mst_blocks_release(then) == MST_OK && mst_blocks_snapshot(then) == MST_OK);
+    EXPECT(mst_sharded_release(then) == MST_OK && mst_sharded_snapshot(then) == MST_OK);
     EXPECT(has(then, "a", "new") && has(then, "c", "old") && has_number(then, 2));
     for (int i = 0; i < 3; i++)
-        EXPECT(mst_blocks_close(&hands[i]) == MST_OK);
+        EXPECT(mst_sharded_close(&hands[i]) == MST_OK);
 }
 
 /* Whether the block is refused by this number, for the edit at this place, and nothing is made. */
-static int is_refused(mst_blocks_handle *hands, int32_t wanted, size_t at) {
+static int is_refused(mst_handle *hands, int32_t wanted, size_t at) {
     place = shard = 77, number = 77;
     int is = made_by(&hands[0]) == wanted && place == at && shard == 77 && number == 77;
     length = 0;
@@ -229,14 +304,16 @@ static void bad_edits(void) {
     static const size_t keys[] = {0, 33, 256, 257, 65535, 65536, 65537};
     static const size_t values[] = {65, 256, 65535, 65536, 65600};
     static uint8_t long_edits[4 * 65536];
-    mst_blocks_handle hands[2] = {MST_BLOCKS_HANDLE_CLOSED, MST_BLOCKS_HANDLE_CLOSED};
-    EXPECT(mst_blocks_open(1, 16, TEXT("\1b"), hands, 2) == MST_OK);
+    mst_handle hands[2] = {MST_HANDLE_CLOSED, MST_HANDLE_CLOSED};
+    EXPECT(mst_sharded_open(1, 16, TEXT("\1b"), hands, 2) == MST_OK);
     length = 0;
     for (size_t at = 0; at < sizeof keys / sizeof *keys; at++) {
         puts_edit("a", "1");
         puts_edit("z", "1");
         length = mst_edit_put(edits, length, long_bytes, keys[at], long_bytes, 64);
         EXPECT(is_refused(hands, MST_BAD_KEY, 2));
+        length = mst_edit_remove(edits, length, long_bytes, keys[at]);
+        EXPECT(is_refused(hands, MST_BAD_KEY, 0));
     }
     for (size_t at = 0; at < sizeof values / sizeof *values; at++) {
         puts_edit("z", "1");
@@ -251,18 +328,30 @@ static void bad_edits(void) {
         if (cut != 7)
             EXPECT(is_refused(hands, MST_BAD_BATCH, cut < 7 ? 0 : 1));
     }
+    for (int kind = 0; kind < 256; kind++) {
+        length = 0;
+        removes_edit("z");
+        size_t begins = length;
+        puts_edit("a", "1");
+        edits[begins] = (uint8_t)kind;
+        if (kind != 1)
+            EXPECT(is_refused(hands, MST_BAD_BATCH, 1));
+    }
     memset(long_edits, 0, sizeof long_edits);
-    EXPECT(mst_blocks_apply(&hands[0], long_edits, sizeof long_edits, &place, &shard, &number)
+    EXPECT(mst_sharded_apply(&hands[0], long_edits, sizeof long_edits, &place, &shard, &number)
            == MST_BAD_KEY && place == 0);
-    EXPECT(mst_blocks_close(&hands[0]) == MST_OK && mst_blocks_close(&hands[1]) == MST_OK);
+    EXPECT(mst_sharded_close(&hands[0]) == MST_OK && mst_sharded_close(&hands[1]) == MST_OK);
 }
 
 int main(void) {
     openings();
+    splits();
     many_shards();
     each_order_of_closing();
     closed_hands();
     wrong_states();
+    edits_of_one_key();
+    directories();
     a_shard_without_rows();
     bad_edits();
     return ended("blocks");

@@ -35,7 +35,7 @@ struct block {
 
 static struct block now, pinned[HANDS];
 static int pins[HANDS];
-static mst_blocks_handle hands[HANDS];
+static mst_handle hands[HANDS];
 
 static int is_value(int32_t told, const uint8_t *bytes, const struct block *block, int key) {
     int value = block->values[key];
@@ -59,14 +59,14 @@ static void makes_block(void) {
     place = shard = 77;
     EXPECT(made_by(&hands[0]) == MST_OK && place == 77 && shard == 77);
     EXPECT(number == ++now.number && has_number(&hands[0], number));
-    EXPECT(mst_blocks_root(&hands[0], now.root, MST_ROOT_LENGTH) == MST_ROOT_LENGTH);
+    EXPECT(mst_sharded_root(&hands[0], now.root, MST_ROOT_LENGTH) == MST_ROOT_LENGTH);
 }
 
 /* All keys of the current map, each read from its shard. */
-static void reads_now(mst_blocks_handle *reader) {
+static void reads_now(mst_handle *reader) {
     for (int at = 0; at < KEYS; at++) {
         uint8_t key = (uint8_t)at;
-        EXPECT(is_value(mst_blocks_get(reader, &key, 1, room, sizeof room), room, &now, at));
+        EXPECT(is_value(mst_sharded_get(reader, &key, 1, room, sizeof room), room, &now, at));
     }
 }
 
@@ -74,12 +74,12 @@ static void reads_now(mst_blocks_handle *reader) {
  * The pairs of a snapshot from a key on, below another or all, at most as many as a limit, and the
  * next one above the first key.
  */
-static void lists(mst_blocks_handle *then, const struct block *block, int first) {
+static void lists(mst_handle *then, const struct block *block, int first) {
     size_t count = 0, bytes = 0, begins = 0, next_length = 77;
     uint8_t from = (uint8_t)first, to = (uint8_t)random_below(KEYS);
     size_t of_to = random_below(2);
     uint32_t limit = random_below(2) ? UINT32_MAX : random_below(20);
-    EXPECT(mst_blocks_range(then, &from, 1, &to, of_to, limit, pairs, sizeof pairs, &count, &bytes)
+    EXPECT(mst_sharded_range(then, &from, 1, &to, of_to, limit, pairs, sizeof pairs, &count, &bytes)
            == MST_OK);
     EXPECT(count <= limit);
     for (int key = first; key < (of_to ? to : KEYS) && limit > 0; key++) {
@@ -97,36 +97,36 @@ static void lists(mst_blocks_handle *then, const struct block *block, int first)
     int key = first + 1;
     while (key < KEYS && block->values[key] < 0)
         key++;
-    int32_t told = mst_blocks_next(then, &from, 1, key_room, 32, &next_length, room, 64);
+    int32_t told = mst_sharded_next(then, &from, 1, key_room, 32, &next_length, room, 64);
     EXPECT(key < KEYS ? next_length == 1 && key_room[0] == key && is_value(told, room, block, key)
            : told == MST_ABSENT && next_length == 77);
 }
 
 /* Each answer of a snapshot is that of its block, with the root digest that the writer had then. */
-static void audits(uint32_t format, mst_blocks_handle *then, const struct block *block) {
+static void audits(uint32_t format, mst_handle *then, const struct block *block) {
     size_t count = 0, bytes = 0;
-    EXPECT(has_number(then, block->number) && mst_blocks_format(then) == (int32_t)format);
-    EXPECT(mst_blocks_root(then, root, sizeof root) == MST_ROOT_LENGTH
+    EXPECT(has_number(then, block->number) && mst_sharded_format(then) == (int32_t)format);
+    EXPECT(mst_sharded_root(then, root, sizeof root) == MST_ROOT_LENGTH
            && memcmp(root, block->root, sizeof root) == 0);
     for (int at = 0; at < KEYS; at += 1 + (int)random_below(32)) {
         uint8_t key = (uint8_t)at;
-        EXPECT(is_value(mst_blocks_get(then, &key, 1, room, sizeof room), room, block, at));
-        EXPECT(mst_blocks_prove(then, &key, 1, proof, sizeof proof, &bytes) == MST_OK);
+        EXPECT(is_value(mst_sharded_get(then, &key, 1, room, sizeof room), room, block, at));
+        EXPECT(mst_sharded_prove(then, &key, 1, proof, sizeof proof, &bytes) == MST_OK);
         int32_t told = mst_verify_sharded(format, root, sizeof root, &key, 1, proof, bytes, room,
                                           sizeof room);
         EXPECT(is_value(told, room, block, at));
     }
-    EXPECT(mst_blocks_directory(then, pairs, sizeof pairs, &count, &bytes) == MST_OK);
+    EXPECT(mst_sharded_directory(then, pairs, sizeof pairs, &count, &bytes) == MST_OK);
     EXPECT(count == SHARDS);
 }
 
 /* A reader takes a snapshot of the last block, or ends one; a snapshot is looked at. */
 static void reads(uint32_t format) {
     int at = 1 + (int)random_below(HANDS - 1);
-    mst_blocks_handle *hand = &hands[at];
+    mst_handle *hand = &hands[at];
     if (!pins[at] && random_below(2)) {
         reads_now(hand);
-        EXPECT(mst_blocks_try_snapshot(hand) == MST_OK);
+        EXPECT(mst_sharded_try_snapshot(hand) == MST_OK);
         pinned[at] = now;
         pins[at] = 1;
     }
@@ -135,13 +135,13 @@ static void reads(uint32_t format) {
         lists(hand, &pinned[at], (int)random_below(KEYS));
     }
     if (pins[at] && random_below(4) == 0) {
-        EXPECT(mst_blocks_release(hand) == MST_OK);
+        EXPECT(mst_sharded_release(hand) == MST_OK);
         pins[at] = 0;
     }
 }
 
 /* A block that gives a key this value, or removes it if that is -1. */
-static void sets(mst_blocks_handle *by, int key, int value) {
+static void sets(mst_handle *by, int key, int value) {
     uint8_t own = (uint8_t)key, byte = (uint8_t)value;
     length = value < 0 ? mst_edit_remove(edits, 0, &own, 1)
         : mst_edit_put(edits, 0, &own, 1, &byte, 1);
@@ -149,7 +149,7 @@ static void sets(mst_blocks_handle *by, int key, int value) {
 }
 
 /* The root digest is another while a key has another value, or none, and then the same again. */
-static void has_a_root_of_each_pair(mst_blocks_handle *of) {
+static void has_a_root_of_each_pair(mst_handle *of) {
     for (int key = 0; key < KEYS; key++) {
         int value = now.values[key];
         sets(of, key, value < 0 ? 1 : key % 2 ? -1 : value ^ 1);
@@ -161,8 +161,8 @@ static void has_a_root_of_each_pair(mst_blocks_handle *of) {
 
 /* Another map, to which other blocks have led, has the same root digest once it has these pairs. */
 static void has_the_root_of_its_pairs(uint32_t format, const uint8_t *splits, size_t end) {
-    mst_blocks_handle other = MST_BLOCKS_HANDLE_CLOSED;
-    EXPECT(mst_blocks_open(format, 512, splits, end, &other, 1) == MST_OK);
+    mst_handle other = MST_HANDLE_CLOSED;
+    EXPECT(mst_sharded_open(format, 512, splits, end, &other, 1) == MST_OK);
     for (int key = KEYS - 1; key >= 0; key -= MOST / 2) {
         length = 0;
         for (int at = key; at > key - MOST / 2; at--) {
@@ -175,7 +175,7 @@ static void has_the_root_of_its_pairs(uint32_t format, const uint8_t *splits, si
     }
     EXPECT(have_one_root(&hands[0], &other));
     has_a_root_of_each_pair(&other);
-    EXPECT(mst_blocks_close(&other) == MST_OK);
+    EXPECT(mst_sharded_close(&other) == MST_OK);
 }
 
 static void against_an_array(uint32_t format, long blocks) {
@@ -188,28 +188,25 @@ static void against_an_array(uint32_t format, long blocks) {
     now.number = 0;
     for (int at = 0; at < KEYS; at++)
         now.values[at] = -1;
-    EXPECT(mst_blocks_open(format, 256, splits, end, hands, HANDS) == MST_OK);
+    EXPECT(mst_sharded_open(format, 256, splits, end, hands, HANDS) == MST_OK);
     EXPECT(has_number(&hands[0], 0));
-    EXPECT(mst_blocks_root(&hands[0], now.root, MST_ROOT_LENGTH) == MST_ROOT_LENGTH);
+    EXPECT(mst_sharded_root(&hands[0], now.root, MST_ROOT_LENGTH) == MST_ROOT_LENGTH);
     for (long made = 0; made < blocks; made++) {
         reads(format);
         makes_block();
     }
     has_the_root_of_its_pairs(format, splits, end);
     for (int at = 0; at < HANDS; at++) {
-        EXPECT(mst_blocks_close(&hands[at]) == MST_OK);
+        EXPECT(mst_sharded_close(&hands[at]) == MST_OK);
         pins[at] = 0;
     }
 }
 
-/* A map that was led to by other blocks has the same root digest, and so has a sharded map. */
+/* A map that was led to by other blocks has the same root digest, whatever its rows. */
 static void one_root_for_one_content(void) {
-    mst_blocks_handle one = MST_BLOCKS_HANDLE_CLOSED, other = MST_BLOCKS_HANDLE_CLOSED;
-    mst_handle handle = MST_HANDLE_CLOSED;
-    uint8_t its[MST_ROOT_LENGTH];
-    EXPECT(mst_blocks_open(1, 16, TEXT("\1b"), &one, 1) == MST_OK);
-    EXPECT(mst_blocks_open(1, 32, TEXT("\1b"), &other, 1) == MST_OK);
-    EXPECT(mst_sharded_open(1, 16, TEXT("\1b"), &handle, 1) == MST_OK);
+    mst_handle one = MST_HANDLE_CLOSED, other = MST_HANDLE_CLOSED;
+    EXPECT(mst_sharded_open(1, 16, TEXT("\1b"), &one, 1) == MST_OK);
+    EXPECT(mst_sharded_open(1, 32, TEXT("\1b"), &other, 1) == MST_OK);
     length = 0;
     puts_edit("a", "1");
     puts_edit("c", "2");
@@ -222,12 +219,7 @@ static void one_root_for_one_content(void) {
     puts_edit("a", "1");
     removes_edit("b");
     EXPECT(made_by(&other) == MST_OK && number == 2 && have_one_root(&one, &other));
-    EXPECT(mst_sharded_put(&handle, TEXT("c"), TEXT("2"), room, 64) == MST_ABSENT);
-    EXPECT(mst_sharded_put(&handle, TEXT("a"), TEXT("1"), room, 64) == MST_ABSENT);
-    EXPECT(mst_sharded_snapshot(&handle) == MST_OK && mst_sharded_root(&handle, its, 32) == 32);
-    EXPECT(mst_blocks_root(&one, root, 32) == 32 && memcmp(root, its, 32) == 0);
-    EXPECT(mst_blocks_close(&one) == MST_OK && mst_blocks_close(&other) == MST_OK);
-    EXPECT(mst_sharded_close(&handle) == MST_OK);
+    EXPECT(mst_sharded_close(&one) == MST_OK && mst_sharded_close(&other) == MST_OK);
 }
 
 int main(int count, char **words) {

@@ -24,8 +24,8 @@ enum {
 
 static uint32_t requests = 3000;
 static int readers = 1;
-static mst_blocks_group *group;
-static mst_blocks_handle hands[3];
+static mst_sharded_group *group;
+static mst_handle hands[3];
 
 /* The numbers that each thread was told of its requests, which count from 1. */
 static struct writer {
@@ -119,7 +119,7 @@ static void *writes(void *given) {
     uint8_t edits[REQUEST_MOST];
     for (uint32_t request = 1; request <= requests; request++) {
         size_t length = write_request(thread, request, edits, 0), place = 77, shard = 77;
-        if (mst_blocks_group_apply(group, edits, length, &place, &shard, &told[request])
+        if (mst_sharded_group_apply(group, edits, length, &place, &shard, &told[request])
             != MST_OK)
             return own;
         if (told[request] <= told[request - 1] || place != 77 || shard != 77)
@@ -130,18 +130,18 @@ static void *writes(void *given) {
 }
 
 /* Whether the snapshot is of a block that is not older than any that was told before it. */
-static int looks(mst_blocks_handle *by, struct seen *now) {
+static int looks(mst_handle *by, struct seen *now) {
     pthread_mutex_lock(&lock);
     uint64_t least = told_most;
     pthread_mutex_unlock(&lock);
-    int is = mst_blocks_snapshot(by) == MST_OK && mst_blocks_number(by, &now->number) == MST_OK
-        && mst_blocks_root(by, now->root, sizeof now->root) == MST_ROOT_LENGTH;
+    int is = mst_sharded_snapshot(by) == MST_OK && mst_sharded_number(by, &now->number) == MST_OK
+        && mst_sharded_root(by, now->root, sizeof now->root) == MST_ROOT_LENGTH;
     for (int pair = 0; pair < PAIRS; pair++) {
         uint8_t key[3];
         shared_key(pair, key);
-        now->has[pair] = mst_blocks_get(by, key, sizeof key, now->shared[pair], BYTES) == BYTES;
+        now->has[pair] = mst_sharded_get(by, key, sizeof key, now->shared[pair], BYTES) == BYTES;
     }
-    return is && mst_blocks_release(by) == MST_OK && now->number >= least;
+    return is && mst_sharded_release(by) == MST_OK && now->number >= least;
 }
 
 static void *reads(void *by) {
@@ -211,7 +211,7 @@ static int is_of_pair(const struct seen *then, int pair) {
 }
 
 /* Of two that wrote their key in one block the last one is as the snapshot has it. */
-static int32_t settle(mst_blocks_handle *twin, const struct seen *then) {
+static int32_t settle(mst_handle *twin, const struct seen *then) {
     uint8_t edits[PAIRS * MST_EDIT_LONGEST], key[3];
     size_t length = 0, place, shard;
     uint64_t number;
@@ -221,28 +221,28 @@ static int32_t settle(mst_blocks_handle *twin, const struct seen *then) {
         if (then->has[pair])
             length = mst_edit_put(edits, length, key, sizeof key, then->shared[pair], BYTES);
     }
-    return mst_blocks_apply(twin, edits, length, &place, &shard, &number);
+    return mst_sharded_apply(twin, edits, length, &place, &shard, &number);
 }
 
-static int has_root(mst_blocks_handle *writer, const uint8_t *wanted) {
+static int has_root(mst_handle *writer, const uint8_t *wanted) {
     uint8_t root[MST_ROOT_LENGTH];
-    return mst_blocks_root(writer, root, sizeof root) == MST_ROOT_LENGTH
+    return mst_sharded_root(writer, root, sizeof root) == MST_ROOT_LENGTH
         && memcmp(root, wanted, sizeof root) == 0;
 }
 
 /* Each number up to the last is that of a block with requests, of each thread in their order. */
 static void replay(uint64_t last) {
     static uint8_t edits[THREADS * REQUEST_MOST];
-    mst_blocks_handle twin = MST_BLOCKS_HANDLE_CLOSED;
+    mst_handle twin = MST_HANDLE_CLOSED;
     size_t at = 0, place, shard;
-    EXPECT(mst_blocks_open(1, 2048, TEXT(SPLITS), &twin, 1) == MST_OK);
+    EXPECT(mst_sharded_open(1, 2048, TEXT(SPLITS), &twin, 1) == MST_OK);
     for (int thread = 0; thread < THREADS; thread++)
         next_request[thread] = 1;
     for (uint64_t number = 1; number <= last; number++) {
         size_t length = 0;
         uint64_t made;
         EXPECT(write_block(number, edits, &length) > 0);
-        EXPECT(mst_blocks_apply(&twin, edits, length, &place, &shard, &made) == MST_OK);
+        EXPECT(mst_sharded_apply(&twin, edits, length, &place, &shard, &made) == MST_OK);
         if (at < seen_count && seen[at].number == number) {
             EXPECT(settle(&twin, &seen[at]) == MST_OK && has_root(&twin, seen[at].root));
             at++;
@@ -251,24 +251,24 @@ static void replay(uint64_t last) {
     for (int thread = 0; thread < THREADS; thread++)
         EXPECT(next_request[thread] == requests + 1);
     EXPECT(at == seen_count && at > 0 && seen[at - 1].number == last);
-    EXPECT(mst_blocks_close(&twin) == MST_OK);
+    EXPECT(mst_sharded_close(&twin) == MST_OK);
 }
 
 /* The writer has made the last block, and goes on. */
-static void goes_on(mst_blocks_handle *writer, uint64_t last) {
+static void goes_on(mst_handle *writer, uint64_t last) {
     uint8_t edits[MST_EDIT_LONGEST];
     size_t length = mst_edit_put(edits, 0, TEXT("\1"), TEXT("1")), place, shard;
     uint64_t number = 0;
-    EXPECT(mst_blocks_number(writer, &number) == MST_OK && number == last);
-    EXPECT(mst_blocks_apply(writer, edits, length, &place, &shard, &number) == MST_OK);
+    EXPECT(mst_sharded_number(writer, &number) == MST_OK && number == last);
+    EXPECT(mst_sharded_apply(writer, edits, length, &place, &shard, &number) == MST_OK);
     EXPECT(number == last + 1);
 }
 
 static void many_requests(void) {
     pthread_t reader;
     void *given[THREADS], *failed = NULL;
-    EXPECT(mst_blocks_open(1, 2048, TEXT(SPLITS), hands, 3) == MST_OK);
-    EXPECT(mst_blocks_group_open(&hands[0], &group) == MST_OK && hands[0].at == NULL);
+    EXPECT(mst_sharded_open(1, 2048, TEXT(SPLITS), hands, 3) == MST_OK);
+    EXPECT(mst_sharded_group_open(&hands[0], &group) == MST_OK && hands[0].at == NULL);
     for (int at = 0; at < THREADS; at++)
         given[at] = &writers[at];
     if (readers > 0)
@@ -280,7 +280,7 @@ static void many_requests(void) {
     if (readers > 0)
         EXPECT(pthread_join(reader, &failed) == 0 && failed == NULL);
     /* what the hand held is closed, and then it has the writer */
-    EXPECT(mst_blocks_group_close(group, &hands[2]) == MST_OK);
+    EXPECT(mst_sharded_group_close(group, &hands[2]) == MST_OK);
     if (seen_count == 0 || seen[seen_count - 1].number < told_most)
         EXPECT(looks(&hands[1], &seen[seen_count++]));
     /* while long requests were made, others came, and were made as one block */
@@ -289,7 +289,7 @@ static void many_requests(void) {
     printf("%u requests, %llu blocks, %zu of them looked at\n", THREADS * requests,
            (unsigned long long)told_most, seen_count);
     goes_on(&hands[2], told_most);
-    EXPECT(mst_blocks_close(&hands[1]) == MST_OK && mst_blocks_close(&hands[2]) == MST_OK);
+    EXPECT(mst_sharded_close(&hands[1]) == MST_OK && mst_sharded_close(&hands[2]) == MST_OK);
 }
 
 /* ---- refusals ---- */
@@ -329,7 +329,7 @@ static void *is_refused(void *given) {
     for (uint32_t request = 1; request <= requests / 4; request++) {
         size_t length = write_refused(own->thread, request, edits), place = 77, shard = 77;
         uint64_t number = 0;
-        int32_t told = mst_blocks_group_apply(group, edits, length, &place, &shard, &number);
+        int32_t told = mst_sharded_group_apply(group, edits, length, &place, &shard, &number);
         if (told != own->told || place != own->place || shard != own->shard)
             return given;
         if (told == MST_OK ? number <= before : number != 0)
@@ -340,12 +340,12 @@ static void *is_refused(void *given) {
 }
 
 /* Whether both keys of a thread have its last value, if it was not refused. */
-static int has_last(mst_blocks_handle *reader, int thread) {
+static int has_last(mst_handle *reader, int thread) {
     uint8_t key[3] = {1, (uint8_t)thread, 0}, value[BYTES], wanted[BYTES];
     int is = 1;
     value_of(thread, requests / 4, wanted);
     for (key[0] = 1; key[0] <= 2; key[0]++) {
-        int32_t told = mst_blocks_get(reader, key, sizeof key, value, sizeof value);
+        int32_t told = mst_sharded_get(reader, key, sizeof key, value, sizeof value);
         is = is && (thread < REFUSED ? told == MST_ABSENT
                                      : told == BYTES && memcmp(value, wanted, BYTES) == 0);
     }
@@ -356,27 +356,27 @@ static void refusals(void) {
     struct refusal each[THREADS] = {{0, MST_NO_FREE_ROWS, 77, 0}, {1, MST_BAD_BATCH, 1, 77}};
     void *given[THREADS];
     uint64_t number = 0;
-    mst_blocks_group *none = NULL;
-    EXPECT(mst_blocks_open(2, 80, TEXT("\1\2"), hands, 2) == MST_OK);
-    EXPECT(mst_blocks_group_open(&hands[1], &none) == MST_WRONG_STATE && none == NULL);
-    EXPECT(mst_blocks_snapshot(&hands[1]) == MST_OK);
-    EXPECT(mst_blocks_group_open(&hands[1], &none) == MST_WRONG_STATE && none == NULL);
-    EXPECT(mst_blocks_group_open(&hands[2], &none) == MST_CLOSED && none == NULL);
-    EXPECT(mst_blocks_release(&hands[1]) == MST_OK);
-    EXPECT(mst_blocks_group_open(&hands[0], &group) == MST_OK && hands[0].at == NULL);
+    mst_sharded_group *none = NULL;
+    EXPECT(mst_sharded_open(2, 80, TEXT("\1\2"), hands, 2) == MST_OK);
+    EXPECT(mst_sharded_group_open(&hands[1], &none) == MST_WRONG_STATE && none == NULL);
+    EXPECT(mst_sharded_snapshot(&hands[1]) == MST_OK);
+    EXPECT(mst_sharded_group_open(&hands[1], &none) == MST_WRONG_STATE && none == NULL);
+    EXPECT(mst_sharded_group_open(&hands[2], &none) == MST_CLOSED && none == NULL);
+    EXPECT(mst_sharded_release(&hands[1]) == MST_OK);
+    EXPECT(mst_sharded_group_open(&hands[0], &group) == MST_OK && hands[0].at == NULL);
     for (int at = 0; at < THREADS; at++) {
         if (at >= REFUSED)
             each[at] = (struct refusal){at, MST_OK, 77, 77};
         given[at] = &each[at];
     }
     EXPECT(run_all(is_refused, given));
-    EXPECT(mst_blocks_group_close(group, &hands[0]) == MST_OK);
+    EXPECT(mst_sharded_group_close(group, &hands[0]) == MST_OK);
     for (int at = 0; at < THREADS; at++)
         EXPECT(has_last(&hands[1], at));
-    EXPECT(mst_blocks_number(&hands[0], &number) == MST_OK);
+    EXPECT(mst_sharded_number(&hands[0], &number) == MST_OK);
     EXPECT(number >= requests / 4 && number <= (uint64_t)requests / 4 * (THREADS - REFUSED));
     goes_on(&hands[0], number);
-    EXPECT(mst_blocks_close(&hands[0]) == MST_OK && mst_blocks_close(&hands[1]) == MST_OK);
+    EXPECT(mst_sharded_close(&hands[0]) == MST_OK && mst_sharded_close(&hands[1]) == MST_OK);
 }
 
 int main(int count, char **words) {

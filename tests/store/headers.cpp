@@ -6,8 +6,8 @@ namespace {
 
 mst_pass one = MST_PASS_CLOSED;
 mst_pass two[2] = {MST_PASS_CLOSED, MST_PASS_CLOSED};
-mst_blocks_handle three = MST_BLOCKS_HANDLE_CLOSED;
-mst_blocks_group *four;
+mst_handle three = MST_HANDLE_CLOSED;
+mst_sharded_group *four;
 
 } // namespace
 
@@ -26,9 +26,10 @@ int32_t each_call(uint8_t *room, size_t length) {
     told += mst_remove_within(&two[0], room, end, room, length, 1);
     told += mst_apply_within(&two[1], room, end, &place, 1) + mst_migrate_within(&one, 1, 1);
     uint64_t number = length;
-    told += mst_blocks_snapshot(&three) + mst_blocks_group_open(&three, &four);
-    told += mst_blocks_group_apply(four, room, length, &place, &end, &number);
-    told += mst_blocks_group_close(four, &three);
+    told += mst_sharded_snapshot(&three) + mst_sharded_group_open(&three, &four);
+    told += mst_sharded_copy(&three, &three, &place, &number);
+    told += mst_sharded_group_apply(four, room, length, &place, &end, &number);
+    told += mst_sharded_group_close(four, &three);
     told += mst_verify(1, room, 32, room, length, room, length, room, length);
     return told + MST_SHARDED_TEST(told) + MST_PART_TEST(told) + MST_VERSION_NUMBER;
 }

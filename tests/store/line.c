@@ -51,11 +51,6 @@ static int32_t try_once(void) {
     return busy_until == BUSY_FOR_EVER || clock_now < busy_until ? MST_BUSY : told_then;
 }
 
-static int32_t try_shards(size_t *shard) {
-    (void)shard;
-    return try_once();
-}
-
 /* ---- the calls by a pass, each for no longer than a time, or without end */
 
 static int32_t puts_one(mst_pass *pass, uint64_t longest) {
@@ -321,6 +316,20 @@ static void closes(void) {
     line_close(&passes[3]);
 }
 
+/* A snapshot waits as long as a block is being published, in no line, and for nothing else. */
+static void snapshots(void) {
+    static const int32_t others[] = {MST_OK, MST_CLOSED, MST_WRONG_STATE};
+    mst_handle reader = MST_HANDLE_CLOSED;
+    for (size_t at = 0; at < sizeof others / sizeof *others; at++) {
+        begin(0, others[at]);
+        EXPECT(mst_sharded_snapshot(&reader) == others[at]);
+        EXPECT(tries == 1 && sleeps == 0 && yields == 0 && looked == 0);
+        begin(LONG, others[at]);
+        EXPECT(mst_sharded_snapshot(&reader) == others[at] && tries > 2 && sleeps > 0);
+    }
+    EXPECT(standing() == 0);
+}
+
 int main(void) {
     static call_by *const calls[] = {puts_one, removes, applies, migrates};
     clock_now = SECOND;
@@ -336,6 +345,7 @@ int main(void) {
         clears_its_own_place(calls[i]);
         stands_there_again(calls[i]);
     }
+    snapshots();
     closes();
     return ended("line");
 }

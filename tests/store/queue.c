@@ -15,8 +15,8 @@
 
 enum { LONG_BYTES = 5 << 18 };
 
-static mst_blocks_handle hand = MST_BLOCKS_HANDLE_CLOSED;
-static mst_blocks_group *group;
+static mst_handle hand = MST_HANDLE_CLOSED;
+static mst_sharded_group *group;
 
 /* ---- requests, each by a thread ---- */
 
@@ -35,8 +35,8 @@ static uint8_t long_edits[THREADS][LONG_BYTES];
 
 static void *asks_once(void *given) {
     struct asks *own = given;
-    own->told = mst_blocks_group_apply(group, own->bytes, own->length, &own->place, &own->shard,
-                                       &own->number);
+    own->told = mst_sharded_group_apply(group, own->bytes, own->length, &own->place, &own->shard,
+                                        &own->number);
     atomic_store(&own->is_told, 1);
     pthread_testcancel();
     return NULL;
@@ -146,16 +146,16 @@ static void judging(void) {
 }
 
 static void openings(void) {
-    mst_blocks_group *none = NULL;
-    EXPECT(mst_blocks_group_open(&hand, &none) == MST_CLOSED && none == NULL);
+    mst_sharded_group *none = NULL;
+    EXPECT(mst_sharded_group_open(&hand, &none) == MST_CLOSED && none == NULL);
     hand.at = &tag;
     is_reader = 1;
-    EXPECT(mst_blocks_group_open(&hand, &none) == MST_WRONG_STATE && none == NULL);
+    EXPECT(mst_sharded_group_open(&hand, &none) == MST_WRONG_STATE && none == NULL);
     is_reader = 0;
     is_empty_handed = 1;
-    EXPECT(mst_blocks_group_open(&hand, &none) == MST_MEMORY && none == NULL && hand.at == &tag);
+    EXPECT(mst_sharded_group_open(&hand, &none) == MST_MEMORY && none == NULL && hand.at == &tag);
     is_empty_handed = 0;
-    EXPECT(mst_blocks_group_open(&hand, &group) == MST_OK && hand.at == NULL);
+    EXPECT(mst_sharded_group_open(&hand, &group) == MST_OK && hand.at == NULL);
 }
 
 /* What waits is made as one block, by the thread that came first. */
@@ -360,8 +360,8 @@ static void *writes(void *given) {
         own->number = 0;
         value = (uint8_t)at;
         size_t length = mst_edit_put(own->edits, 0, is_bad ? &bad : &key, 1, &value, 1);
-        int32_t told = mst_blocks_group_apply(group, own->edits, length, &own->place, &own->shard,
-                                              &own->number);
+        int32_t told = mst_sharded_group_apply(group, own->edits, length, &own->place, &own->shard,
+                                               &own->number);
         if (told != (is_bad ? MST_NO_FREE_ROWS : MST_OK) || (!is_bad && own->number <= before))
             return own;
         before = is_bad ? before : own->number;
@@ -411,6 +411,6 @@ int main(int count, char **words) {
     if (count == 1)
         signalled();
     many();
-    EXPECT(mst_blocks_group_close(group, &hand) == MST_OK && hand.at == &tag);
+    EXPECT(mst_sharded_group_close(group, &hand) == MST_OK && hand.at == &tag);
     return ended("queue");
 }

@@ -121,8 +121,8 @@ static void note(const uint8_t *edits, size_t length, int32_t told) {
     called++;
 }
 
-int32_t mst_blocks_apply(mst_blocks_handle *writer, const uint8_t *edits, size_t length,
-                         size_t *place, size_t *shard, uint64_t *number) {
+int32_t mst_sharded_apply(mst_handle *writer, const uint8_t *edits, size_t length,
+                          size_t *place, size_t *shard, uint64_t *number) {
     if (atomic_exchange(&within, 1) != 0 || writer->at != &tag)
         atomic_store(&entered_by_two, 1);
     pass_gate(&writing);
@@ -136,7 +136,7 @@ int32_t mst_blocks_apply(mst_blocks_handle *writer, const uint8_t *edits, size_t
     return told;
 }
 
-int32_t mst_blocks_number(mst_blocks_handle *of, uint64_t *told) {
+int32_t mst_sharded_number(mst_handle *of, uint64_t *told) {
     (void)told;
     if (of->at == NULL)
         return MST_CLOSED;
@@ -144,12 +144,12 @@ int32_t mst_blocks_number(mst_blocks_handle *of, uint64_t *told) {
 }
 
 /* There is no snapshot. */
-int32_t mst_blocks_format(mst_blocks_handle *of) {
+int32_t mst_sharded_format(mst_handle *of) {
     (void)of;
     return MST_WRONG_STATE;
 }
 
-int32_t mst_blocks_close(mst_blocks_handle *of) {
+int32_t mst_sharded_close(mst_handle *of) {
     int32_t told = of->at == NULL ? MST_CLOSED : MST_OK;
     of->at = NULL;
     return told;

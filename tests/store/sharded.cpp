@@ -1,9 +1,12 @@
-// Sharded maps from C++: their answers against those of std::map, their proofs against the verifier.
+// Sharded maps from C++: what a snapshot has is what one block left of a std::map, and the verifier
+// accepts its proofs; blocks that are refused, copies, ends, and threads.
 #include "mst_sharded.hpp"
 #include "mst_verifier.h"
 #include "tests.h"
 
+#include <atomic>
 #include <map>
+#include <mutex>
 #include <random>
 #include <thread>
 
@@ -33,140 +36,253 @@ template <typename Call> bool is_refused(int code, Call call) {
     return false;
 }
 
-void audit(mst::handle &handle, const known &map, mst::format format) {
-    auto then = handle.snapshot();
-    auto root = then.root();
+// What the writer tells of a block, and the map that it left.
+struct block {
+    std::uint64_t number = 0;
+    mst::digest root = {};
+    known map = {};
+};
+
+// Makes a block of up to 23 edits at random.
+block made(mst::sharded::writer &writer, const block &before, std::mt19937 &chance) {
+    block next{0, {}, before.map};
+    mst::batch edits;
+    for (auto more = chance() % 24; more > 0; more--) {
+        auto key = one_byte(chance() % 256);
+        if (chance() % 3 == 0) {
+            edits.remove(key);
+            next.map.erase(key);
+        } else {
+            next.map[key] = std::to_string(chance());
+            edits.put(key, next.map[key]);
+        }
+    }
+    next.number = writer.apply(edits);
+    next.root = writer.root();
+    EXPECT(next.number == before.number + 1 && next.number == writer.number());
+    auto key = one_byte(chance() % 256);
+    EXPECT(writer.get(key) == found(next.map, key));
+    return next;
+}
+
+// Whether a snapshot is of this block.
+bool shows(mst::sharded::snapshot &then, const block &of) {
+    bool is = then.number() == of.number && then.root() == of.root;
+    for (unsigned number = 0; number < 256; number += 5) {
+        auto key = one_byte(number);
+        auto above = of.map.upper_bound(key);
+        auto next = then.next(key);
+        is = is && then.get(key) == found(of.map, key)
+            && (above == of.map.end() ? !next : next == mst::pair(above->first, above->second));
+    }
+    return is && then.range() == std::vector<mst::pair>(of.map.begin(), of.map.end());
+}
+
+// Whether the verifier accepts the proofs of a snapshot.
+bool proves(mst::sharded::snapshot &then, const block &of) {
+    bool is = then.directory().size() == 16 && then.range("0", "p", 3).size() <= 3;
     for (unsigned number = 0; number < 256; number += 5) {
         auto key = one_byte(number);
         auto proof = then.prove(key);
+        auto wanted = found(of.map, key);
         std::uint8_t room[MST_VALUE_LONGEST];
-        int told = mst_verify_sharded(static_cast<std::uint32_t>(format), root.data(), root.size(),
-                                      mst::detail::bytes(key), key.size(), proof.data(),
-                                      proof.size(), room, sizeof room);
-        auto wanted = found(map, key);
-        EXPECT(then.get(key) == wanted);
-        EXPECT(told == (wanted ? static_cast<int>(wanted->size()) : MST_ABSENT));
-        auto above = map.upper_bound(key);
-        auto next = then.next(key);
-        EXPECT(above == map.end() ? !next : next == mst::pair(above->first, above->second));
+        int told = mst_verify_sharded(static_cast<std::uint32_t>(then.format()), of.root.data(),
+                                      of.root.size(), mst::detail::bytes(key), key.size(),
+                                      proof.data(), proof.size(), room, sizeof room);
+        is = is && told == (wanted ? static_cast<int>(wanted->size()) : MST_ABSENT);
     }
-    EXPECT(then.range() == std::vector<mst::pair>(map.begin(), map.end()));
-    EXPECT(then.range("0", "p", 3).size() <= 3 && then.directory().size() == 16);
-    EXPECT(then.format() == format && then.version_at(15) && !then.version_at(16));
+    return is;
 }
 
-void against_a_map(mst::format format) {
-    auto handles = mst::open_sharded(256, 2, sixteen(), format);
+void snapshots_keep_their_blocks(mst::format format) {
+    auto [writer, readers] = mst::sharded::open(256, 2, sixteen(), format);
     std::mt19937 chance(7);
-    known map;
-    EXPECT(handles[0].shards() == 16);
-    for (int step = 0; step < 2000; step++) {
-        auto key = one_byte(chance() % 256);
-        auto before = found(map, key);
-        if (chance() % 3 == 0) {
-            EXPECT(handles[1].remove(key) == before);
-            map.erase(key);
-        } else {
-            map[key] = std::to_string(step);
-            EXPECT(handles[1].put(key, map[key]) == before);
+    block last{0, writer.root(), {}};
+    EXPECT(writer.number() == 0 && writer.shards() == 16 && readers[1].shards() == 16);
+    for (int round = 0; round < 40; round++) {
+        auto kept = last;
+        auto then = readers[0].snapshot();
+        for (int more = 0; more < 4; more++) {
+            last = made(writer, last, chance);
+            auto now = readers[1].try_snapshot();
+            EXPECT(now && shows(*now, last));
         }
-        EXPECT(handles[0].get(key) == found(map, key));
-        if (step % 200 == 0) audit(handles[0], map, format);
+        EXPECT(shows(then, kept) && proves(then, kept) && then.format() == format);
+        then.release();
+        EXPECT(readers[0].get("a") == found(last.map, "a"));
     }
 }
 
-void migrations() {
-    auto handles = mst::open_sharded(64, 2, {"m"});
-    EXPECT(!handles[0].put("a", "1"));
-    auto then = handles[1].snapshot();
-    handles[0].migrate(mst::format::two);
-    EXPECT(then.format() == mst::format::one);
-    then.release();
-    EXPECT(handles[1].snapshot().format() == mst::format::two);
+// The number of the shard that refuses a block for want of rows.
+std::size_t stopped_at(mst::sharded::writer &writer, const mst::batch &edits) {
+    try {
+        (void)writer.apply(edits);
+    } catch (const mst::refused_shard &refusal) {
+        EXPECT(refusal.code() == MST_NO_FREE_ROWS);
+        return refusal.shard();
+    }
+    return 77;
 }
 
-void refusals() {
+void refused_blocks() {
+    auto [writer, readers] = mst::sharded::open(12, 2, {"b", "c", "d"}, mst::format::two);
+    EXPECT(writer.apply(mst::batch().put("a", "old").put("c", "old")) == 1);
+    block first{1, writer.root(), {{"a", "old"}, {"c", "old"}}};
+    auto then = readers[1].snapshot();
+    mst::batch edits;
+    edits.put("d", "1");
+    for (char end = 'a'; end < 'm'; end++) edits.put(std::string("c") + end, "1");
+    edits.put("a", "1");
+    for (int again = 0; again < 3; again++) {
+        EXPECT(stopped_at(writer, edits) == 2);
+        auto now = readers[0].snapshot();
+        EXPECT(shows(now, first) && writer.number() == 1 && writer.root() == first.root);
+    }
+    EXPECT(writer.apply(mst::batch().put("a", "new").put("d", "new").remove("c")) == 2);
+    EXPECT(shows(then, first));
+    then.release();
+    auto now = readers[1].snapshot();
+    EXPECT(shows(now, block{2, writer.root(), {{"a", "new"}, {"d", "new"}}}));
+}
+
+void refused_edits() {
+    auto [writer, readers] = mst::sharded::open(16, 1, {"m"});
+    std::size_t place = 77;
+    try {
+        (void)writer.apply(mst::batch().put("a", "1").put("", "1"));
+    } catch (const mst::refused_edit &refusal) {
+        EXPECT(refusal.code() == MST_BAD_KEY);
+        place = refusal.place();
+    }
+    EXPECT(place == 1 && writer.number() == 0 && !readers[0].get("a"));
+    auto empty = writer.root();
+    EXPECT(writer.apply(mst::batch()) == 1 && writer.root() == empty);
+}
+
+// A map of one format is copied to one of the other, with other splits, and to one that is full.
+void copies(mst::format format) {
+    auto other = format == mst::format::one ? mst::format::two : mst::format::one;
+    auto [writer, readers] = mst::sharded::open(256, 1, sixteen(), format);
+    std::mt19937 chance(9);
+    block last{0, writer.root(), {}};
+    for (int more = 0; more < 30; more++) last = made(writer, last, chance);
+    auto then = readers[0].snapshot();
+    auto [its_writer, its_readers] = mst::sharded::open(999, 1, {"a", "b"}, other);
+    auto direct = mst::sharded::open(500, 0, {"a", "b"}, other).writer;
+    EXPECT(then.copy_to(its_writer) == 1);
+    mst::batch edits;
+    for (const auto &[key, value] : last.map) edits.put(key, value);
+    EXPECT(direct.apply(edits) == 1);
+    auto now = its_readers[0].snapshot();
+    EXPECT(shows(now, block{1, direct.root(), last.map}) && now.format() == other);
+    auto full = mst::sharded::open(8, 1, {"a"}, other);
+    EXPECT(is_refused(MST_NO_FREE_ROWS, [&] { (void)then.copy_to(full.writer); }));
+    EXPECT(full.writer.number() == 0 && full.readers[0].snapshot().range().empty());
+    full.writer.close();
+    EXPECT(is_refused(MST_CLOSED, [&] { (void)then.copy_to(full.writer); }));
+    then.release();
+    EXPECT(is_refused(MST_CLOSED, [&] { (void)then.copy_to(direct); }));
+}
+
+void openings() {
     auto with = [](std::vector<std::string> splits) {
-        return [splits] { (void)mst::open_sharded(16, 1, splits); };
+        return [splits] { (void)mst::sharded::open(16, 1, splits); };
     };
     EXPECT(is_refused(MST_BAD_SPLITS, with({""})));
     EXPECT(is_refused(MST_BAD_SPLITS, with({"b", "b"})));
     EXPECT(is_refused(MST_BAD_SPLITS, with({"c", "b"})));
     EXPECT(is_refused(MST_BAD_SPLITS, with({std::string(33, 'a')})));
-    EXPECT(is_refused(MST_BAD_SHAPE, [] { (void)mst::open_sharded(3, 1, {}); }));
-    EXPECT(is_refused(MST_BAD_SHAPE, [] { (void)mst::open_sharded(16, 33, {}); }));
-    auto handle = std::move(mst::open_sharded(16, 1, {"m"})[0]);
-    EXPECT(is_refused(MST_BAD_KEY, [&] { (void)handle.get(""); }));
-    {
-        auto then = handle.snapshot();
-        EXPECT(is_refused(MST_WRONG_STATE, [&] { (void)handle.put("a", "1"); }));
-        EXPECT(is_refused(MST_WRONG_STATE, [&] { (void)handle.snapshot(); }));
-        then.release();
-        EXPECT(is_refused(MST_CLOSED, [&] { (void)then.root(); }));
-    }
-    EXPECT(!handle.put("a", "1"));
-    auto moved = std::move(handle);
-    EXPECT(moved.get("a") == "1");
-    moved.close();
-    EXPECT(is_refused(MST_CLOSED, [&] { (void)moved.get("a"); }));
+    EXPECT(is_refused(MST_BAD_SHAPE, [] { (void)mst::sharded::open(3, 1, {}); }));
+    EXPECT(is_refused(MST_BAD_SHAPE, [] { (void)mst::sharded::open(16, 32, {}); }));
+    EXPECT(mst::sharded::open(16, 31, {}).readers.size() == 31);
+    EXPECT(mst::sharded::open(16, 0, {"m"}).writer.apply(mst::batch().put("a", "1")) == 1);
+    EXPECT(mst::overtaken(3).code() == MST_OVERTAKEN && mst::overtaken(3).shard() == 3);
 }
 
-void batches() {
-    auto handles = mst::open_sharded(8, 2, {"b", "c", "d"}, mst::format::two);
-    auto edits = mst::batch().put("d", "1").put("a", "1").put("b", "1").put("a", "2").remove("b");
-    EXPECT(!handles[0].try_apply(edits).is_busy);
-    EXPECT(handles[1].get("a") == "2" && !handles[1].get("b") && handles[1].get("d") == "1");
-    handles[1].apply(edits, 3);
-    handles[1].apply(mst::batch());
-    {
-        auto then = handles[0].snapshot();
-        EXPECT(then.version_at(0) == 1u && then.version_at(2) == 0u && then.version_at(3) == 2u);
-        EXPECT(is_refused(MST_WRONG_STATE, [&] { handles[0].apply(edits); }));
+void ends() {
+    auto opened = mst::sharded::open(16, 2, {"m"});
+    auto writer = std::move(opened.writer);
+    auto reader = std::move(opened.readers[0]), other = std::move(opened.readers[1]);
+    EXPECT(is_refused(MST_CLOSED, [&] { (void)opened.writer.number(); }));
+    EXPECT(writer.apply(mst::batch().put("a", "1")) == 1);
+    block first{1, writer.root(), {{"a", "1"}}};
+    writer.close();
+    EXPECT(is_refused(MST_CLOSED, [&] { (void)writer.apply(mst::batch()); }));
+    auto then = reader.snapshot();
+    EXPECT(is_refused(MST_WRONG_STATE, [&] { (void)reader.snapshot(); }));
+    EXPECT(is_refused(MST_WRONG_STATE, [&] { (void)reader.try_snapshot(); }));
+    EXPECT(is_refused(MST_BAD_KEY, [&] { (void)then.prove(""); }));
+    auto moved = std::move(then);
+    EXPECT(shows(moved, first));
+    EXPECT(is_refused(MST_CLOSED, [&] { (void)then.root(); }));
+    moved.release();
+    EXPECT(is_refused(MST_CLOSED, [&] { (void)moved.get("a"); }));
+    EXPECT(reader.get("a") == "1" && is_refused(MST_BAD_KEY, [&] { (void)reader.get(""); }));
+    auto last = reader.snapshot();
+    reader.close();
+    EXPECT(is_refused(MST_CLOSED, [&] { (void)last.number(); }));
+    EXPECT(is_refused(MST_CLOSED, [&] { (void)reader.get("a"); }));
+    auto now = other.snapshot();
+    EXPECT(shows(now, first));
+}
+
+// What the writer has told of its blocks, for the threads that read.
+struct told {
+    std::mutex lock;
+    std::vector<mst::digest> roots;
+};
+
+constexpr std::uint64_t BLOCKS = 2000;
+
+// Takes snapshots until the last block, and returns whether each was of one block, by its number.
+bool reads(mst::sharded::reader &reader, told &of) {
+    for (std::uint64_t before = 0; before < BLOCKS;) {
+        auto then = reader.snapshot();
+        auto number = then.number();
+        for (unsigned shard = 0; shard < 16; shard++) {
+            auto value = then.get(one_byte(16 * shard + 1));
+            if (number > 0 ? value != std::to_string(number) : value.has_value()) return false;
+        }
+        // the writer tells of a block after it has made it
+        std::lock_guard<std::mutex> taken(of.lock);
+        if (number < before) return false;
+        if (number < of.roots.size() && then.root() != of.roots[number]) return false;
+        before = number;
     }
-    EXPECT(is_refused(MST_ABSENT, [&] { handles[0].apply(edits, 4); }));
-    for (char last = 'a'; last < 'j'; last++) edits.put(std::string("c") + last, "1");
-    edits.put("a", "3").put("d", "3");
-    std::size_t stopped = 77;
-    try {
-        handles[0].apply(edits);
-    } catch (const mst::refused_shard &refusal) {
-        EXPECT(refusal.code() == MST_NO_FREE_ROWS);
-        stopped = refusal.shard();
-    }
-    EXPECT(stopped == 2 && handles[0].get("a") == "3" && handles[0].get("d") == "1");
-    EXPECT(!handles[0].try_apply(edits, 3).is_busy && handles[0].get("d") == "3");
-    edits.clear();
-    edits.put("a", "4").put("", "1");
-    std::size_t place = 77;
-    try {
-        (void)handles[0].try_apply(edits);
-    } catch (const mst::refused_edit &refusal) {
-        place = refusal.place();
-    }
-    EXPECT(place == 1 && handles[0].get("a") == "3");
+    return true;
 }
 
 void threads() {
-    auto handles = mst::open_sharded(1000, 4, sixteen());
+    auto opened = mst::sharded::open(64, 3, sixteen());
+    told of;
+    of.roots.push_back(opened.writer.root());
+    std::atomic<int> wrong_ones{0};
     std::vector<std::thread> all;
-    for (unsigned at = 0; at < 4; at++)
-        all.emplace_back([&handles, at] {
-            for (unsigned number = at; number < 256; number += 4)
-                handles[at].put(one_byte(number), one_byte(at));
-        });
+    for (auto &reader : opened.readers)
+        all.emplace_back([&] { wrong_ones += !reads(reader, of); });
+    for (std::uint64_t number = 1; number <= BLOCKS; number++) {
+        mst::batch edits;
+        for (unsigned shard = 0; shard < 16; shard++)
+            edits.put(one_byte(16 * shard + 1), std::to_string(number));
+        EXPECT(opened.writer.apply(edits) == number);
+        std::lock_guard<std::mutex> taken(of.lock);
+        of.roots.push_back(opened.writer.root());
+    }
     for (auto &thread : all) thread.join();
-    for (unsigned number = 0; number < 256; number++)
-        EXPECT(handles[0].get(one_byte(number)) == one_byte(number % 4));
+    EXPECT(wrong_ones == 0);
 }
 
 } // namespace
 
 int main() {
-    against_a_map(mst::format::one);
-    against_a_map(mst::format::two);
-    migrations();
-    refusals();
-    batches();
+    snapshots_keep_their_blocks(mst::format::one);
+    snapshots_keep_their_blocks(mst::format::two);
+    refused_blocks();
+    refused_edits();
+    copies(mst::format::one);
+    copies(mst::format::two);
+    openings();
+    ends();
     threads();
-    return ended("sharded in C++");
+    return ended("sharded maps in C++");
 }

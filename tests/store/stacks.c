@@ -65,37 +65,37 @@ static void *applies(void *unused) {
     return unused;
 }
 
-/* ---- a map with blocks ---- */
+/* ---- a sharded map ---- */
 
-static mst_blocks_handle hands[2] = {MST_BLOCKS_HANDLE_CLOSED, MST_BLOCKS_HANDLE_CLOSED};
+static mst_handle hands[2] = {MST_HANDLE_CLOSED, MST_HANDLE_CLOSED};
 
 static void *applies_block(void *unused) {
     size_t shard;
     uint64_t number;
-    told = mst_blocks_apply(&hands[0], edits, edits_length, &place, &shard, &number);
+    told = mst_sharded_apply(&hands[0], edits, edits_length, &place, &shard, &number);
     return unused;
 }
 
 static void *takes_and_releases(void *unused) {
-    told = mst_blocks_try_snapshot(&hands[1]);
+    told = mst_sharded_try_snapshot(&hands[1]);
     if (told == MST_OK)
-        told = mst_blocks_release(&hands[1]);
+        told = mst_sharded_release(&hands[1]);
     return unused;
 }
 
 static void *gets_of_block(void *key) {
-    told = mst_blocks_get(&hands[1], key, 8, room, sizeof room);
+    told = mst_sharded_get(&hands[1], key, 8, room, sizeof room);
     return NULL;
 }
 
 static void *ranges_of_block(void *unused) {
-    told = mst_blocks_range(&hands[1], NULL, 0, NULL, 0, KEYS, pairs, sizeof pairs, &count,
-                            &length);
+    told = mst_sharded_range(&hands[1], NULL, 0, NULL, 0, KEYS, pairs, sizeof pairs, &count,
+                             &length);
     return unused;
 }
 
 static void *proves_of_block(void *key) {
-    told = mst_blocks_prove(&hands[1], key, 8, room, sizeof room, &length);
+    told = mst_sharded_prove(&hands[1], key, 8, room, sizeof room, &length);
     return NULL;
 }
 
@@ -106,7 +106,16 @@ static void *opens(void *unused) {
         uint8_t key = (uint8_t)(32 * at);
         end = mst_split(splits, end, &key, 1);
     }
-    told = mst_blocks_open(1, KEYS / 2, splits, end, hands, 2);
+    told = mst_sharded_open(1, KEYS / 2, splits, end, hands, 2);
+    return unused;
+}
+
+static mst_handle other = MST_HANDLE_CLOSED; /* the writer of a map of one shard */
+
+static void *copies(void *unused) {
+    size_t shard;
+    uint64_t number;
+    told = mst_sharded_copy(&hands[1], &other, &shard, &number);
     return unused;
 }
 
@@ -138,7 +147,7 @@ static void tells(const char *name, void *(*run)(void *)) {
 }
 
 static void blocks(void) {
-    tells("mst_blocks_open", opens);
+    tells("mst_sharded_open", opens);
     for (uint64_t number = 0; number < KEYS; number += BATCH) {
         fill_batch(number, BATCH);
         applies_block(NULL);
@@ -146,11 +155,15 @@ static void blocks(void) {
     }
     tells("a block of 1,000", applies_block);
     tells("a snapshot and its end", takes_and_releases);
-    EXPECT(mst_blocks_snapshot(&hands[1]) == MST_OK);
+    EXPECT(mst_sharded_snapshot(&hands[1]) == MST_OK);
     tells("get of a block", gets_of_block);
     tells("range of a block", ranges_of_block);
     tells("prove of a block", proves_of_block);
-    EXPECT(mst_blocks_close(&hands[0]) == MST_OK && mst_blocks_close(&hands[1]) == MST_OK);
+    EXPECT(mst_sharded_open(2, MST_ROWS_MOST, NULL, 0, &other, 1) == MST_OK);
+    size_t copy = stack_of(copies) - stack_of(no_call);
+    EXPECT(told == MST_OK && copy < LIMIT && mst_sharded_close(&other) == MST_OK);
+    printf("copy of a block: %zu bytes\n", copy);
+    EXPECT(mst_sharded_close(&hands[0]) == MST_OK && mst_sharded_close(&hands[1]) == MST_OK);
 }
 
 int main(void) {

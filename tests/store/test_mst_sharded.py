@@ -1,5 +1,5 @@
-"""Sharded maps from Python: their answers against those of a dict, their proofs against the
-verifier."""
+"""Sharded maps from Python: all of a block or nothing, snapshots that keep theirs, copies, and what
+is refused by which exception."""
 import copy
 import os
 import pickle
@@ -9,174 +9,238 @@ import threading
 import unittest
 
 import mst_store
-from mst_store import Format, Handle, Refused, RefusedEdit, RefusedShard, open_sharded
+from mst_store import (
+    Format, Moving, Overtaken, Refused, RefusedEdit, RefusedShard, ShardedReader, ShardedWriter,
+    open_sharded,
+)
 
 HERE = os.path.dirname(os.path.abspath(__file__))
 sys.path.append(os.path.join(HERE, "..", "..", "verifiers", "python"))
 import mst_verifier  # noqa: E402
 
 SPLITS = [bytes([number]) for number in range(16, 256, 16)]
+KEYS = [bytes([number]) for number in range(0, 256, 5)]
+# A key of each shard, and how many blocks a thread makes of them.
+ONES, BLOCKS = [bytes([number]) for number in range(1, 256, 16)], 400
 
 
-class Sharded(unittest.TestCase):
+def edits_at_random(chance):
+    """Up to 23 edits: keys of one byte, of which one in three is taken out."""
+    keys = (bytes([chance.randrange(256)]) for _ in range(chance.randrange(24)))
+    return [(key, chance.choice([None, b"", chance.randbytes(64)])) for key in keys]
+
+
+def after(known, edits):
+    both = {**known, **dict(edits)}
+    return {key: value for key, value in both.items() if value is not None}
+
+
+class Blocks(unittest.TestCase):
     def refused(self, code, call, *given):
         with self.assertRaises(Refused) as caught:
             call(*given)
         self.assertEqual(caught.exception.code, code)
+        return caught.exception
 
-    def test_answers_and_proofs_are_those_of_a_dict(self):
+    def shows(self, then, told, known):
+        """Whether a snapshot has this number, root digest and map."""
+        self.assertEqual((then.number(), then.root()), told)
+        self.assertEqual(then.range(), sorted(known.items()))
+        some = sorted(pair for pair in known.items() if b"0" <= pair[0] < b"p")
+        self.assertEqual(then.range(b"0", b"p", 20), some[:20])
+        for key in KEYS:
+            self.assertEqual(then.get(key), known.get(key))
+            above = min((other for other in known if other > key), default=None)
+            self.assertEqual(then.next(key), above and (above, known[above]))
+
+    def proves(self, then, format, known):
+        self.assertEqual((then.format(), len(then.directory())), (format, 16))
+        for key in KEYS:
+            told = mst_verifier.verify_sharded(int(format), then.root(), key, then.prove(key))
+            self.assertEqual(told, known.get(key))
+
+    def test_a_snapshot_is_of_one_block_and_keeps_it(self):
         for format in Format:
             chance, known = random.Random(7), {}
-            reader, writer = open_sharded(256, 2, SPLITS, format)
-            self.assertEqual((reader.shards(), writer.shards()), (16, 16))
-            for step in range(1500):
-                key = bytes([chance.randrange(256)])
-                if chance.randrange(3) == 0:
-                    self.assertEqual(writer.remove(key), known.pop(key, None))
-                else:
-                    value = chance.randbytes(chance.randrange(65))
-                    self.assertEqual(writer.put(key, value), known.get(key))
-                    known[key] = value
-                self.assertEqual(reader.get(key), known.get(key))
-                if step % 100 == 0:
-                    self.audit(format, reader, writer, dict(known))
+            writer, keeper, other = open_sharded(256, 2, SPLITS, format)
+            self.assertEqual((writer.shards(), keeper.shards(), writer.number()), (16, 16, 0))
+            for number in range(0, 60, 3):
+                kept, told = known, (number, writer.root())
+                with keeper.snapshot() as then:
+                    for made in range(number + 1, number + 4):
+                        edits = edits_at_random(chance)
+                        self.assertEqual(writer.apply(edits), made)
+                        known = after(known, edits)
+                        with other.try_snapshot() as now:
+                            self.shows(now, (made, writer.root()), known)
+                    self.shows(then, told, kept)
+                    self.proves(then, format, kept)
+                self.assertEqual(keeper.get(KEYS[3]), known.get(KEYS[3]))
 
-    def audit(self, format, reader, writer, known):
+    def test_a_refused_block_changes_no_shard(self):
+        writer, reader, other = open_sharded(12, 2, [b"b", b"c", b"d"], Format.TWO)
+        old = {b"a": b"old", b"c": b"old"}
+        self.assertEqual(writer.apply(old.items()), 1)
+        told = (1, writer.root())
+        edits = [(b"d", b"1"), *((bytes((ord("c"), last)), b"1") for last in range(12))]
+        edits += [(b"a", b"1")]
+        with other.snapshot() as then:
+            for _ in range(3):
+                # the third shard has no rows for its edits
+                refused = self.refused(mst_store.NO_FREE_ROWS, writer.apply, edits)
+                self.assertIs(type(refused), RefusedShard)
+                self.assertEqual(refused.shard, 2)
+                with reader.snapshot() as now:
+                    self.shows(now, told, old)
+                self.assertEqual((writer.number(), writer.root()), told)
+                self.assertEqual({key: writer.get(key) for key in old}, old)
+            self.assertEqual(writer.apply([(b"a", b"new"), (b"d", b"new"), (b"c", None)]), 2)
+            self.shows(then, told, old)
+        with other.snapshot() as then:
+            self.shows(then, (2, writer.root()), {b"a": b"new", b"d": b"new"})
+
+    def test_copies(self):
+        chance = random.Random(8)
+        for format, other in zip(Format, reversed(Format)):
+            known, (writer, reader) = {}, open_sharded(256, 1, SPLITS, format)
+            for _ in range(30):
+                edits = edits_at_random(chance)
+                writer.apply(edits)
+                known = after(known, edits)
+            direct, copied, looker = *open_sharded(500, 0, [b"a"], other), *open_sharded(
+                999, 1, [b"a"], other)
+            direct.apply(known.items())
+            with reader.snapshot() as then:
+                writer.apply([(b"later", b"1")])
+                self.assertEqual(then.copy_to(copied), 1)
+                self.refused(mst_store.BAD_KEY, then.get, b"")
+            with looker.snapshot() as now:
+                self.shows(now, (1, direct.root()), known)
+                self.assertEqual(now.format(), other)
+            self.assertEqual((reader.get(b"later"), copied.get(b"later")), (b"1", None))
+
+    def test_copies_that_are_refused(self):
+        writer, reader = open_sharded(64, 1, SPLITS)
+        writer.apply([(bytes([number]), b"1") for number in range(48)])
+        (full,) = open_sharded(12, 0, [b"\20"])
+        (other,) = open_sharded(64, 0, [])
         with reader.snapshot() as then:
-            writer.put(b"z", b"of a later version")
-            root = then.root()
-            for number in range(0, 256, 5):
-                key = bytes([number])
-                self.assertEqual(then.get(key), known.get(key))
-                told = mst_verifier.verify_sharded(int(format), root, key, then.prove(key))
-                self.assertEqual(told, known.get(key))
-                above = min((other for other in known if other > key), default=None)
-                self.assertEqual(then.next(key), above and (above, known[above]))
-            self.assertEqual((then.format(), len(then.directory())), (format, 16))
-            self.assertEqual(then.range(), sorted(known.items()))
-            some = sorted(pair for pair in known.items() if b"0" <= pair[0] < b"p")
-            self.assertEqual(then.range(b"0", b"p", 20), some[:20])
-        if b"z" in known:
-            writer.put(b"z", known[b"z"])
-        else:
-            writer.remove(b"z")
+            refused = self.refused(mst_store.NO_FREE_ROWS, then.copy_to, full)
+            self.assertIs(type(refused), RefusedShard)
+            self.assertEqual((refused.shard, full.number(), full.get(b"\1")), (0, 0, None))
+            for one in (reader, then, None):
+                self.assertRaises(TypeError, then.copy_to, one)
+            full.close()
+            self.refused(mst_store.CLOSED, then.copy_to, full)
+        self.refused(mst_store.CLOSED, then.copy_to, other)
+        self.assertEqual(other.number(), 0)
 
-    def test_the_root_depends_on_the_content(self):
-        one, other = open_sharded(64, 1, [b"m"])[0], open_sharded(999, 1, [b"m"])[0]
-        one.put(b"a", b"1")
-        one.put(b"x", b"2")
-        one.remove(b"a")
-        other.put(b"x", b"2")
-        with one.snapshot(), other.snapshot():
-            self.assertEqual(one.root(), other.root())
+    def test_edits_that_are_refused(self):
+        writer, reader = open_sharded(16, 1, SPLITS)
+        good = (b"a", b"1")
+        for code, bad in ((mst_store.BAD_VALUE, (b"b", bytes(65))),
+                          (mst_store.BAD_KEY, (b"", None)), (mst_store.BAD_KEY, (bytes(33), b""))):
+            refused = self.refused(code, writer.apply, iter([good, bad, good]))
+            self.assertIsInstance(refused, RefusedEdit)
+            self.assertEqual(refused.place, 1)
+        self.assertRaises(TypeError, writer.apply, [("a", b"1")])
+        self.assertRaises(TypeError, writer.apply, None)
+        self.assertEqual((writer.number(), reader.get(b"a")), (0, None))
+        self.assertEqual(writer.apply([]), 1)
+        self.assertEqual(writer.apply([good, (b"a", b"2")]), 2)
+        self.assertEqual((reader.get(b"a"), writer.get(b"a")), (b"2", b"2"))
+        self.refused(mst_store.BAD_KEY, writer.get, b"")
 
-    def test_migrations_and_versions(self):
-        reader, writer = open_sharded(64, 2, [b"m"])
-        writer.put(b"a", b"1")
-        with reader.snapshot() as then:
-            writer.migrate(Format.TWO)
-            self.assertEqual(then.format(), Format.ONE)
-            self.assertEqual([then.version_at(shard) for shard in range(3)], [1, 0, None])
-        with reader.snapshot() as then:
-            self.assertEqual(then.format(), Format.TWO)
-            self.assertEqual([then.version_at(shard) for shard in range(2)], [2, 1])
-        self.refused(mst_store.UNKNOWN_FORMAT, writer.migrate, 3)
-
-    def versions(self, handle):
-        with handle.snapshot() as then:
-            return [then.version_at(shard) for shard in range(then.shards())]
-
-    def test_batches_are_one_version_of_each_shard(self):
-        reader, writer = open_sharded(8, 2, [b"b", b"c", b"d"])
-        edits = [(b"d", b"1"), (b"a", b"1"), (b"b", b"1"), (b"a", b"2"), (b"b", None)]
-        writer.apply(edits)
-        self.assertEqual([reader.get(key) for key in (b"a", b"b", b"d")], [b"2", None, b"1"])
-        writer.try_apply(iter(edits), 3)
-        writer.apply([])
-        self.assertEqual(self.versions(reader), [1, 1, 0, 2])
-        # the third shard has no rows for its edits
-        edits += [(bytes((ord("c"), last)), b"") for last in range(9)]
-        edits += [(b"d", b"3"), (b"a", b"3")]
-        for call in (writer.apply, writer.try_apply):
-            with self.assertRaises(RefusedShard) as caught:
-                call(edits)
-            self.assertEqual(caught.exception.code, mst_store.NO_FREE_ROWS)
-            self.assertEqual(caught.exception.shard, 2)
-            again = pickle.loads(pickle.dumps(caught.exception))
-            self.assertEqual((again.code, again.shard), (mst_store.NO_FREE_ROWS, 2))
-        self.assertEqual([reader.get(key) for key in (b"a", b"d")], [b"3", b"1"])
-        writer.apply(edits, start=3)
-        self.assertEqual(reader.get(b"d"), b"3")
-        self.assertEqual(self.versions(reader), [3, 3, 0, 3])
-
-    def test_refused_batches(self):
-        handle = open_sharded(16, 1, SPLITS)[0]
-        with self.assertRaises(RefusedEdit) as caught:
-            handle.apply([(b"a", b"1"), (b"b", bytes(65))])
-        self.assertEqual((caught.exception.code, caught.exception.place), (mst_store.BAD_VALUE, 1))
-        self.refused(mst_store.BAD_KEY, handle.try_apply, [(b"a", b"1"), (bytes(33), None)])
-        for start in (16, -1, 2**64):
-            self.refused(mst_store.ABSENT, handle.apply, [(b"a", b"1")], start)
-        self.assertRaises(TypeError, handle.apply, [], None)
-        with handle.snapshot() as then:
-            self.refused(mst_store.WRONG_STATE, then.apply, [(b"a", b"1")])
-        self.assertEqual(self.versions(handle), [0] * 16)
-        handle.close()
-        self.refused(mst_store.CLOSED, handle.apply, [(b"a", b"1")])
-
-    def test_batches_wait_for_each_shard(self):
-        handles = open_sharded(1000, 4, SPLITS)
-
-        def work(at):
-            for step in range(100):
-                keys = (bytes((shard, at)) for shard in range(1, 256, 16))
-                handles[at].apply((key, bytes([step])) for key in keys)
-
-        threads = [threading.Thread(target=work, args=(at,)) for at in range(4)]
-        for thread in threads:
-            thread.start()
-        for thread in threads:
-            thread.join()
-        self.assertEqual(self.versions(handles[0]), [400] * 16)
-
-    def test_refusals(self):
+    def test_openings_that_are_refused(self):
         self.refused(mst_store.UNKNOWN_FORMAT, open_sharded, 16, 1, [], 3)
         for splits in ([b""], [b"\0"], [b"b", b"b"], [b"b", b"a"], [bytes(33)], [bytes(300)],
                        [bytes([1 + at // 256, at % 256]) for at in range(1024)]):
             self.refused(mst_store.BAD_SPLITS, open_sharded, 16, 1, splits)
-        for rows, handles in ((3, 1), (65536, 1), (16, 0), (16, 33), (16, 2**70), (-1, 1)):
-            self.refused(mst_store.BAD_SHAPE, open_sharded, rows, handles, [])
-        handle = open_sharded(16, 1, [b"m"])[0]
-        self.refused(mst_store.BAD_KEY, handle.get, b"")
-        self.refused(mst_store.BAD_VALUE, handle.put, b"a", bytes(65))
-        for call in (handle.root, handle.next, handle.range, handle.directory, handle.format,
-                     lambda: handle.version_at(0)):
-            self.refused(mst_store.WRONG_STATE, call)
-        with handle.snapshot() as then:
-            self.refused(mst_store.WRONG_STATE, then.put, b"a", b"1")
-            self.refused(mst_store.WRONG_STATE, then.migrate, 2)
-            self.refused(mst_store.WRONG_STATE, then.snapshot().__enter__)
-        handle.close()
-        handle.close()
-        self.refused(mst_store.CLOSED, handle.get, b"a")
-        self.assertRaises(TypeError, Handle, None)
-        self.assertRaises(TypeError, copy.copy, handle)
-        self.assertRaises(TypeError, pickle.dumps, handle)
+        for rows, readers in ((3, 1), (65536, 1), (16, -1), (16, 32), (16, 2**70), (-1, 1)):
+            self.refused(mst_store.BAD_SHAPE, open_sharded, rows, readers, [])
+        self.assertRaises(TypeError, open_sharded, 16, "1", [])
+        self.assertEqual(len(open_sharded(16, 31, [])), 32)
+        (writer,) = open_sharded(rows=16, readers=0, splits=[b"m"])
+        self.assertEqual(writer.apply([(b"a", b"1")]), 1)
 
-    def test_threads_write_side_by_side(self):
-        handles = open_sharded(1000, 4, SPLITS)
+    def test_calls_that_are_refused(self):
+        writer, reader = open_sharded(16, 1, [b"m"])
+        self.refused(mst_store.BAD_KEY, reader.get, b"")
+        with reader.snapshot() as then:
+            for again in (reader.snapshot, reader.try_snapshot):
+                self.refused(mst_store.WRONG_STATE, again().__enter__)
+            for call in (then.get, then.prove):
+                self.refused(mst_store.BAD_KEY, call, b"")
+            self.refused(mst_store.BAD_KEY, then.next, bytes(33))
+            self.refused(mst_store.BAD_KEY, then.range, b"", bytes(33))
+            self.assertEqual(then.shards(), 2)
+        for call in (then.number, then.root, then.format, then.next, then.range, then.directory,
+                     then.shards, lambda: then.get(b"a"), lambda: then.prove(b"a")):
+            self.refused(mst_store.CLOSED, call)
+        for one in (writer, reader, then):
+            self.assertRaises(TypeError, copy.copy, one)
+            self.assertRaises(TypeError, pickle.dumps, one)
+        self.assertRaises(TypeError, ShardedWriter, None)
+        self.assertRaises(TypeError, ShardedReader, None)
 
-        def work(at):
-            for number in range(64):
-                handles[at].put(bytes([number * 4 + at]), bytes([at]))
+    def test_closing(self):
+        writer, reader, other = open_sharded(16, 2, [b"m"])
+        writer.apply([(b"a", b"1")])
+        told = (1, writer.root())
+        with writer, reader.snapshot() as then:
+            self.shows(then, told, {b"a": b"1"})
+            reader.close()
+            self.refused(mst_store.CLOSED, then.get, b"a")
+        for call in (writer.number, writer.root, writer.shards, reader.shards,
+                     reader.snapshot().__enter__, lambda: writer.apply([])):
+            self.refused(mst_store.CLOSED, call)
+        reader.close()
+        # the map is there for as long as one of its readers, and their snapshots
+        snapshot = other.snapshot()
+        del other
+        with snapshot as then:
+            self.shows(then, told, {b"a": b"1"})
 
-        threads = [threading.Thread(target=work, args=(at,)) for at in range(4)]
-        for thread in threads:
-            thread.start()
+    def test_exceptions(self):
+        self.assertEqual((Moving().code, Moving().args), (mst_store.MOVING, Moving().args))
+        overtaken = pickle.loads(pickle.dumps(Overtaken(mst_store.OVERTAKEN, 3)))
+        self.assertIsInstance(overtaken, RefusedShard)
+        self.assertEqual((overtaken.code, overtaken.shard), (mst_store.OVERTAKEN, 3))
+        self.assertIs(type(pickle.loads(pickle.dumps(Moving()))), Moving)
+
+    # ---- threads
+
+    def reads(self, reader, call):
+        """Takes snapshots until the last block, and notes what is wrong with one."""
+        number = 0
+        while number < BLOCKS:
+            try:
+                with call() as then:
+                    values = {then.get(key) for key in ONES}
+                    before, number = number, then.number()
+                    is_one = values == {str(number).encode() if number > 0 else None}
+                    is_noted = self.roots.get(number, then.root()) == then.root()
+            except Moving:
+                continue
+            if not is_one or not is_noted or number < before:
+                self.wrong.append((before, number, values))
+                return
+
+    def test_threads_read_while_blocks_are_made(self):
+        writer, *readers = open_sharded(64, 3, SPLITS)
+        self.wrong, self.roots = [], {0: writer.root()}
+        threads = []
+        for at, reader in enumerate(readers):
+            call = reader.try_snapshot if at == 0 else reader.snapshot
+            threads.append(threading.Thread(target=self.reads, args=(reader, call), daemon=True))
+            threads[-1].start()
+        for number in range(1, BLOCKS + 1):
+            value = str(number).encode()
+            self.assertEqual(writer.apply((key, value) for key in ONES), number)
+            self.roots[number] = writer.root()
         for thread in threads:
             thread.join()
-        for number in range(256):
-            self.assertEqual(handles[0].get(bytes([number])), bytes([number % 4]))
+        self.assertEqual(self.wrong, [])
 
 
 if __name__ == "__main__":

@@ -13,12 +13,19 @@ store is freed with its last pass.
     writer.apply([(b"apple", b"32"), (b"pear", None)])  # one version; None takes a key out
     writer.migrate(Format.TWO)      # shorter proofs; a store opens in Format.ONE
 
+A sharded map is many stores as one map. Its writer makes blocks, each one version of the whole map,
+and its readers take snapshots, each of one block:
+
+    writer, reader = open_sharded(rows=1000, readers=1, splits=[b"m"])
+    writer.apply([(b"apple", b"30"), (b"pear", b"12")])     # block 1
+    with reader.snapshot() as then:
+        then.number(), then.root()
+
 Keys have 1 to 32 bytes, values 0 to 64. Use a pass for each thread: ctypes lets other threads run
 during a call, and two calls by one pass wait for each other. So make none in a signal handler: it
 would wait for ever for the call that it interrupts. A store does not outlive os.fork() in a process
 with threads.
 """
-from ._blocks import BlockReader, BlockSnapshot, BlockWriter, open_blocks
 from ._library import KEY_LONGEST, ROOT_LENGTH, VALUE_LONGEST, library_version
 from ._passes import Edit, Format, Octets, Pass, open_store
 from ._refusals import (
@@ -26,9 +33,8 @@ from ._refusals import (
     ROWS_PINNED, SHORT_ROOM, UNKNOWN_FORMAT, VERSIONS_SPENT, WRONG_STATE, Busy, Refused,
     RefusedEdit,
 )
-from ._refusals import BAD_SPLITS, MIXED_FORMATS, STRAY_KEY, BusyShard, RefusedShard
-from ._refusals import MOVING, OVERTAKEN, Moving, Overtaken
-from ._sharded import Handle, open_sharded
+from ._refusals import BAD_SPLITS, MOVING, OVERTAKEN, BusyShard, Moving, Overtaken, RefusedShard
+from ._sharded import ShardedReader, ShardedSnapshot, ShardedWriter, open_sharded
 
 __version__ = "0.3.0"
 
@@ -37,8 +43,6 @@ __all__ = [
     "MEMORY", "NO_FREE_ROWS", "ROOT_LENGTH", "ROWS_PINNED", "SHORT_ROOM", "UNKNOWN_FORMAT",
     "VALUE_LONGEST", "VERSIONS_SPENT", "WRONG_STATE", "Busy", "Edit", "Format", "Octets", "Pass",
     "Refused", "RefusedEdit", "library_version", "open_store",
-    "BAD_SPLITS", "MIXED_FORMATS", "STRAY_KEY", "BusyShard", "Handle", "RefusedShard",
-    "open_sharded",
-    "MOVING", "OVERTAKEN", "BlockReader", "BlockSnapshot", "BlockWriter", "Moving", "Overtaken",
-    "open_blocks",
+    "BAD_SPLITS", "MOVING", "OVERTAKEN", "BusyShard", "Moving", "Overtaken", "RefusedShard",
+    "ShardedReader", "ShardedSnapshot", "ShardedWriter", "open_sharded",
 ]

@@ -22,23 +22,13 @@ HAND = ctypes.POINTER(Hand)
 
 
 class ShardedHand(ctypes.Structure):
-    """What holds a handle of a sharded map or a snapshot. It stays where it is, and has padding, as
-    a Hand."""
+    """What holds the writer of a sharded map, a reader or a snapshot. It stays where it is, and has
+    padding, as a Hand."""
 
     _fields_ = [("at", ctypes.c_void_p), ("padding", ctypes.c_uint64 * 31)]
 
 
 SHARDED_HAND = ctypes.POINTER(ShardedHand)
-
-
-class BlocksHand(ctypes.Structure):
-    """What holds the writer of a map with blocks, a reader or a snapshot. It stays where it is, and
-    has padding, as a Hand."""
-
-    _fields_ = [("at", ctypes.c_void_p), ("padding", ctypes.c_uint64 * 31)]
-
-
-BLOCKS_HAND = ctypes.POINTER(BlocksHand)
 
 
 def _signatures() -> Dict[str, Tuple[Any, ...]]:
@@ -76,55 +66,26 @@ def _signatures() -> Dict[str, Tuple[Any, ...]]:
 
 def _sharded_signatures() -> Dict[str, Tuple[Any, ...]]:
     hand, size, text = SHARDED_HAND, ctypes.c_size_t, ctypes.c_char_p
-    pointer = ctypes.POINTER
-    writes = {
-        "put": (hand, text, size, text, size, text, size),
-        "remove": (hand, text, size, text, size),
-        "apply": (hand, text, size, pointer(size), pointer(size)),
-        "migrate": (hand, ctypes.c_uint32, pointer(size)),
-    }
+    pointer, number = ctypes.POINTER, ctypes.POINTER(ctypes.c_uint64)
     return {
         "mst_sharded_open": (ctypes.c_uint32, ctypes.c_uint32, text, size, hand, size),
         "mst_sharded_close": (hand,),
         "mst_sharded_shards": (hand,),
-        "mst_sharded_get": (hand, text, size, text, size),
-        **{f"mst_sharded_{tries}{name}": types
-           for tries in ("", "try_") for name, types in writes.items()},
+        "mst_sharded_apply": (hand, text, size, pointer(size), pointer(size), number),
+        "mst_sharded_number": (hand, number),
+        "mst_sharded_try_snapshot": (hand,),
         "mst_sharded_snapshot": (hand,),
         "mst_sharded_release": (hand,),
-        "mst_sharded_root": (hand, text, size),
-        "mst_sharded_prove": (hand, text, size, text, size, pointer(size)),
+        "mst_sharded_get": (hand, text, size, text, size),
         "mst_sharded_next": (hand, text, size, text, size, pointer(size), text, size),
         "mst_sharded_range": (
             hand, text, size, text, size, ctypes.c_uint32, text, size, pointer(size), pointer(size),
         ),
-        "mst_sharded_version_at": (hand, size, pointer(ctypes.c_uint64)),
         "mst_sharded_format": (hand,),
+        "mst_sharded_root": (hand, text, size),
+        "mst_sharded_prove": (hand, text, size, text, size, pointer(size)),
         "mst_sharded_directory": (hand, text, size, pointer(size), pointer(size)),
-    }
-
-
-def _blocks_signatures() -> Dict[str, Tuple[Any, ...]]:
-    hand, size, text = BLOCKS_HAND, ctypes.c_size_t, ctypes.c_char_p
-    pointer, number = ctypes.POINTER, ctypes.POINTER(ctypes.c_uint64)
-    return {
-        "mst_blocks_open": (ctypes.c_uint32, ctypes.c_uint32, text, size, hand, size),
-        "mst_blocks_close": (hand,),
-        "mst_blocks_shards": (hand,),
-        "mst_blocks_apply": (hand, text, size, pointer(size), pointer(size), number),
-        "mst_blocks_number": (hand, number),
-        "mst_blocks_try_snapshot": (hand,),
-        "mst_blocks_snapshot": (hand,),
-        "mst_blocks_release": (hand,),
-        "mst_blocks_get": (hand, text, size, text, size),
-        "mst_blocks_next": (hand, text, size, text, size, pointer(size), text, size),
-        "mst_blocks_range": (
-            hand, text, size, text, size, ctypes.c_uint32, text, size, pointer(size), pointer(size),
-        ),
-        "mst_blocks_format": (hand,),
-        "mst_blocks_root": (hand, text, size),
-        "mst_blocks_prove": (hand, text, size, text, size, pointer(size)),
-        "mst_blocks_directory": (hand, text, size, pointer(size), pointer(size)),
+        "mst_sharded_copy": (hand, hand, pointer(size), number),
     }
 
 
@@ -149,8 +110,7 @@ def _load() -> ctypes.CDLL:
         raise ImportError(f"{error}: install {SONAME} of a release, run `make -C bindings`, which "
                           "needs the kit, or set MST_STORE_DIR to the folder of libmst_store.so"
                           ) from error
-    signatures = {**_signatures(), **_sharded_signatures(), **_blocks_signatures()}
-    for name, types in signatures.items():
+    for name, types in {**_signatures(), **_sharded_signatures()}.items():
         call = getattr(found, name)
         call.argtypes, call.restype = types, ctypes.c_int32
     found.mst_library_version.argtypes, found.mst_library_version.restype = (), ctypes.c_char_p

@@ -3,9 +3,10 @@ from __future__ import annotations
 
 from typing import NoReturn, Tuple, Type
 
+# Neither of these two is raised. A key that is absent has no value. A put, which has been made all
+# the same when the library returns SHORT_ROOM, has room for each old value, and the room of a range
+# or a proof grows.
 ABSENT = -1
-# Never raised: a put, which has been made all the same when the library returns this, has room for
-# each old value, and the room of a range or a proof grows.
 SHORT_ROOM = -2
 UNKNOWN_FORMAT = -3
 BAD_KEY = -5
@@ -20,13 +21,10 @@ NO_FREE_ROWS = -23
 ROWS_PINNED = -24
 BAD_BATCH = -25
 BAD_SPLITS = -26
-MIXED_FORMATS = -27
-STRAY_KEY = -28
 OVERTAKEN = -29
 MOVING = -30
 
 _REASONS = {
-    ABSENT: "there is no such shard",
     UNKNOWN_FORMAT: "no format has this number",
     BAD_KEY: "a key has 1 to 32 bytes",
     BAD_VALUE: "a value has 0 to 64 bytes",
@@ -40,8 +38,6 @@ _REASONS = {
     ROWS_PINNED: "some pass pins a version, so the rows are not counted",
     BAD_BATCH: "the bytes are no batch of edits",
     BAD_SPLITS: "splits are at most 1023 keys that rise strictly, from above the least key",
-    MIXED_FORMATS: "the shards are in different formats",
-    STRAY_KEY: "a shard has a key of another",
     OVERTAKEN: "another than the writer of blocks has written",
     MOVING: "a block is just being published",
 }
@@ -78,13 +74,9 @@ class Busy(Refused):
 
 
 class RefusedShard(Refused):
-    """A batch of a sharded map stopped at a shard, whose number, from 0, is `shard`: those before
-    it have their edits, and neither it nor one behind it has any. A call with the same edits from
-    it on makes the others.
-
-    If it was a block, no shard has any. `shard` is the number of the shards if the directory
-    refused its edits, or if there was no memory for the lists of all edits.
-    """
+    """A block is refused, since a shard refused its edits: `shard` is its number, from 0. Nothing
+    has changed in any shard. `shard` is the number of the shards if the directory refused its own
+    edits, or if there was no memory for the lists of all edits."""
 
     def __init__(self, code: int, shard: int) -> None:
         super().__init__(code)
@@ -95,7 +87,7 @@ class RefusedShard(Refused):
 
 
 class BusyShard(RefusedShard, Busy):
-    """A RefusedShard that is Busy: another handle has the turn of this shard."""
+    """A RefusedShard that is Busy. Only a thread that has ended within a call leaves it so."""
 
 
 class Overtaken(RefusedShard):

@@ -1,4 +1,4 @@
-"""Sharded maps, their handles and snapshots."""
+"""Sharded maps: their writers, which make blocks, their readers, and snapshots of blocks."""
 from __future__ import annotations
 
 import ctypes
@@ -6,17 +6,22 @@ import operator
 import os
 import threading
 from contextlib import contextmanager
-from typing import Any, Callable, Iterable, Iterator, List, NoReturn, Optional, Tuple
+from typing import (
+    TYPE_CHECKING, Any, Callable, Dict, Iterable, Iterator, List, NoReturn, Optional, Tuple, Type,
+)
 
 from ._library import KEY_LONGEST, ROOT_LENGTH, SHARDED_HAND, VALUE_LONGEST, ShardedHand
 from ._library import lib as _lib
 from ._passes import Edit, Format, Octets, _format, _octets, _pairs, _word
 from ._passes import _packed as _packed_edits
 from ._refusals import (
-    ABSENT, BAD_KEY, BAD_VALUE, BUSY, MEMORY, NO_FREE_ROWS, SHORT_ROOM, VERSIONS_SPENT, BusyShard,
-    RefusedEdit, RefusedShard,
+    ABSENT, BAD_KEY, BAD_VALUE, BUSY, CLOSED, MEMORY, MOVING, NO_FREE_ROWS, OVERTAKEN, SHORT_ROOM,
+    VERSIONS_SPENT, BusyShard, Moving, Overtaken, RefusedEdit, RefusedShard,
 )
 from ._refusals import refuse as _refuse
+
+if TYPE_CHECKING:
+    from typing_extensions import Unpack
 
 
 def _packed(splits: Iterable[Octets]) -> bytes:
@@ -25,232 +30,335 @@ def _packed(splits: Iterable[Octets]) -> bytes:
     return b"".join(bytes((min(len(key), 255),)) + key[: KEY_LONGEST + 1] for key in keys)
 
 
-class Handle:
-    """A handle of a sharded map, from open_sharded. Its reads are of the current version of each
-    shard, or of those that are pinned."""
-
-    def __init__(self, hand: Any) -> None:
-        if not isinstance(hand, SHARDED_HAND):
-            raise TypeError("a handle comes from open_sharded")
-        self._hand, self._process = hand, os.getpid()
-        # A hand is in one call at a time, and the rooms below are shared by its calls.
-        self._lock = threading.Lock()
-        self._room = ctypes.create_string_buffer(VALUE_LONGEST)
-        self._key_room = ctypes.create_string_buffer(KEY_LONGEST)
-        self._long_room = ctypes.create_string_buffer(4096)  # grows with the longest proof or range
-
-    def _value(self, code: int) -> Optional[bytes]:
-        if code >= 0:
-            return self._room.raw[:code]
-        if code != ABSENT:
-            _refuse(code)
-        return None
-
-    def shards(self) -> int:
-        """Returns how many shards there are."""
-        with self._lock:
-            return _answer(_lib.mst_sharded_shards(self._hand))
-
-    def get(self, key: Octets) -> Optional[bytes]:
-        """Returns the value of the key, or None if the key is absent."""
-        key = _octets(key)
-        with self._lock:
-            return self._value(_lib.mst_sharded_get(
-                self._hand, key, len(key), self._room, VALUE_LONGEST))
-
-    def try_put(self, key: Octets, value: Octets) -> Optional[bytes]:
-        """Gives the key the value, or raises Busy if another handle has the turn of the key's
-        shard. Returns the value before, or None if the key is new."""
-        return self._put(_lib.mst_sharded_try_put, key, value)
-
-    def try_remove(self, key: Octets) -> Optional[bytes]:
-        """Takes the key out, or raises Busy. Returns the value that it had, or None if it was
-        absent."""
-        return self._remove(_lib.mst_sharded_try_remove, key)
-
-    def put(self, key: Octets, value: Octets) -> Optional[bytes]:
-        """As try_put, but waits for the turn."""
-        return self._put(_lib.mst_sharded_put, key, value)
-
-    def remove(self, key: Octets) -> Optional[bytes]:
-        """As try_remove, but waits for the turn."""
-        return self._remove(_lib.mst_sharded_remove, key)
-
-    def _put(self, call: Callable[..., int], key: Octets, value: Octets) -> Optional[bytes]:
-        key, value = _octets(key), _octets(value)
-        with self._lock:
-            return self._value(
-                call(self._hand, key, len(key), value, len(value), self._room, VALUE_LONGEST))
-
-    def _remove(self, call: Callable[..., int], key: Octets) -> Optional[bytes]:
-        key = _octets(key)
-        with self._lock:
-            return self._value(call(self._hand, key, len(key), self._room, VALUE_LONGEST))
-
-    @contextmanager
-    def snapshot(self) -> Iterator[Handle]:
-        """Pins the current version of each shard, one shard after the other: inside the `with`,
-        each read by this handle is of these, and it has a root digest and proofs."""
-        with self._lock:
-            _answer(_lib.mst_sharded_snapshot(self._hand))
-        try:
-            yield self
-        finally:
-            # If the handle was closed inside, this call is refused, and no pin is left.
-            with self._lock:
-                _lib.mst_sharded_release(self._hand)
-
-    def root(self) -> bytes:
-        """Returns the root digest of all shards of a snapshot, of 32 bytes."""
-        with self._lock:
-            _answer(_lib.mst_sharded_root(self._hand, self._room, VALUE_LONGEST))
-            return self._room.raw[:ROOT_LENGTH]
-
-    def prove(self, key: Octets) -> bytes:
-        """Returns the proof of the key's answer in a snapshot, for a verifier of sharded maps and
-        the format and root digest of the same snapshot."""
-        key = _octets(key)
-        return self._longest(lambda room, length: _lib.mst_sharded_prove(
-            self._hand, key, len(key), room, len(room), length))
-
-    def _longest(self, call: Callable[[Any, Any], Any]) -> bytes:
-        length = ctypes.c_size_t()
-        with self._lock:
-            while True:
-                room = self._long_room
-                code = call(room, ctypes.byref(length))
-                if code != SHORT_ROOM:
-                    _answer(code)
-                    return ctypes.string_at(room, length.value)
-                self._long_room = ctypes.create_string_buffer(length.value)
-
-    def next(self, key: Octets = b"") -> Optional[Tuple[bytes, bytes]]:
-        """Returns the pair of the least key of a snapshot above `key`, or of the least key of all
-        if `key` is empty; None if there is no such pair."""
-        key, length = _octets(key), ctypes.c_size_t()
-        with self._lock:
-            value = self._value(_lib.mst_sharded_next(
-                self._hand, key, len(key), self._key_room, KEY_LONGEST, ctypes.byref(length),
-                self._room, VALUE_LONGEST,
-            ))
-            return None if value is None else (self._key_room.raw[: length.value], value)
-
-    def range(
-        self, start: Octets = b"", stop: Octets = b"", limit: int = 2**32 - 1
-    ) -> List[Tuple[bytes, bytes]]:
-        """Returns the first pairs of a snapshot, at most `limit`, with start <= key < stop, in the
-        order of rising keys. An empty bound does not bind."""
-        start, stop, count = _octets(start), _octets(stop), ctypes.c_size_t()
-        limit = _word(max(operator.index(limit), 0))
-        return list(_pairs(self._longest(lambda room, length: _lib.mst_sharded_range(
-            self._hand, start, len(start), stop, len(stop), limit, room, len(room),
-            ctypes.byref(count), length))))
-
-    def directory(self) -> List[Tuple[bytes, bytes]]:
-        """Returns of each shard of a snapshot its lower bound, with its root digest of 32 bytes
-        and its upper bound, which is empty if there is none: the pairs whose root digest is that
-        of the snapshot."""
-        count = ctypes.c_size_t()
-        return list(_pairs(self._longest(lambda room, length: _lib.mst_sharded_directory(
-            self._hand, room, len(room), ctypes.byref(count), length))))
-
-    def version_at(self, shard: int) -> Optional[int]:
-        """Returns the number of the version that a snapshot pins of a shard, from 0; None if there
-        is no such shard."""
-        number = ctypes.c_uint64()
-        with self._lock:
-            code = _lib.mst_sharded_version_at(
-                self._hand, _word(shard), ctypes.byref(number))
-        return None if code == ABSENT else int(number.value) + _answer(code)
-
-    def format(self) -> Format:
-        """Returns the format of a snapshot's versions, in which its root digest and its proofs
-        are. Raises Refused with MIXED_FORMATS if they are in two."""
-        with self._lock:
-            return _format(_lib.mst_sharded_format(self._hand))
-
-    def try_apply(self, edits: Iterable[Edit], start: int = 0) -> None:
-        """Makes edits, as Pass.try_apply takes them: those of each shard as one version of that
-        shard, one shard after the other, or raises BusyShard.
-
-        Those of shards before `start` are passed over, so that a call may go on where one stopped.
-        RefusedShard tells which shard refused its edits. RefusedEdit tells which edit has a key or
-        a value of a bad length: no edit is made then.
-        """
-        self._apply(_lib.mst_sharded_try_apply, edits, start)
-
-    def apply(self, edits: Iterable[Edit], start: int = 0) -> None:
-        """As try_apply, but waits for the turn of each shard."""
-        self._apply(_lib.mst_sharded_apply, edits, start)
-
-    def _apply(self, call: Callable[..., int], edits: Iterable[Edit], start: int) -> None:
-        packed, place, shard = _packed_edits(edits), ctypes.c_size_t(), ctypes.c_size_t(_word(start))
-        with self._lock:
-            code = call(self._hand, packed, len(packed), ctypes.byref(place), ctypes.byref(shard))
-        if code in (BAD_KEY, BAD_VALUE):
-            raise RefusedEdit(code, place.value)
-        if code == BUSY:
-            raise BusyShard(code, shard.value)
-        if code in (MEMORY, NO_FREE_ROWS, VERSIONS_SPENT):
-            raise RefusedShard(code, shard.value)
-        _answer(code)
-
-    def try_migrate(self, to: int) -> None:
-        """Turns each shard to a format, one after the other, or raises Busy.
-
-        If a shard refuses it, those before it are migrated, and those behind it were not tried.
-        """
-        self._migrate(_lib.mst_sharded_try_migrate, to)
-
-    def migrate(self, to: int) -> None:
-        """As try_migrate, but waits for the turn of each shard."""
-        self._migrate(_lib.mst_sharded_migrate, to)
-
-    def _migrate(self, call: Any, to: int) -> None:
-        stopped = ctypes.c_size_t()
-        with self._lock:
-            _answer(call(self._hand, _word(to), ctypes.byref(stopped)))
-
-    def close(self) -> None:
-        """Closes the handle. Later calls raise Refused with CLOSED; a second close has no
-        effect."""
-        with self._lock:
-            _lib.mst_sharded_close(self._hand)
-
-    def __enter__(self) -> Handle:
-        return self
-
-    def __exit__(self, *_: object) -> None:
-        self.close()
-
-    def __reduce__(self) -> NoReturn:
-        # A copy would have the same hand, and close it when it goes.
-        raise TypeError("a handle is neither copied nor pickled")
-
-    def __del__(self) -> None:
-        # As for a pass: no other call can be under way, and a forked child calls nothing by itself.
-        if _lib is not None and getattr(self, "_process", None) == os.getpid():
-            _lib.mst_sharded_close(self._hand)
-
-
 def _answer(code: int) -> int:
     if code < 0:
         _refuse(code)
     return code
 
 
+class _Held:
+    """A hand, and the rooms of its calls. A hand is in one call at a time, so who makes one of
+    these has the lock."""
+
+    def __init__(self, hand: Any) -> None:
+        if not isinstance(hand, SHARDED_HAND):
+            raise TypeError("writers and readers come from open_sharded")
+        self.hand, self.process = hand, os.getpid()
+        self.lock = threading.Lock()
+        self.room = ctypes.create_string_buffer(VALUE_LONGEST)
+        self.key_room = ctypes.create_string_buffer(KEY_LONGEST)
+        self.long_room = ctypes.create_string_buffer(4096)  # grows with the longest proof or range
+
+    def __del__(self) -> None:
+        # As for a pass: no other call can be under way, and a forked child calls nothing by itself.
+        if _lib is not None and getattr(self, "process", None) == os.getpid():
+            _lib.mst_sharded_close(self.hand)
+
+    def shards(self) -> int:
+        return _answer(_lib.mst_sharded_shards(self.hand))
+
+    def number(self) -> int:
+        number = ctypes.c_uint64()
+        _answer(_lib.mst_sharded_number(self.hand, ctypes.byref(number)))
+        return int(number.value)
+
+    def root(self) -> bytes:
+        _answer(_lib.mst_sharded_root(self.hand, self.room, VALUE_LONGEST))
+        return self.room.raw[:ROOT_LENGTH]
+
+    def value(self, code: int) -> Optional[bytes]:
+        return None if code == ABSENT else self.room.raw[: _answer(code)]
+
+    def get(self, key: bytes) -> Optional[bytes]:
+        return self.value(_lib.mst_sharded_get(
+            self.hand, key, len(key), self.room, VALUE_LONGEST))
+
+    def next(self, key: bytes) -> Optional[Tuple[bytes, bytes]]:
+        length = ctypes.c_size_t()
+        value = self.value(_lib.mst_sharded_next(
+            self.hand, key, len(key), self.key_room, KEY_LONGEST, ctypes.byref(length), self.room,
+            VALUE_LONGEST,
+        ))
+        return None if value is None else (self.key_room.raw[: length.value], value)
+
+    def longest(self, call: Callable[[Any, Any], Any]) -> bytes:
+        length = ctypes.c_size_t()
+        while True:
+            room = self.long_room
+            code = call(room, ctypes.byref(length))
+            if code != SHORT_ROOM:
+                _answer(code)
+                return ctypes.string_at(room, length.value)
+            self.long_room = ctypes.create_string_buffer(length.value)
+
+
+class ShardedSnapshot:
+    """A snapshot of exactly one block, unless SHA-256 collides, from a reader's snapshot. All reads
+    are of this block. Once the `with` has ended, they raise Refused with CLOSED."""
+
+    def __init__(self, held: _Held) -> None:
+        self._held, self._is_over = held, False
+
+    def _end(self) -> None:
+        with self._held.lock:
+            self._is_over = True
+            # If the reader was closed inside, this call is refused, and no pin is left.
+            _lib.mst_sharded_release(self._held.hand)
+
+    @contextmanager
+    def _taken(self) -> Iterator[_Held]:
+        with self._held.lock:
+            if self._is_over:
+                _refuse(CLOSED)
+            yield self._held
+
+    def shards(self) -> int:
+        """Returns how many shards there are."""
+        with self._taken() as held:
+            return held.shards()
+
+    def number(self) -> int:
+        """Returns the number of the block: how many blocks led to this map."""
+        with self._taken() as held:
+            return held.number()
+
+    def root(self) -> bytes:
+        """Returns the root digest of all shards, of 32 bytes. It depends on their pairs, their
+        format and the splits alone."""
+        with self._taken() as held:
+            return held.root()
+
+    def format(self) -> Format:
+        """Returns the format of the map, in which its root digest and its proofs are."""
+        with self._taken() as held:
+            return _format(_lib.mst_sharded_format(held.hand))
+
+    def get(self, key: Octets) -> Optional[bytes]:
+        """Returns the value of the key, or None if the key is absent."""
+        key = _octets(key)
+        with self._taken() as held:
+            return held.get(key)
+
+    def next(self, key: Octets = b"") -> Optional[Tuple[bytes, bytes]]:
+        """Returns the pair of the least key above `key`, or of the least key of all if `key` is
+        empty; None if there is no such pair."""
+        key = _octets(key)
+        with self._taken() as held:
+            return held.next(key)
+
+    def range(
+        self, start: Octets = b"", stop: Octets = b"", limit: int = 2**32 - 1
+    ) -> List[Tuple[bytes, bytes]]:
+        """Returns the first pairs, at most `limit`, with start <= key < stop, in the order of
+        rising keys. An empty bound does not bind."""
+        start, stop, count = _octets(start), _octets(stop), ctypes.c_size_t()
+        limit = _word(max(operator.index(limit), 0))
+        with self._taken() as held:
+            return list(_pairs(held.longest(lambda room, length: _lib.mst_sharded_range(
+                held.hand, start, len(start), stop, len(stop), limit, room, len(room),
+                ctypes.byref(count), length))))
+
+    def directory(self) -> List[Tuple[bytes, bytes]]:
+        """Returns of each shard its lower bound, with its root digest of 32 bytes and its upper
+        bound, which is empty if there is none: the pairs whose root digest is that of the
+        snapshot."""
+        count = ctypes.c_size_t()
+        with self._taken() as held:
+            return list(_pairs(held.longest(lambda room, length: _lib.mst_sharded_directory(
+                held.hand, room, len(room), ctypes.byref(count), length))))
+
+    def prove(self, key: Octets) -> bytes:
+        """Returns the proof of the key's answer, for a verifier of sharded maps and the format and
+        root digest of the same snapshot."""
+        key = _octets(key)
+        with self._taken() as held:
+            return held.longest(lambda room, length: _lib.mst_sharded_prove(
+                held.hand, key, len(key), room, len(room), length))
+
+    def copy_to(self, writer: ShardedWriter) -> int:
+        """Puts all pairs, as one block, into another sharded map, by its writer, and returns the
+        number of this block.
+
+        The other map may be of the other format, with other splits, or with more rows: so a map is
+        migrated, split anew, or enlarged, while its readers go on. Keys that the other map has
+        besides keep their values. Blocks that are made after the snapshot are not copied.
+
+        If the block is refused, nothing has changed in any shard, as with ShardedWriter.apply.
+        There may also be no memory for the list of all pairs.
+        """
+        if not isinstance(writer, ShardedWriter):
+            raise TypeError("a snapshot is copied to a ShardedWriter")
+        number, shard = ctypes.c_uint64(), ctypes.c_size_t()
+        # Nothing else takes two locks, so none takes these in the other order.
+        with self._taken() as held, writer._held.lock:
+            code = _lib.mst_sharded_copy(
+                held.hand, writer._held.hand, ctypes.byref(shard), ctypes.byref(number))
+        return _block(code, number, shard)
+
+    def __reduce__(self) -> NoReturn:
+        # A copy would not know of its end.
+        raise TypeError("a snapshot is neither copied nor pickled")
+
+
+class ShardedReader:
+    """A reader of a sharded map, from open_sharded. It takes snapshots, one at a time."""
+
+    def __init__(self, hand: Any) -> None:
+        self._held = _Held(hand)
+
+    def shards(self) -> int:
+        """Returns how many shards there are."""
+        with self._held.lock:
+            return self._held.shards()
+
+    def get(self, key: Octets) -> Optional[bytes]:
+        """Returns the value that the key has now, or None if the key is absent. Two such reads
+        need not be of one block. While the reader has a snapshot, it reads the snapshot's block."""
+        key = _octets(key)
+        with self._held.lock:
+            return self._held.get(key)
+
+    @contextmanager
+    def snapshot(self) -> Iterator[ShardedSnapshot]:
+        """Takes a snapshot of one block for the `with`; while a block is being published, it tries
+        again. It is not promised when a try falls between two blocks; and if the writer's thread
+        has died within apply, none may."""
+        with self._taken_by(_lib.mst_sharded_snapshot) as then:
+            yield then
+
+    @contextmanager
+    def try_snapshot(self) -> Iterator[ShardedSnapshot]:
+        """As snapshot, but raises Moving while a block is just being published."""
+        with self._taken_by(_lib.mst_sharded_try_snapshot) as then:
+            yield then
+
+    @contextmanager
+    def _taken_by(self, call: Callable[..., int]) -> Iterator[ShardedSnapshot]:
+        with self._held.lock:
+            code = call(self._held.hand)
+        if code == MOVING:
+            raise Moving()
+        _answer(code)
+        then = ShardedSnapshot(self._held)
+        try:
+            yield then
+        finally:
+            then._end()
+
+    def close(self) -> None:
+        """Closes the reader. Later calls raise Refused with CLOSED; a second close has no
+        effect."""
+        with self._held.lock:
+            _lib.mst_sharded_close(self._held.hand)
+
+    def __enter__(self) -> ShardedReader:
+        return self
+
+    def __exit__(self, *_: object) -> None:
+        self.close()
+
+    def __reduce__(self) -> NoReturn:
+        # A copy would have the same hand.
+        raise TypeError("a reader is neither copied nor pickled")
+
+
+class ShardedWriter:
+    """The writer of a sharded map, from open_sharded, which alone makes its blocks."""
+
+    def __init__(self, hand: Any) -> None:
+        self._held = _Held(hand)
+
+    def shards(self) -> int:
+        """Returns how many shards there are."""
+        with self._held.lock:
+            return self._held.shards()
+
+    def apply(self, edits: Iterable[Edit]) -> int:
+        """Makes edits of all shards, as Pass.apply takes them, as the next block, and returns its
+        number: one more than that of the block before. Readers see none of them before all are
+        made. No edits make a block too.
+
+        If the block is refused, nothing has changed in any shard. RefusedEdit tells which edit has
+        a key or a value of a bad length, and RefusedShard, or Overtaken, which shard refused its
+        edits.
+        """
+        packed, number = _packed_edits(edits), ctypes.c_uint64()
+        place, shard = ctypes.c_size_t(), ctypes.c_size_t()
+        with self._held.lock:
+            code = _lib.mst_sharded_apply(
+                self._held.hand, packed, len(packed), ctypes.byref(place), ctypes.byref(shard),
+                ctypes.byref(number))
+        if code in (BAD_KEY, BAD_VALUE):
+            raise RefusedEdit(code, place.value)
+        return _block(code, number, shard)
+
+    def get(self, key: Octets) -> Optional[bytes]:
+        """Returns the value of the key in the last block, or None if the key is absent: so a block
+        can depend on what the map has."""
+        key = _octets(key)
+        with self._held.lock:
+            return self._held.get(key)
+
+    def number(self) -> int:
+        """Returns the number of the last block; 0 is that of the empty map."""
+        with self._held.lock:
+            return self._held.number()
+
+    def root(self) -> bytes:
+        """Returns the root digest of all shards after the last block, as a snapshot of it has
+        it."""
+        with self._held.lock:
+            return self._held.root()
+
+    def close(self) -> None:
+        """Closes the writer: then no more blocks are made, and readers go on. Later calls raise
+        Refused with CLOSED; a second close has no effect."""
+        with self._held.lock:
+            _lib.mst_sharded_close(self._held.hand)
+
+    def __enter__(self) -> ShardedWriter:
+        return self
+
+    def __exit__(self, *_: object) -> None:
+        self.close()
+
+    def __reduce__(self) -> NoReturn:
+        # A copy would have the same hand.
+        raise TypeError("a writer is neither copied nor pickled")
+
+
+_REFUSALS_OF_A_SHARD: Dict[int, Type[RefusedShard]] = {
+    BUSY: BusyShard,
+    MEMORY: RefusedShard,
+    NO_FREE_ROWS: RefusedShard,
+    OVERTAKEN: Overtaken,
+    VERSIONS_SPENT: RefusedShard,
+}
+
+
+def _block(code: int, number: ctypes.c_uint64, shard: ctypes.c_size_t) -> int:
+    """Returns the number of a block that a call has made, or raises why it has not."""
+    if code in _REFUSALS_OF_A_SHARD:
+        raise _REFUSALS_OF_A_SHARD[code](code, shard.value)
+    _answer(code)
+    return int(number.value)
+
+
 def open_sharded(
-    rows: int, handles: int, splits: Iterable[Octets], format: int = Format.ONE
-) -> List[Handle]:
-    """Opens a sharded map of the empty map and returns its handles.
+    rows: int, readers: int, splits: Iterable[Octets], format: int = Format.ONE
+) -> Tuple[ShardedWriter, Unpack[Tuple[ShardedReader, ...]]]:
+    """Opens a sharded map of the empty map, which is block 0, and returns its writer and then its
+    readers: `writer, *readers = open_sharded(rows=1000, readers=2, splits=[b"m"])`.
 
     The splits are at most 1,023 keys that rise strictly, from above b"\\0": the keys from one of
     them on, and below the next, are those of a shard. Each shard has 4 to 65,535 rows, and there
-    are 1 to 32 handles. Otherwise Refused is raised.
+    are 0 to 31 readers. Otherwise Refused is raised. The map keeps its format;
+    ShardedSnapshot.copy_to copies it to a map of another.
     """
-    # 33 hands are as refused as any greater number.
-    count = min(max(operator.index(handles), 0), 33)
+    # 33 hands are as refused as any greater number, and of fewer than none there is no writer.
+    count = operator.index(readers) + 1
+    count = count if 0 < count <= 32 else 33
     hands, packed = (ShardedHand * count)(), _packed(splits)
-    _answer(_lib.mst_sharded_open(
-        _word(format), _word(rows), packed, len(packed), hands, count))
-    return [Handle(ctypes.pointer(hands[at])) for at in range(count)]
+    _answer(_lib.mst_sharded_open(_word(format), _word(rows), packed, len(packed), hands, count))
+    others = [ShardedReader(ctypes.pointer(hands[at])) for at in range(1, count)]
+    return (ShardedWriter(ctypes.pointer(hands[0])), *others)

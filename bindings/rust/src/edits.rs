@@ -1,4 +1,4 @@
-//! The edits of a batch, and their bytes as the library takes them.
+//! The edits of a batch, and the splits of a sharded map: their bytes as the library takes them.
 use crate::{KEY_LONGEST, VALUE_LONGEST};
 
 /// A change of one key, as one of many that a batch makes.
@@ -34,6 +34,16 @@ pub(crate) fn packed(edits: &[Edit<'_>]) -> Vec<u8> {
             Edit::Put(key, value) => append(&mut bytes, 1, key, value),
             Edit::Remove(key) => append(&mut bytes, 2, key, &[]),
         }
+    }
+    bytes
+}
+
+/// The splits as mst_sharded_open takes them. A key that is too long is refused by its length.
+pub(crate) fn splits(splits: &[&[u8]]) -> Vec<u8> {
+    let mut bytes = Vec::new();
+    for split in splits {
+        bytes.push(split.len().min(255) as u8);
+        bytes.extend_from_slice(&split[..split.len().min(KEY_LONGEST)]);
     }
     bytes
 }

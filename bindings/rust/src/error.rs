@@ -32,14 +32,8 @@ pub enum Error {
     RowsPinned,
     /// Splits are at most 1,023 keys that rise strictly, from above that of one zero byte.
     BadSplits,
-    /// The shards of a snapshot are in different formats.
-    MixedFormats,
-    /// A shard has a key outside of its interval. No handle makes one so.
-    StrayKey,
-    /// The sharded map has no shard of this number.
-    NoShard,
     /// Of a block: another has the turn of a shard. Only a thread that ended within
-    /// [`Writer::apply`](crate::blocks::Writer::apply) leaves it so.
+    /// [`Writer::apply`](crate::sharded::Writer::apply) leaves it so.
     Busy,
     /// Of a block: another than its writer has written. No call makes it so.
     Overtaken,
@@ -52,7 +46,6 @@ impl Error {
     #[must_use]
     pub fn code(self) -> i32 {
         match self {
-            Error::NoShard => -1,
             Error::UnknownFormat => -3,
             Error::BadKey | Error::BadKeyAt(_) => -5,
             Error::BadValue | Error::BadValueAt(_) => -6,
@@ -63,8 +56,6 @@ impl Error {
             Error::NoFreeRows => -23,
             Error::RowsPinned => -24,
             Error::BadSplits => -26,
-            Error::MixedFormats => -27,
-            Error::StrayKey => -28,
             Error::Busy => -21,
             Error::Overtaken => -29,
             Error::Other(code) => code,
@@ -73,7 +64,6 @@ impl Error {
 
     pub(crate) fn of(code: i32) -> Error {
         match code {
-            -1 => Error::NoShard,
             -3 => Error::UnknownFormat,
             -5 => Error::BadKey,
             -6 => Error::BadValue,
@@ -84,8 +74,6 @@ impl Error {
             -23 => Error::NoFreeRows,
             -24 => Error::RowsPinned,
             -26 => Error::BadSplits,
-            -27 => Error::MixedFormats,
-            -28 => Error::StrayKey,
             -21 => Error::Busy,
             -29 => Error::Overtaken,
             other => Error::Other(other),
@@ -127,9 +115,6 @@ impl fmt::Display for Error {
             Error::BadSplits => {
                 out.write_str("splits are at most 1023 keys that rise, from above the least")
             }
-            Error::MixedFormats => out.write_str("the shards are in different formats"),
-            Error::StrayKey => out.write_str("a shard has a key of another"),
-            Error::NoShard => out.write_str("the map has no shard of this number"),
             Error::Busy => out.write_str("another has the turn"),
             Error::Overtaken => out.write_str("another than the writer of blocks has written"),
             Error::Other(code) => write!(out, "the library answered {code}"),
@@ -180,27 +165,5 @@ impl std::error::Error for TryError {}
 impl From<Error> for TryError {
     fn from(error: Error) -> TryError {
         TryError::Refused(error)
-    }
-}
-
-/// Why a batch of a sharded map stopped. The shards before one have their edits, and neither it nor
-/// one behind it has any.
-#[derive(Debug, Clone, Copy, PartialEq, Eq, Hash)]
-pub struct Stopped<E> {
-    /// The number of the shard, from 0: a call with the same edits from it on makes the others.
-    pub shard: usize,
-    /// Why this shard, or the whole batch, was refused.
-    pub error: E,
-}
-
-impl<E: fmt::Display> fmt::Display for Stopped<E> {
-    fn fmt(&self, out: &mut fmt::Formatter<'_>) -> fmt::Result {
-        write!(out, "shard {}: {}", self.shard, self.error)
-    }
-}
-
-impl<E: std::error::Error + 'static> std::error::Error for Stopped<E> {
-    fn source(&self) -> Option<&(dyn std::error::Error + 'static)> {
-        Some(&self.error)
     }
 }

@@ -62,21 +62,18 @@
 //! ```
 #![deny(missing_debug_implementations, missing_docs)]
 
-pub mod blocks;
 mod edits;
 mod error;
 mod format;
 mod raw;
-mod raw_blocks;
 mod raw_sharded;
 mod reads;
-mod sharded;
+pub mod sharded;
 
 pub use edits::Edit;
-pub use error::{Error, Stopped, TryError};
+pub use error::{Error, TryError};
 pub use format::Format;
 pub use reads::{Items, Pair, Reads};
-pub use sharded::{open_sharded, Handle, Snapshot};
 
 use raw::Hand;
 use std::ffi::CStr;

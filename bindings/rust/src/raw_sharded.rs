@@ -1,8 +1,8 @@
 //! The calls of sharded maps as include/mst_store.h declares them.
 use std::fmt;
 
-/// A hand of a sharded map: what holds a handle or a snapshot, or nothing. It moves as a hand of a
-/// pass does.
+/// A hand of a sharded map: what holds the writer, a reader or a snapshot, or nothing. It moves as a
+/// hand of a pass does.
 #[repr(C)]
 pub(crate) struct ShardedHand {
     at: *mut u8,
@@ -32,38 +32,7 @@ impl Drop for ShardedHand {
     }
 }
 
-/// mst_sharded_put and mst_sharded_try_put, which differ in their names alone.
-pub(crate) type Put = unsafe extern "C" fn(
-    handle: *mut ShardedHand,
-    key: *const u8,
-    key_length: usize,
-    value: *const u8,
-    value_length: usize,
-    room: *mut u8,
-    room_length: usize,
-) -> i32;
-
-/// mst_sharded_migrate and mst_sharded_try_migrate.
-pub(crate) type Migrate =
-    unsafe extern "C" fn(handle: *mut ShardedHand, format: u32, stopped: *mut usize) -> i32;
-
-/// mst_sharded_apply and mst_sharded_try_apply.
-pub(crate) type Apply = unsafe extern "C" fn(
-    handle: *mut ShardedHand,
-    edits: *const u8,
-    length: usize,
-    place: *mut usize,
-    shard: *mut usize,
-) -> i32;
-
-/// mst_sharded_remove and mst_sharded_try_remove.
-pub(crate) type Remove = unsafe extern "C" fn(
-    handle: *mut ShardedHand,
-    key: *const u8,
-    key_length: usize,
-    room: *mut u8,
-    room_length: usize,
-) -> i32;
+pub(crate) const MOVING: i32 = -30;
 
 extern "C" {
     pub(crate) fn mst_sharded_open(
@@ -76,62 +45,27 @@ extern "C" {
     ) -> i32;
     pub(crate) fn mst_sharded_close(handle: *mut ShardedHand) -> i32;
     pub(crate) fn mst_sharded_shards(handle: *mut ShardedHand) -> i32;
+    pub(crate) fn mst_sharded_apply(
+        writer: *mut ShardedHand,
+        edits: *const u8,
+        length: usize,
+        place: *mut usize,
+        shard: *mut usize,
+        number: *mut u64,
+    ) -> i32;
+    pub(crate) fn mst_sharded_number(handle: *mut ShardedHand, number: *mut u64) -> i32;
+    pub(crate) fn mst_sharded_try_snapshot(reader: *mut ShardedHand) -> i32;
+    pub(crate) fn mst_sharded_snapshot(reader: *mut ShardedHand) -> i32;
+    pub(crate) fn mst_sharded_release(reader: *mut ShardedHand) -> i32;
     pub(crate) fn mst_sharded_get(
-        handle: *mut ShardedHand,
+        reader: *mut ShardedHand,
         key: *const u8,
         key_length: usize,
         room: *mut u8,
         room_length: usize,
-    ) -> i32;
-    pub(crate) fn mst_sharded_try_put(
-        handle: *mut ShardedHand,
-        key: *const u8,
-        key_length: usize,
-        value: *const u8,
-        value_length: usize,
-        room: *mut u8,
-        room_length: usize,
-    ) -> i32;
-    pub(crate) fn mst_sharded_try_remove(
-        handle: *mut ShardedHand,
-        key: *const u8,
-        key_length: usize,
-        room: *mut u8,
-        room_length: usize,
-    ) -> i32;
-    pub(crate) fn mst_sharded_put(
-        handle: *mut ShardedHand,
-        key: *const u8,
-        key_length: usize,
-        value: *const u8,
-        value_length: usize,
-        room: *mut u8,
-        room_length: usize,
-    ) -> i32;
-    pub(crate) fn mst_sharded_remove(
-        handle: *mut ShardedHand,
-        key: *const u8,
-        key_length: usize,
-        room: *mut u8,
-        room_length: usize,
-    ) -> i32;
-    pub(crate) fn mst_sharded_snapshot(handle: *mut ShardedHand) -> i32;
-    pub(crate) fn mst_sharded_release(handle: *mut ShardedHand) -> i32;
-    pub(crate) fn mst_sharded_root(
-        handle: *mut ShardedHand,
-        root: *mut u8,
-        root_length: usize,
-    ) -> i32;
-    pub(crate) fn mst_sharded_prove(
-        handle: *mut ShardedHand,
-        key: *const u8,
-        key_length: usize,
-        room: *mut u8,
-        room_length: usize,
-        length: *mut usize,
     ) -> i32;
     pub(crate) fn mst_sharded_next(
-        handle: *mut ShardedHand,
+        reader: *mut ShardedHand,
         key: *const u8,
         key_length: usize,
         key_room: *mut u8,
@@ -141,7 +75,7 @@ extern "C" {
         room_length: usize,
     ) -> i32;
     pub(crate) fn mst_sharded_range(
-        handle: *mut ShardedHand,
+        reader: *mut ShardedHand,
         from: *const u8,
         from_length: usize,
         to: *const u8,
@@ -152,41 +86,31 @@ extern "C" {
         count: *mut usize,
         length: *mut usize,
     ) -> i32;
-    pub(crate) fn mst_sharded_version_at(
+    pub(crate) fn mst_sharded_format(reader: *mut ShardedHand) -> i32;
+    pub(crate) fn mst_sharded_root(
         handle: *mut ShardedHand,
-        shard: usize,
-        version: *mut u64,
+        root: *mut u8,
+        root_length: usize,
     ) -> i32;
-    pub(crate) fn mst_sharded_format(handle: *mut ShardedHand) -> i32;
+    pub(crate) fn mst_sharded_prove(
+        reader: *mut ShardedHand,
+        key: *const u8,
+        key_length: usize,
+        room: *mut u8,
+        room_length: usize,
+        length: *mut usize,
+    ) -> i32;
     pub(crate) fn mst_sharded_directory(
-        handle: *mut ShardedHand,
+        reader: *mut ShardedHand,
         room: *mut u8,
         room_length: usize,
         count: *mut usize,
         length: *mut usize,
     ) -> i32;
-    pub(crate) fn mst_sharded_try_apply(
-        handle: *mut ShardedHand,
-        edits: *const u8,
-        length: usize,
-        place: *mut usize,
+    pub(crate) fn mst_sharded_copy(
+        snapshot: *mut ShardedHand,
+        writer: *mut ShardedHand,
         shard: *mut usize,
-    ) -> i32;
-    pub(crate) fn mst_sharded_apply(
-        handle: *mut ShardedHand,
-        edits: *const u8,
-        length: usize,
-        place: *mut usize,
-        shard: *mut usize,
-    ) -> i32;
-    pub(crate) fn mst_sharded_try_migrate(
-        handle: *mut ShardedHand,
-        format: u32,
-        stopped: *mut usize,
-    ) -> i32;
-    pub(crate) fn mst_sharded_migrate(
-        handle: *mut ShardedHand,
-        format: u32,
-        stopped: *mut usize,
+        number: *mut u64,
     ) -> i32;
 }

@@ -250,3 +250,20 @@ impl<R: Reads> Iterator for Items<'_, R> {
 }
 
 impl<R: Reads> FusedIterator for Items<'_, R> {}
+
+/// The pairs that a call lists. A snapshot stays, so the second room is long enough.
+pub(crate) fn listed(
+    call: impl Fn(&mut [u8], &mut usize, &mut usize) -> i32,
+) -> Result<Vec<Pair>, Error> {
+    let (mut count, mut length) = (0, 0);
+    let mut room = vec![0; 64 * PAIR_LONGEST];
+    let mut code = call(&mut room, &mut count, &mut length);
+    if code == raw::SHORT_ROOM {
+        room.resize(length, 0);
+        code = call(&mut room, &mut count, &mut length);
+    }
+    match code {
+        0 => Ok(pairs(&room, count)),
+        code => Err(Error::of(code)),
+    }
+}

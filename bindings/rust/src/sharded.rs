@@ -1,52 +1,54 @@
-//! Sharded maps: one map over many stores, each for an interval of keys, with one root digest.
-use crate::raw::{ABSENT, SHORT_ROOM};
+//! Sharded maps: one map over many stores, its shards, each for an interval of keys.
+//!
+//! The [`Writer`] of a map alone makes blocks: a block is edits of all shards as one version of the
+//! whole map, with one number and one root digest, made whole or not at all. Each [`Reader`] takes
+//! snapshots, each of exactly one block, unless SHA-256 collides. They may be sent to other threads,
+//! one to each, and close when they are dropped. The map is freed with the last of them.
+//!
+//! ```
+//! use mst_store::sharded;
+//! use mst_store::Edit::{Put, Remove};
+//! use mst_store::Format;
+//!
+//! let (mut writer, mut readers) = sharded::open(Format::One, 1000, 1, &[b"m"])?; // two shards
+//! assert_eq!(writer.apply(&[Put(b"apple", b"30"), Remove(b"pear")]).unwrap(), 1);
+//! let mut then = readers[0].snapshot();
+//! assert_eq!(then.number(), 1);
+//! assert_eq!(then.root(), writer.root());
+//! assert_eq!(then.get(b"apple")?, Some(b"30".to_vec()));
+//! # Ok::<(), mst_store::Error>(())
+//! ```
+//!
+//! A snapshot takes its reader until it is dropped:
+//!
+//! ```compile_fail
+//! # use mst_store::{sharded, Format};
+//! let (_, mut readers) = sharded::open(Format::One, 1000, 1, &[]).unwrap();
+//! let then = readers[0].snapshot();
+//! readers[0].get(b"apple");
+//! drop(then);
+//! ```
+use crate::raw::SHORT_ROOM;
 use crate::raw_sharded::{self as raw, ShardedHand};
-use crate::{edits, reads, Edit, Pair, Stopped};
-use crate::{Error, Format, TryError, KEY_LONGEST, ROOT_LENGTH, VALUE_LONGEST};
+use crate::{edits, reads, Edit, Error, Format, Pair, KEY_LONGEST, ROOT_LENGTH, VALUE_LONGEST};
 use std::fmt;
 
-/// A handle of a sharded map: one thread's at a time, with reads of the current version of a key's
-/// shard, writes there, and snapshots.
-///
-/// It may be sent to another thread, and closes when it is dropped. The map is freed with its last
-/// handle.
-///
-/// ```
-/// let mut handles = mst_store::open_sharded(mst_store::Format::One, 1000, 2, &[b"h", b"p"])?;
-/// let mut reader = handles.pop().unwrap();
-/// let mut writer = handles.pop().unwrap();
-/// writer.put(b"apple", b"30")?;
-/// let mut then = reader.snapshot();
-/// writer.put(b"apple", b"31")?;
-/// assert_eq!(then.get(b"apple")?, Some(b"30".to_vec()));
-/// assert_eq!(then.root()?.len(), 32);
-/// # Ok::<(), mst_store::Error>(())
-/// ```
-pub struct Handle {
-    hand: ShardedHand,
-    room: Vec<u8>,
-}
-
-impl fmt::Debug for Handle {
-    fn fmt(&self, out: &mut fmt::Formatter<'_>) -> fmt::Result {
-        out.debug_tuple("Handle").field(&self.hand).finish()
-    }
-}
-
-/// Opens a sharded map of the empty map, and returns its handles, as many as are asked for.
+/// Opens a sharded map of the empty map, which is block 0, and returns its writer and its readers,
+/// as many as are asked for.
 ///
 /// The splits are at most 1,023 keys that rise strictly, from above that of one zero byte: the keys
 /// from one of them on, and below the next, are those of a shard. Each shard has 4 to 65,535 rows,
-/// and there are 1 to 32 handles.
-pub fn open_sharded(
+/// and there are 0 to 31 readers. The map keeps its format; [`Snapshot::copy_to`] copies it to a map
+/// of another.
+pub fn open(
     format: Format,
     rows: u32,
-    handles: usize,
+    readers: usize,
     splits: &[&[u8]],
-) -> Result<Vec<Handle>, Error> {
+) -> Result<(Writer, Vec<Reader>), Error> {
     // 33 hands are as refused as any greater number, and take no room.
-    let count = handles.min(33);
-    let packed = packed(splits);
+    let count = readers.min(32) + 1;
+    let packed = edits::splits(splits);
     let mut hands: Vec<ShardedHand> = (0..count).map(|_| ShardedHand::EMPTY).collect();
     // Safety: the hands are empty, and there are `count` of them; the bytes are valid for their
     // length.
@@ -60,177 +62,217 @@ pub fn open_sharded(
             count,
         )
     };
-    match code {
-        0 => Ok(hands.into_iter().map(|hand| Handle { hand, room: Vec::new() }).collect()),
-        code => Err(Error::of(code)),
+    if code != 0 {
+        return Err(Error::of(code));
+    }
+    let writer = Writer { hand: hands.remove(0) };
+    Ok((writer, hands.into_iter().map(|hand| Reader { hand, room: Vec::new() }).collect()))
+}
+
+/// Why a block was not made: nothing has changed in any shard.
+#[derive(Debug, Clone, Copy, PartialEq, Eq, Hash)]
+pub struct BlockError {
+    /// The number of the shard that refused its edits, from 0. None if a key or a value has a bad
+    /// length, if the directory of the shards refused its own edits, or if there was no memory for
+    /// the lists of the edits.
+    pub shard: Option<usize>,
+    /// Why the block was refused.
+    pub error: Error,
+}
+
+impl fmt::Display for BlockError {
+    fn fmt(&self, out: &mut fmt::Formatter<'_>) -> fmt::Result {
+        match self.shard {
+            Some(shard) => write!(out, "shard {shard}: {}", self.error),
+            None => self.error.fmt(out),
+        }
     }
 }
 
-/// The splits as mst_sharded_open and mst_blocks_open take them. A key that is too long is refused by its length.
-pub(crate) fn packed(splits: &[&[u8]]) -> Vec<u8> {
-    let mut bytes = Vec::new();
-    for split in splits {
-        bytes.push(split.len().min(255) as u8);
-        bytes.extend_from_slice(&split[..split.len().min(KEY_LONGEST)]);
+impl std::error::Error for BlockError {
+    fn source(&self) -> Option<&(dyn std::error::Error + 'static)> {
+        Some(&self.error)
     }
-    bytes
 }
 
-impl Handle {
+/// The number of the writer's last block, or of a snapshot's.
+fn number_of(hand: &mut ShardedHand) -> u64 {
+    let mut number = 0;
+    // Safety: both pointers are valid.
+    let code = unsafe { raw::mst_sharded_number(hand, &mut number) };
+    // The hand holds the writer or a snapshot, so nothing is refused.
+    assert_eq!(code, 0, "the library and this crate do not fit");
+    number
+}
+
+/// The root digest of the writer's last block, or of a snapshot's.
+fn root_of(hand: &mut ShardedHand) -> [u8; ROOT_LENGTH] {
+    let mut root = [0; ROOT_LENGTH];
+    // Safety: the root is no other's.
+    let code = unsafe { raw::mst_sharded_root(hand, root.as_mut_ptr(), root.len()) };
+    // As for the number, and the root is long enough.
+    assert_eq!(code, ROOT_LENGTH as i32, "the library and this crate do not fit");
+    root
+}
+
+fn value_of(hand: &mut ShardedHand, key: &[u8]) -> Result<Option<Vec<u8>>, Error> {
+    let mut room = [0; VALUE_LONGEST];
+    // Safety: each pointer is valid for the length that goes with it, and the room is no other's.
+    let code = unsafe {
+        raw::mst_sharded_get(hand, key.as_ptr(), key.len(), room.as_mut_ptr(), room.len())
+    };
+    reads::value(code, &room).map_err(Error::of)
+}
+
+fn shards_of(hand: &mut ShardedHand) -> usize {
+    // Safety: the hand is valid, and holds something, so the answer is 1 to 1,024.
+    unsafe { raw::mst_sharded_shards(hand) as usize }
+}
+
+/// The writer of a sharded map, which alone makes its blocks: one thread's at a time.
+///
+/// Once it is dropped, no more blocks are made, and the readers go on.
+#[derive(Debug)]
+pub struct Writer {
+    hand: ShardedHand,
+}
+
+impl Writer {
     /// Returns how many shards there are.
     pub fn shards(&mut self) -> usize {
-        // Safety: the hand is valid, and holds a handle, so the answer is 1 to 1,024.
-        unsafe { raw::mst_sharded_shards(&mut self.hand) as usize }
+        shards_of(&mut self.hand)
     }
 
-    /// Returns the value of the key, or None if the key is absent.
-    pub fn get(&mut self, key: &[u8]) -> Result<Option<Vec<u8>>, Error> {
-        let mut room = [0; VALUE_LONGEST];
-        // Safety: each pointer is valid for the length that goes with it, and the room is no
-        // other's.
-        let code = unsafe {
-            raw::mst_sharded_get(
-                &mut self.hand,
-                key.as_ptr(),
-                key.len(),
-                room.as_mut_ptr(),
-                room.len(),
-            )
-        };
-        reads::value(code, &room).map_err(Error::of)
-    }
-
-    /// Gives the key the value. Returns the value before, or None if the key is new; `Busy` if
-    /// another handle has the turn of the key's shard.
-    pub fn try_put(&mut self, key: &[u8], value: &[u8]) -> Result<Option<Vec<u8>>, TryError> {
-        self.put_by(raw::mst_sharded_try_put, key, value).map_err(TryError::of)
-    }
-
-    /// Takes the key out. Returns the value that it had, or None if it was absent; `Busy` if
-    /// another handle has the turn of the key's shard.
-    pub fn try_remove(&mut self, key: &[u8]) -> Result<Option<Vec<u8>>, TryError> {
-        self.remove_by(raw::mst_sharded_try_remove, key).map_err(TryError::of)
-    }
-
-    /// As [`Handle::try_put`], but waits for the turn.
-    pub fn put(&mut self, key: &[u8], value: &[u8]) -> Result<Option<Vec<u8>>, Error> {
-        self.put_by(raw::mst_sharded_put, key, value).map_err(Error::of)
-    }
-
-    /// As [`Handle::try_remove`], but waits for the turn.
-    pub fn remove(&mut self, key: &[u8]) -> Result<Option<Vec<u8>>, Error> {
-        self.remove_by(raw::mst_sharded_remove, key).map_err(Error::of)
-    }
-
-    fn put_by(&mut self, put: raw::Put, key: &[u8], value: &[u8]) -> Result<Option<Vec<u8>>, i32> {
-        let mut room = [0; VALUE_LONGEST];
-        // Safety: as in get.
-        let code = unsafe {
-            put(
-                &mut self.hand,
-                key.as_ptr(),
-                key.len(),
-                value.as_ptr(),
-                value.len(),
-                room.as_mut_ptr(),
-                room.len(),
-            )
-        };
-        reads::value(code, &room)
-    }
-
-    fn remove_by(&mut self, remove: raw::Remove, key: &[u8]) -> Result<Option<Vec<u8>>, i32> {
-        let mut room = [0; VALUE_LONGEST];
-        // Safety: as in get.
-        let code = unsafe {
-            remove(&mut self.hand, key.as_ptr(), key.len(), room.as_mut_ptr(), room.len())
-        };
-        reads::value(code, &room)
-    }
-
-    /// Makes the edits, those of each shard as one version of that shard, one shard after the
-    /// other; of those of one key the last decides. Those of shards before `from` are passed over,
-    /// so that a call may go on where one stopped. `Busy` if another handle has the turn of a
-    /// shard.
-    pub fn try_apply(&mut self, edits: &[Edit<'_>], from: usize) -> Result<(), Stopped<TryError>> {
-        self.apply_by(raw::mst_sharded_try_apply, edits, from)
-            .map_err(|(code, place, shard)| Stopped { shard, error: TryError::of(code).at(place) })
-    }
-
-    /// As [`Handle::try_apply`], but waits for the turn of each shard.
-    pub fn apply(&mut self, edits: &[Edit<'_>], from: usize) -> Result<(), Stopped<Error>> {
-        self.apply_by(raw::mst_sharded_apply, edits, from)
-            .map_err(|(code, place, shard)| Stopped { shard, error: Error::of(code).at(place) })
-    }
-
-    /// A refusal is a number, with the place of the edit, if it is that of one, and the shard from
-    /// which on no edits are made.
-    fn apply_by(
-        &mut self,
-        apply: raw::Apply,
-        edits: &[Edit<'_>],
-        from: usize,
-    ) -> Result<(), (i32, usize, usize)> {
+    /// Makes the edits of all shards as the next block, and returns its number: one more than that
+    /// of the block before. Of those of one key the last decides. Readers see none of them before
+    /// all are made. No edits make a block too.
+    ///
+    /// If the block is refused, nothing has changed in any shard.
+    pub fn apply(&mut self, edits: &[Edit<'_>]) -> Result<u64, BlockError> {
         let packed = edits::packed(edits);
-        let (mut place, mut shard) = (0, from);
+        let (mut place, mut number) = (0, 0);
+        let mut shard = usize::MAX;
         // Safety: the bytes are valid for their length, and so are the other pointers.
-        let code =
-            unsafe { apply(&mut self.hand, packed.as_ptr(), packed.len(), &mut place, &mut shard) };
-        match code {
-            0 => Ok(()),
-            code => Err((code, place, shard)),
-        }
-    }
-
-    /// Turns each shard to a format, one after the other. Returns `Busy` if another handle has the
-    /// turn of one. If a shard refuses it, those before it are migrated, and those behind it were
-    /// not tried.
-    pub fn try_migrate(&mut self, to: Format) -> Result<(), TryError> {
-        self.migrate_by(raw::mst_sharded_try_migrate, to).map_err(TryError::of)
-    }
-
-    /// As [`Handle::try_migrate`], but waits for the turn of each shard.
-    pub fn migrate(&mut self, to: Format) -> Result<(), Error> {
-        self.migrate_by(raw::mst_sharded_migrate, to).map_err(Error::of)
-    }
-
-    fn migrate_by(&mut self, migrate: raw::Migrate, to: Format) -> Result<(), i32> {
-        let mut stopped = 0;
-        // Safety: both pointers are valid.
-        match unsafe { migrate(&mut self.hand, to.number(), &mut stopped) } {
-            0 => Ok(()),
-            code => Err(code),
-        }
-    }
-
-    /// Pins the current version of each shard, one shard after the other: until the result is
-    /// dropped, each read by it is of these.
-    pub fn snapshot(&mut self) -> Snapshot<'_> {
-        // Safety: the hand is valid. If it is a snapshot already, a Snapshot was leaked: its pins
-        // end here.
         let code = unsafe {
-            if raw::mst_sharded_snapshot(&mut self.hand) == 0 {
-                0
-            } else {
-                raw::mst_sharded_release(&mut self.hand);
-                raw::mst_sharded_snapshot(&mut self.hand)
-            }
+            raw::mst_sharded_apply(
+                &mut self.hand,
+                packed.as_ptr(),
+                packed.len(),
+                &mut place,
+                &mut shard,
+                &mut number,
+            )
         };
+        self.made(code, number, shard).map_err(|it| BlockError { error: it.error.at(place), ..it })
+    }
+
+    /// The number of a block that a call has made, or why it has not: one that it does not tell is
+    /// no shard's.
+    fn made(&mut self, code: i32, number: u64, shard: usize) -> Result<u64, BlockError> {
+        match code {
+            0 => Ok(number),
+            code => {
+                let shard = (shard < self.shards()).then_some(shard);
+                Err(BlockError { shard, error: Error::of(code) })
+            }
+        }
+    }
+
+    /// Returns the value of the key in the last block, or None if the key is absent: so a block can
+    /// depend on what the map has.
+    pub fn get(&mut self, key: &[u8]) -> Result<Option<Vec<u8>>, Error> {
+        value_of(&mut self.hand, key)
+    }
+
+    /// Returns the number of the last block; 0 is that of the empty map.
+    pub fn number(&mut self) -> u64 {
+        number_of(&mut self.hand)
+    }
+
+    /// Returns the root digest of all shards after the last block, as a snapshot of it has it.
+    pub fn root(&mut self) -> [u8; ROOT_LENGTH] {
+        root_of(&mut self.hand)
+    }
+}
+
+/// A reader of a sharded map: one thread's at a time. It takes snapshots, one at a time.
+pub struct Reader {
+    hand: ShardedHand,
+    room: Vec<u8>,
+}
+
+impl fmt::Debug for Reader {
+    fn fmt(&self, out: &mut fmt::Formatter<'_>) -> fmt::Result {
+        out.debug_tuple("Reader").field(&self.hand).finish()
+    }
+}
+
+impl Reader {
+    /// Returns how many shards there are.
+    pub fn shards(&mut self) -> usize {
+        shards_of(&mut self.hand)
+    }
+
+    /// Returns the value that the key has now, or None if the key is absent. Two such reads need
+    /// not be of one block.
+    pub fn get(&mut self, key: &[u8]) -> Result<Option<Vec<u8>>, Error> {
+        value_of(&mut self.hand, key)
+    }
+
+    /// Returns a snapshot of one block, or None while a block is just being published.
+    pub fn try_snapshot(&mut self) -> Option<Snapshot<'_>> {
+        self.end_a_leaked_snapshot();
+        // Safety: the hand is valid.
+        match unsafe { raw::mst_sharded_try_snapshot(&mut self.hand) } {
+            0 => Some(Snapshot(self)),
+            // The hand holds a reader, so nothing else is refused.
+            code => {
+                assert_eq!(code, raw::MOVING, "the library and this crate do not fit");
+                None
+            }
+        }
+    }
+
+    /// As [`Reader::try_snapshot`], but tries again while a block is being published. It is not
+    /// promised when a try falls between two blocks; and if the writer's thread has died within
+    /// [`Writer::apply`], none may.
+    pub fn snapshot(&mut self) -> Snapshot<'_> {
+        self.end_a_leaked_snapshot();
+        // Safety: the hand is valid.
+        let code = unsafe { raw::mst_sharded_snapshot(&mut self.hand) };
+        // As in try_snapshot.
         assert_eq!(code, 0, "the library and this crate do not fit");
         Snapshot(self)
     }
+
+    /// If a [`Snapshot`] was leaked, the hand still holds it. A reader is refused with no effect.
+    fn end_a_leaked_snapshot(&mut self) {
+        // Safety: the hand is valid.
+        unsafe { raw::mst_sharded_release(&mut self.hand) };
+    }
 }
 
-/// A handle while it pins a version of each shard: it has reads alone. The pins end when it is
-/// dropped.
+/// A reader while it has a snapshot of exactly one block, unless SHA-256 collides: all reads are of
+/// this block. Its pins end when it is dropped.
 #[derive(Debug)]
 #[must_use = "the pins end when this is dropped"]
-pub struct Snapshot<'a>(&'a mut Handle);
+pub struct Snapshot<'a>(&'a mut Reader);
 
 impl Snapshot<'_> {
     /// Returns how many shards there are.
     pub fn shards(&mut self) -> usize {
         self.0.shards()
+    }
+
+    /// Returns the number of the block: how many blocks led to this map.
+    pub fn number(&mut self) -> u64 {
+        number_of(&mut self.0.hand)
+    }
+
+    /// Returns the root digest of all shards. It depends on their pairs, their format and the
+    /// splits alone.
+    pub fn root(&mut self) -> [u8; ROOT_LENGTH] {
+        root_of(&mut self.0.hand)
     }
 
     /// Returns the value of the key, or None if the key is absent.
@@ -264,7 +306,7 @@ impl Snapshot<'_> {
     pub fn range(&mut self, from: &[u8], to: &[u8], limit: usize) -> Result<Vec<Pair>, Error> {
         let hand: *mut ShardedHand = &mut self.0.hand;
         let limit = u32::try_from(limit).unwrap_or(u32::MAX);
-        listed(|room, count, length| {
+        reads::listed(|room, count, length| {
             // Safety: as in next.
             unsafe {
                 raw::mst_sharded_range(
@@ -287,7 +329,7 @@ impl Snapshot<'_> {
     /// which is empty if there is none: the pairs whose root digest is that of the snapshot.
     pub fn directory(&mut self) -> Result<Vec<Pair>, Error> {
         let hand: *mut ShardedHand = &mut self.0.hand;
-        listed(|room, count, length| {
+        reads::listed(|room, count, length| {
             // Safety: as in next.
             unsafe {
                 raw::mst_sharded_directory(hand, room.as_mut_ptr(), room.len(), count, length)
@@ -295,39 +337,17 @@ impl Snapshot<'_> {
         })
     }
 
-    /// Returns the number of the version that is pinned of a shard, from 0; None if there is no
-    /// such shard.
-    pub fn version_at(&mut self, shard: usize) -> Option<u64> {
-        let mut number = 0;
-        // Safety: both pointers are valid.
-        match unsafe { raw::mst_sharded_version_at(&mut self.0.hand, shard, &mut number) } {
-            ABSENT => None,
-            _ => Some(number),
-        }
-    }
-
-    /// Returns the format of the versions, in which the root digest and the proofs are.
-    pub fn format(&mut self) -> Result<Format, Error> {
-        // Safety: the hand is valid.
+    /// Returns the format of the map, in which the root digest and the proofs are.
+    pub fn format(&mut self) -> Format {
+        // Safety: the hand is valid. It holds a snapshot, so nothing is refused.
         let code = unsafe { raw::mst_sharded_format(&mut self.0.hand) };
-        Format::told(code).map_err(Error::of)
-    }
-
-    /// Returns the root digest of all shards. It depends on their pairs, their format and the
-    /// splits alone.
-    pub fn root(&mut self) -> Result<[u8; ROOT_LENGTH], Error> {
-        let mut root = [0; ROOT_LENGTH];
-        // Safety: the root is no other's.
-        match unsafe { raw::mst_sharded_root(&mut self.0.hand, root.as_mut_ptr(), root.len()) } {
-            0.. => Ok(root),
-            code => Err(Error::of(code)),
-        }
+        Format::told(code).expect("the library and this crate have the same formats")
     }
 
     /// Returns the proof of the key's answer, for a verifier of sharded maps and the format and the
     /// root digest of this snapshot.
     pub fn prove(&mut self, key: &[u8]) -> Result<Vec<u8>, Error> {
-        let Handle { hand, room } = &mut *self.0;
+        let Reader { hand, room } = &mut *self.0;
         if room.is_empty() {
             room.resize(4096, 0);
         }
@@ -351,22 +371,22 @@ impl Snapshot<'_> {
             }
         }
     }
-}
 
-/// The pairs that a call lists. A snapshot stays, so the second room is long enough.
-pub(crate) fn listed(
-    call: impl Fn(&mut [u8], &mut usize, &mut usize) -> i32,
-) -> Result<Vec<Pair>, Error> {
-    let (mut count, mut length) = (0, 0);
-    let mut room = vec![0; 64 * reads::PAIR_LONGEST];
-    let mut code = call(&mut room, &mut count, &mut length);
-    if code == SHORT_ROOM {
-        room.resize(length, 0);
-        code = call(&mut room, &mut count, &mut length);
-    }
-    match code {
-        0 => Ok(reads::pairs(&room, count)),
-        code => Err(Error::of(code)),
+    /// Puts all pairs, as one block, into another sharded map, by its writer, and returns the number
+    /// of this block. The other map may be of the other format, with other splits, or with more
+    /// rows: so a map is migrated, split anew, or enlarged, while its readers go on. Keys that the
+    /// other map has besides keep their values. Blocks that are made after the snapshot are not
+    /// copied.
+    ///
+    /// If the block is refused, nothing has changed in any shard. There may also be no memory for
+    /// the list of all pairs.
+    pub fn copy_to(&mut self, writer: &mut Writer) -> Result<u64, BlockError> {
+        let (mut shard, mut number) = (usize::MAX, 0);
+        // Safety: both hands are valid, and so are the other pointers.
+        let code = unsafe {
+            raw::mst_sharded_copy(&mut self.0.hand, &mut writer.hand, &mut shard, &mut number)
+        };
+        writer.made(code, number, shard)
     }
 }
 

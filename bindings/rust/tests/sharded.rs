@@ -1,140 +1,246 @@
-//! Answers of sharded maps, compared with those of a BTreeMap.
+//! Sharded maps, compared with BTreeMaps: what a snapshot has is what one block left, and so has a
+//! copy of it.
+use mst_store::sharded::{self, BlockError, Reader, Snapshot, Writer};
 use mst_store::Edit::{Put, Remove};
-use mst_store::{open_sharded, Error, Format, Handle, Stopped, TryError};
+use mst_store::{Edit, Error, Format};
 use std::collections::BTreeMap;
+use std::sync::{Arc, Mutex};
 use std::thread;
 
+type Map = BTreeMap<Vec<u8>, Vec<u8>>;
+
+/// A key with its new value, or with None to take it out.
+type Change = (Vec<u8>, Option<Vec<u8>>);
+
+/// What the writer tells of a block.
+type Told = (u64, [u8; 32]);
+
 /// Keys of one byte, in 16 shards.
-fn splits() -> Vec<Vec<u8>> {
-    (1..16).map(|number| vec![16 * number]).collect()
-}
-
-fn opened(format: Format, rows: u32, handles: usize) -> Vec<Handle> {
-    let splits = splits();
+fn opened(format: Format, rows: u32, readers: usize) -> (Writer, Vec<Reader>) {
+    let splits: Vec<Vec<u8>> = (1..16).map(|number| vec![16 * number]).collect();
     let parts: Vec<&[u8]> = splits.iter().map(Vec::as_slice).collect();
-    open_sharded(format, rows, handles, &parts).unwrap()
+    sharded::open(format, rows, readers, &parts).unwrap()
 }
 
-#[test]
-fn answers_are_those_of_a_map() {
-    let mut handles = opened(Format::One, 256, 2);
-    let (mut reader, mut writer) = (handles.remove(0), handles.remove(0));
-    let (mut map, mut seed) = (BTreeMap::new(), 7u64);
-    assert_eq!((reader.shards(), writer.shards()), (16, 16));
-    for step in 0..4000u64 {
-        seed = seed.wrapping_mul(6364136223846793005).wrapping_add(1442695040888963407);
-        let key = vec![(seed >> 40) as u8];
-        if seed >> 62 == 0 {
-            assert_eq!(writer.remove(&key), Ok(map.remove(&key)));
-        } else {
-            let value = step.to_be_bytes().to_vec();
-            assert_eq!(writer.put(&key, &value), Ok(map.insert(key.clone(), value)));
-        }
-        assert_eq!(reader.get(&key), Ok(map.get(&key).cloned()));
+/// Numbers that look random, from a seed.
+fn next_of(seed: &mut u64) -> u64 {
+    *seed = seed.wrapping_mul(6364136223846793005).wrapping_add(1442695040888963407);
+    *seed >> 33
+}
+
+/// Up to 23 changes, some of one key.
+fn changes(seed: &mut u64) -> Vec<Change> {
+    let count = next_of(seed) % 24;
+    let mut one = || {
+        let (key, value) = (next_of(seed) as u8, next_of(seed));
+        (vec![key], (value % 3 > 0).then(|| value.to_be_bytes().to_vec()))
+    };
+    (0..count).map(|_| one()).collect()
+}
+
+fn edits(changes: &[Change]) -> Vec<Edit<'_>> {
+    changes
+        .iter()
+        .map(|(key, value)| match value {
+            Some(value) => Put(key, value),
+            None => Remove(key),
+        })
+        .collect()
+}
+
+/// Makes a block of changes, in a map too.
+fn makes(writer: &mut Writer, map: &mut Map, seed: &mut u64) -> Told {
+    let (changes, before) = (changes(seed), writer.number());
+    assert_eq!(writer.apply(&edits(&changes)), Ok(before + 1));
+    for (key, value) in changes {
+        match value {
+            Some(value) => map.insert(key, value),
+            None => map.remove(&key),
+        };
     }
-    let mut then = reader.snapshot();
-    let root = then.root().unwrap();
+    assert!((0..=255).all(|byte| writer.get(&[byte]) == Ok(map.get(&vec![byte]).cloned())));
+    (writer.number(), writer.root())
+}
+
+fn shows(then: &mut Snapshot<'_>, told: Told, map: &Map) {
+    assert_eq!((then.number(), then.root()), told);
     for key in 0..=255u8 {
-        writer.put(&[key], b"later").unwrap();
         assert_eq!(then.get(&[key]), Ok(map.get(&vec![key]).cloned()));
     }
-    assert_eq!(then.root(), Ok(root));
-    assert!(!then.prove(b"a").unwrap().is_empty());
     let pairs: Vec<_> = map.clone().into_iter().collect();
-    assert_eq!(then.range(b"", b"", usize::MAX), Ok(pairs.clone()));
-    assert_eq!(then.range(&pairs[3].0, b"", 2), Ok(pairs[3..5].to_vec()));
     assert_eq!(then.next(b""), Ok(pairs.first().cloned()));
-    assert_eq!(then.next(&[255, 255]), Ok(None));
-    assert_eq!((then.format(), then.directory().unwrap().len()), (Ok(Format::One), 16));
-    assert!(then.version_at(15).is_some() && then.version_at(16).is_none());
-    drop(then);
-    assert_eq!(reader.get(b"a"), Ok(Some(b"later".to_vec())));
+    assert_eq!(then.range(b"0", b"p", 9).unwrap().len(), pairs_within(map).min(9));
+    assert_eq!(then.range(b"", b"", usize::MAX), Ok(pairs));
+}
+
+fn pairs_within(map: &Map) -> usize {
+    map.range(b"0".to_vec()..b"p".to_vec()).count()
 }
 
 #[test]
-fn migrations_keep_snapshots() {
-    let mut handles = opened(Format::One, 256, 2);
-    let (mut reader, mut writer) = (handles.remove(0), handles.remove(0));
-    writer.put(b"a", b"1").unwrap();
-    let mut then = reader.snapshot();
-    writer.migrate(Format::Two).unwrap();
-    assert_eq!(then.format(), Ok(Format::One));
-    drop(then);
-    assert_eq!(reader.snapshot().format(), Ok(Format::Two));
-    assert_eq!(reader.get(b"a"), Ok(Some(b"1".to_vec())));
+fn each_snapshot_keeps_its_block() {
+    for format in [Format::One, Format::Two] {
+        let (mut writer, mut readers) = opened(format, 256, 2);
+        let (mut keeper, mut other) = (readers.remove(0), readers.remove(0));
+        let (mut map, mut seed) = (Map::new(), 7);
+        let mut told = (writer.number(), writer.root());
+        assert_eq!((told.0, writer.shards(), keeper.shards()), (0, 16, 16));
+        for _ in 0..30 {
+            let (kept, kept_told) = (map.clone(), told);
+            let mut then = keeper.snapshot();
+            for _ in 0..4 {
+                told = makes(&mut writer, &mut map, &mut seed);
+                shows(&mut other.try_snapshot().unwrap(), told, &map);
+            }
+            shows(&mut then, kept_told, &kept);
+            assert_eq!((then.format(), then.shards()), (format, 16));
+            assert_eq!(then.directory().unwrap().len(), 16);
+            assert!(!then.prove(b"a").unwrap().is_empty());
+        }
+        assert_eq!(keeper.get(b"a"), Ok(map.get(&b"a".to_vec()).cloned()));
+    }
 }
 
 #[test]
-fn refusals() {
-    let of = |splits: &[&[u8]]| open_sharded(Format::One, 16, 1, splits).map(|_| ()).unwrap_err();
+fn a_refused_block_changes_no_shard() {
+    let (mut writer, mut readers) = sharded::open(Format::Two, 12, 2, &[b"b", b"c", b"d"]).unwrap();
+    let (mut reader, mut other) = (readers.remove(0), readers.remove(0));
+    assert_eq!(writer.apply(&[Put(b"a", b"old"), Put(b"c", b"old")]), Ok(1));
+    let (root, mut then) = (writer.root(), other.snapshot());
+    // the third shard has no rows for its edits
+    let keys: Vec<_> = (0..12).map(|last| [b'c', last]).collect();
+    let mut edits = vec![Put(b"d", b"1"), Put(b"a", b"1")];
+    edits.extend(keys.iter().map(|key| Put(key, b"1")));
+    let refused = BlockError { shard: Some(2), error: Error::NoFreeRows };
+    assert_eq!(refused.to_string(), format!("shard 2: {}", Error::NoFreeRows));
+    for _ in 0..3 {
+        assert_eq!(writer.apply(&edits), Err(refused));
+        assert_eq!((writer.number(), writer.root()), (1, root));
+        assert_eq!((reader.get(b"a"), reader.get(b"d")), (Ok(Some(b"old".to_vec())), Ok(None)));
+        let mut now = reader.snapshot();
+        assert_eq!((now.number(), now.root()), (1, root));
+    }
+    assert_eq!(writer.apply(&[Put(b"a", b"new"), Put(b"d", b"new")]), Ok(2));
+    assert_eq!((then.get(b"a"), then.get(b"d")), (Ok(Some(b"old".to_vec())), Ok(None)));
+    assert_eq!((then.number(), then.root()), (1, root));
+    drop(then);
+    let mut now = other.snapshot();
+    assert_eq!((now.number(), now.root()), (2, writer.root()));
+    assert_eq!(now.get(b"d"), Ok(Some(b"new".to_vec())));
+}
+
+#[test]
+fn a_copy_is_a_map_that_was_filled_directly() {
+    for (from, to) in [(Format::One, Format::Two), (Format::Two, Format::One)] {
+        let (mut writer, mut readers) = opened(from, 256, 1);
+        let (mut map, mut seed) = (Map::new(), 9);
+        for _ in 0..30 {
+            makes(&mut writer, &mut map, &mut seed);
+        }
+        let (mut copied, mut lookers) = sharded::open(to, 999, 1, &[b"a"]).unwrap();
+        let (mut direct, _) = sharded::open(to, 500, 0, &[b"a"]).unwrap();
+        let puts: Vec<_> = map.iter().map(|(key, value)| Put(key, value)).collect();
+        assert_eq!(direct.apply(&puts), Ok(1));
+        let mut then = readers[0].snapshot();
+        assert_eq!(writer.apply(&[Put(b"later", b"1")]), Ok(31));
+        assert_eq!(then.copy_to(&mut copied), Ok(1));
+        let mut now = lookers[0].snapshot();
+        shows(&mut now, (1, direct.root()), &map);
+        assert_eq!((now.format(), now.shards()), (to, 2));
+        // a full map is as it was
+        let (mut full, _) = sharded::open(to, 8, 0, &[b"a"]).unwrap();
+        let refused = then.copy_to(&mut full).unwrap_err();
+        assert_eq!(refused.error, Error::NoFreeRows);
+        assert!(refused.shard.is_some_and(|shard| shard < 2));
+        assert_eq!((full.number(), full.get(b"later")), (0, Ok(None)));
+    }
+}
+
+#[test]
+fn bad_edits_are_told_by_their_places() {
+    let (mut writer, mut readers) = opened(Format::One, 16, 1);
+    let at = |error| Err(BlockError { shard: None, error });
+    assert_eq!(writer.apply(&[Put(b"a", b""), Remove(b"")]), at(Error::BadKeyAt(1)));
+    assert_eq!(writer.apply(&[Put(b"a", &[0; 65])]), at(Error::BadValueAt(0)));
+    assert_eq!(writer.apply(&[Put(b"a", b""), Put(&[1; 33], b"")]), at(Error::BadKeyAt(1)));
+    assert_eq!((writer.number(), readers[0].get(b"a")), (0, Ok(None)));
+    assert_eq!(writer.apply(&[]), Ok(1));
+    let root = writer.root();
+    assert_eq!((writer.apply(&[]), writer.root()), (Ok(2), root));
+}
+
+#[test]
+fn openings_that_are_refused() {
+    let of = |splits: &[&[u8]]| sharded::open(Format::One, 16, 1, splits).map(|_| ()).unwrap_err();
     assert_eq!(of(&[b""]), Error::BadSplits);
-    assert_eq!(of(&[b"\0"]), Error::BadSplits);
     assert_eq!(of(&[b"b", b"b"]), Error::BadSplits);
     assert_eq!(of(&[&[1; 33]]), Error::BadSplits);
     assert_eq!(of(&[&[1; 300]]), Error::BadSplits);
-    assert_eq!(Error::BadSplits.code(), -26);
-    assert_eq!(open_sharded(Format::Two, 3, 1, &[]).map(|_| ()), Err(Error::BadShape));
-    assert_eq!(open_sharded(Format::Two, 16, 33, &[]).map(|_| ()), Err(Error::BadShape));
-    let mut handle = opened(Format::Two, 16, 1).remove(0);
-    assert_eq!(handle.get(b""), Err(Error::BadKey));
-    assert_eq!(handle.put(b"a", &[0; 65]), Err(Error::BadValue));
-    assert_eq!(handle.snapshot().prove(b""), Err(Error::BadKey));
+    let shaped = |rows, readers| sharded::open(Format::Two, rows, readers, &[]).map(|_| ());
+    assert_eq!(shaped(3, 1), Err(Error::BadShape));
+    assert_eq!(shaped(16, 32), Err(Error::BadShape));
+    assert_eq!(shaped(16, usize::MAX), Err(Error::BadShape));
+    assert_eq!((shaped(16, 31), shaped(16, 0)), (Ok(()), Ok(())));
+    assert_eq!((Error::Overtaken.code(), Error::Busy.code()), (-29, -21));
+}
+
+#[test]
+fn readers_go_on_without_a_writer() {
+    fn sent<T: Send>(of: T) -> T {
+        of
+    }
+    let (mut writer, mut readers) = opened(Format::Two, 16, 2);
+    assert_eq!(writer.apply(&[Put(b"a", b"1")]), Ok(1));
+    let root = writer.root();
+    drop(sent(writer));
+    drop(readers.remove(0));
+    let mut reader = sent(readers.remove(0));
     // a snapshot that was leaked ends with the next one
-    std::mem::forget(handle.snapshot());
-    assert_eq!(handle.put(b"a", b"1"), Err(Error::WrongState));
-    drop(handle.snapshot());
-    assert_eq!(handle.put(b"a", b"1"), Ok(None));
-}
-
-#[test]
-fn batches_are_one_version_of_each_shard() {
-    let mut handles = open_sharded(Format::One, 8, 2, &[b"b", b"c", b"d"]).unwrap();
-    let (mut reader, mut writer) = (handles.remove(0), handles.remove(0));
-    let mut edits = vec![Put(b"d", b"1"), Put(b"a", b"1"), Put(b"b", b"1"), Remove(b"b")];
-    assert_eq!(writer.try_apply(&edits, 0), Ok(()));
-    assert_eq!((reader.get(b"a"), reader.get(b"b")), (Ok(Some(b"1".to_vec())), Ok(None)));
-    assert_eq!((writer.apply(&edits, 3), writer.apply(&[], 0)), (Ok(()), Ok(())));
+    std::mem::forget(reader.snapshot());
     let mut then = reader.snapshot();
-    let versions: Vec<_> = (0..4).map(|shard| then.version_at(shard)).collect();
-    assert_eq!(versions, [Some(1), Some(1), Some(0), Some(2)]);
-    drop(then);
-    // the third shard has no rows for its edits
-    let keys: Vec<_> = (0..9).map(|last| [b'c', last]).collect();
-    edits.extend(keys.iter().map(|key| Put(key, b"")));
-    edits.extend([Put(b"a", b"2"), Put(b"d", b"2")]);
-    let stopped = Stopped { shard: 2, error: Error::NoFreeRows };
-    assert_eq!(writer.apply(&edits, 0), Err(stopped));
-    assert_eq!(stopped.to_string(), format!("shard 2: {}", Error::NoFreeRows));
-    assert_eq!(reader.get(b"a"), Ok(Some(b"2".to_vec())));
-    assert_eq!(reader.get(b"d"), Ok(Some(b"1".to_vec())));
-    assert_eq!(writer.try_apply(&edits, 3), Ok(()));
-    assert_eq!(reader.get(b"d"), Ok(Some(b"2".to_vec())));
-    let refused = |shard, error| Err(Stopped { shard, error });
-    assert_eq!(writer.apply(&edits, 4), refused(4, Error::NoShard));
-    assert_eq!(writer.apply(&[Put(b"a", b""), Remove(b"")], 1), refused(1, Error::BadKeyAt(1)));
-    assert_eq!(writer.apply(&[Put(b"a", &[0; 65])], 0), refused(0, Error::BadValueAt(0)));
-    std::mem::forget(writer.snapshot());
-    let pinned = TryError::Refused(Error::WrongState);
-    assert_eq!(writer.try_apply(&[], 0), Err(Stopped { shard: 0, error: pinned }));
+    assert_eq!((then.number(), then.root()), (1, root));
+    assert_eq!((then.get(b"a"), then.get(b"")), (Ok(Some(b"1".to_vec())), Err(Error::BadKey)));
+    assert_eq!((then.prove(b""), then.next(&[1; 33])), (Err(Error::BadKey), Err(Error::BadKey)));
+}
+
+/// Whether a snapshot has the number of its block at each key.
+fn has_one_block(then: &mut Snapshot<'_>) -> bool {
+    let wanted = (then.number() > 0).then(|| then.number().to_be_bytes().to_vec());
+    (0..16u8).all(|shard| then.get(&[16 * shard + 1]) == Ok(wanted.clone()))
+}
+
+/// Reads until the writer has told of so many blocks, and the last one is read.
+fn reads(mut reader: Reader, roots: &Mutex<Vec<[u8; 32]>>, last: u64) {
+    let mut before = 0;
+    while before < last {
+        let mut then = reader.snapshot();
+        assert!(then.number() >= before && has_one_block(&mut then));
+        before = then.number();
+        // the writer tells of a block after it has made it
+        if let Some(root) = roots.lock().unwrap().get(before as usize) {
+            assert_eq!(then.root(), *root);
+        }
+    }
 }
 
 #[test]
-fn threads_write_side_by_side() {
+fn threads_read_while_blocks_are_made() {
+    const LAST: u64 = 2000;
+    let (mut writer, readers) = opened(Format::One, 64, 3);
+    let roots = Arc::new(Mutex::new(vec![writer.root()]));
     let mut threads = Vec::new();
-    let mut handles = opened(Format::One, 1000, 4);
-    let mut last = handles.pop().unwrap();
-    for (at, mut handle) in handles.into_iter().enumerate() {
-        threads.push(thread::spawn(move || {
-            for number in 0..64u8 {
-                handle.put(&[number * 4 + at as u8], &[at as u8]).unwrap();
-            }
-        }));
+    for reader in readers {
+        let roots = Arc::clone(&roots);
+        threads.push(thread::spawn(move || reads(reader, &roots, LAST)));
+    }
+    let keys: Vec<_> = (0..16u8).map(|shard| [16 * shard + 1]).collect();
+    for number in 1..=LAST {
+        let value = number.to_be_bytes();
+        let edits: Vec<_> = keys.iter().map(|key| Put(key, &value)).collect();
+        assert_eq!(writer.apply(&edits), Ok(number));
+        roots.lock().unwrap().push(writer.root());
     }
     for thread in threads {
         thread.join().unwrap();
-    }
-    for number in 0..=255u8 {
-        let wanted = (number % 4 < 3).then(|| vec![number % 4]);
-        assert_eq!(last.get(&[number]), Ok(wanted));
     }
 }

@@ -1,5 +1,5 @@
--- The numbers that only calls of blocks return if they have no answer. `mst_c` has the others, and
--- `include/mst_store.h` has the same names.
+-- The numbers that only calls of sharded maps return if they have no answer. `mst_c` has the rest,
+-- and `include/mst_store.h` has the same names.
 use Rattle.std.specs.Prelude.{ℤ, negsuc}
 
 -- -29: another than the writer of blocks has written

@@ -1,4 +1,4 @@
--- What C is told when a sharded map with blocks is opened.
+-- What C is told when a sharded map is opened.
 use Rattle.std.specs.Prelude.{◌≡◌, ◌<◌, ℕ, List, [], length, get_or, Option, Some, None}
 use Rattle.mst_key.specs.declared.format.Format.{Format}
 use Rattle.mst_words.specs.declared.view.Shape.{Shape}

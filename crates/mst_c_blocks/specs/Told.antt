@@ -1,4 +1,4 @@
--- What C is told by a call of a hand with blocks, and what the hand then holds.
+-- What C is told by a call of a hand of a sharded map, and what the hand then holds.
 use Rattle.std.specs.Prelude.{◌≡◌, ℕ, ℤ, pos, nat_lt, if◌then◌else◌, List, ◌++◌, length, drop, Bool, true, false, Option, Some, None}
 use Rattle.mst_key.specs.Bytes.{IsKey}
 use Rattle.mst_c.specs.Codes.{short_room, bad_key, closed, wrong_state}

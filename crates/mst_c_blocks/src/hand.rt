@@ -1,5 +1,5 @@
-//! What C holds of a sharded map with blocks: a pointer to a box, or null. And the only ways to
-//! take the box out, to put one in, and to let one go. As `hand.rt` of `mst_c` has them for a pass.
+//! What C holds of a sharded map: a pointer to a box, or null. And the only ways to take the box
+//! out, to put one in, and to let one go. As `hand.rt` of `mst_c` has them for a pass.
 ghost use Rattle.std.specs.Prelude.{◌≡◌, Option, Some, None};
 ghost use Rattle.std.specs.Option.{MatchOption};
 ghost use Rattle.mst_c_blocks.specs.Owning.{HeldNow, hand_coded};
@@ -12,7 +12,7 @@ use std::marker::Model;
 use std::mem::replace;
 use std::ptr::null_mut;
 
-/// A hand of a sharded map with blocks. It is no `Drop`, since a derived one would forget the box.
+/// A hand of a sharded map. It is no `Drop`, since a derived one would forget the box.
 #[repr(C)]
 pub struct BlocksHand {
     ptr: *mut u8,

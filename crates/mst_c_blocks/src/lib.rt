@@ -1,4 +1,4 @@
-//! The calls of blocks of a sharded map for C, and for every language that calls C.
+//! The calls of sharded maps for C, and for every language that calls C.
 //!
 //! `mst_exports` exports each of them, with the same contract, and `include/mst_store.h` declares
 //! it. Their numbers, and the order of their tests, are those of [`mst_c`](mst_c); two more are

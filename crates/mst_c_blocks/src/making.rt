@@ -102,7 +102,7 @@ fn tell_made(made: Result<u64, Unmade>, shards: usize, shard: &mut usize, number
     }
 }
 
-/// As `mst_blocks_apply` of `mst_exports` says.
+/// As `mst_sharded_apply` of `mst_exports` says.
 pub fn apply_edits(
     alloc: Global,
     hand: &mut BlocksHand,

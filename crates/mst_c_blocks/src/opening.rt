@@ -1,5 +1,4 @@
-//! Opening a sharded map with blocks for C: the first hand is its writer's, the others are those of
-//! its readers.
+//! Opening a sharded map for C: the first hand is its writer's, the others are its readers'.
 ghost use Rattle.std.specs.Prelude.{◌≡◌, ◌≢◌, ◌↔◌, ◌⊎◌, ◌<◌, ◌≤◌, ◌+◌, ℕ, List, true, pos, length, get_or, vec_len, Some, None, IsSome};
 ghost use Rattle.std.specs.Arc.{arc_value};
 ghost use Rattle.mst_store.specs.Passes.{IsShape};
@@ -311,7 +310,7 @@ fn open_in(
     }
 }
 
-/// As `mst_blocks_open` of `mst_exports` says.
+/// As `mst_sharded_open` of `mst_exports` says.
 pub fn open(
     alloc: Global,
     format: u32,

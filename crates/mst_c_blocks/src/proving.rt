@@ -28,7 +28,7 @@ fn tell_root(found: Option<[u8; 32]>, room: &mut [u8]) -> i32
     }
 }
 
-/// As `mst_blocks_root` of `mst_exports` says.
+/// As `mst_sharded_root` of `mst_exports` says.
 pub fn root(alloc: Global, hand: &mut BlocksHand, room: &mut [u8]) -> i32
     ensures told { RootTold hand.old.held room.old result room.new hand.new.held }
 {
@@ -40,7 +40,7 @@ pub fn root(alloc: Global, hand: &mut BlocksHand, room: &mut [u8]) -> i32
     tell_root(root, room)
 }
 
-/// As `mst_blocks_prove` of `mst_exports` says.
+/// As `mst_sharded_prove` of `mst_exports` says.
 pub fn prove(
     alloc: Global,
     hand: &mut BlocksHand,
@@ -66,7 +66,7 @@ pub fn prove(
     }
 }
 
-/// As `mst_blocks_directory` of `mst_exports` says.
+/// As `mst_sharded_directory` of `mst_exports` says.
 pub fn directory(
     alloc: Global,
     hand: &mut BlocksHand,

@@ -41,7 +41,7 @@ fn tell_next(
     }
 }
 
-/// As `mst_blocks_next` of `mst_exports` says.
+/// As `mst_sharded_next` of `mst_exports` says.
 pub fn next(
     alloc: Global,
     hand: &mut BlocksHand,
@@ -65,7 +65,7 @@ pub fn next(
     tell_next(found, key_room, size, room)
 }
 
-/// As `mst_blocks_range` of `mst_exports` says.
+/// As `mst_sharded_range` of `mst_exports` says.
 pub fn range(
     alloc: Global,
     hand: &mut BlocksHand,
@@ -110,7 +110,7 @@ fn tell_format(found: Option<Format>) -> i32
     }
 }
 
-/// As `mst_blocks_format` of `mst_exports` says.
+/// As `mst_sharded_format` of `mst_exports` says.
 pub fn format(alloc: Global, hand: &mut BlocksHand) -> i32
     ensures told { FormatTold hand.old.held result hand.new.held }
 {

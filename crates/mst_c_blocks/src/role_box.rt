@@ -1,5 +1,5 @@
-//! What a hand of a sharded map with blocks holds: its writer, a reader or a snapshot, each with a
-//! share of the map.
+//! What a hand of a sharded map holds: its writer, a reader or a snapshot, each with a share of the
+//! map.
 ghost use Rattle.std.specs.Prelude.{◌≡◌, ◌≤◌, true, length, Some, None, Ok, Err, IfOk, IfErr};
 ghost use Rattle.std.specs.Option.{option_copied};
 ghost use Rattle.mst_key.specs.Map.{map_next, map_range};

@@ -9,7 +9,7 @@ use mst_c::telling::{done_code, tell};
 use mst_key::{Key, Value};
 use std::alloc::Global;
 
-/// As `mst_blocks_shards` of `mst_exports` says.
+/// As `mst_sharded_shards` of `mst_exports` says.
 pub fn shards(alloc: Global, hand: &mut BlocksHand) -> i32
     ensures told { ShardsTold hand.old.held result hand.new.held }
 {
@@ -35,7 +35,7 @@ fn tell_number(found: Option<u64>, number: &mut u64) -> i32
     }
 }
 
-/// As `mst_blocks_number` of `mst_exports` says.
+/// As `mst_sharded_number` of `mst_exports` says.
 pub fn number(alloc: Global, hand: &mut BlocksHand, number: &mut u64) -> i32
     ensures told { NumberTold hand.old.held number.old result number.new hand.new.held }
 {
@@ -58,7 +58,7 @@ fn try_code(taken: Option<bool>) -> i32
     }
 }
 
-/// As `mst_blocks_try_snapshot` of `mst_exports` says.
+/// As `mst_sharded_try_snapshot` of `mst_exports` says.
 pub fn try_snapshot(alloc: Global, hand: &mut BlocksHand) -> i32
     ensures told { TryTold hand.old.held result hand.new.held }
 {
@@ -70,7 +70,7 @@ pub fn try_snapshot(alloc: Global, hand: &mut BlocksHand) -> i32
     try_code(tried)
 }
 
-/// As `mst_blocks_release` of `mst_exports` says.
+/// As `mst_sharded_release` of `mst_exports` says.
 pub fn release(alloc: Global, hand: &mut BlocksHand) -> i32
     ensures told { ReleaseTold hand.old.held result hand.new.held }
 {
@@ -82,7 +82,7 @@ pub fn release(alloc: Global, hand: &mut BlocksHand) -> i32
     done_code(released)
 }
 
-/// As `mst_blocks_close` of `mst_exports` says.
+/// As `mst_sharded_close` of `mst_exports` says.
 pub fn close(alloc: Global, hand: &mut BlocksHand) -> i32
     ensures told { CloseTold hand.old.held result hand.new.held }
     ensures empty { hand.new.held ≡ None }
@@ -107,7 +107,7 @@ fn tell_value(found: Option<Option<Value>>, room: &mut [u8]) -> i32
     }
 }
 
-/// As `mst_blocks_get` of `mst_exports` says.
+/// As `mst_sharded_get` of `mst_exports` says.
 pub fn get(alloc: Global, hand: &mut BlocksHand, key: &[u8], room: &mut [u8]) -> i32
     ensures told { GetTold hand.old.held key.now room.old result room.new hand.new.held }
 {

@@ -1,11 +1,14 @@
 //! More keys than a store has rows for: a map of three shards, with one root digest.
 use crate::sharing::{pair, text};
 use anyhow::{Error, Result};
-use mst_key::{Format, Key};
-use mst_sharded::{Handle, Sharded, Snapshot};
+use mst_blocks::Writer;
+use mst_key::{Edit, Format, Key};
 use mst_sharded_proof::verify_sharded;
+use mst_shards::Sharded;
+use mst_snapshots::{Reader, Snapshot};
 use mst_store::Shape;
 use std::alloc::Global;
+use std::sync::Arc;
 
 /// Of each shard.
 const SHAPE: Shape = Shape {
@@ -14,17 +17,31 @@ const SHAPE: Shape = Shape {
     format: Format::One,
 };
 
-// Puts a price.
-fn put(handle: &mut Handle<'_, Global, Global>, fruit: &str, price: &str) -> Result<()> {
-    let (key, value) = pair(fruit, price)?;
-    handle.try_put(&key, &value)?;
-    Ok(())
+// The first keys of the shards after the first: below h, from h on, from p on.
+fn splits(alloc: Global) -> Result<Vec<Key>> {
+    Ok(vec![in alloc; Key::new(b"h")?, Key::new(b"p")?]?)
 }
 
-// Puts two prices, whose keys are in two shards.
-fn fill(handle: &mut Handle<'_, Global, Global>) -> Result<()> {
-    put(handle, "apple", "30")?;
-    put(handle, "plum", "12")
+// A map with its writer and a reader, for a thread each.
+fn open(alloc: Global) -> Result<(Writer<Global>, Reader<Global>)> {
+    let (map, seats) = Sharded::open(alloc, splits(alloc)?, SHAPE)?;
+    let map = Arc::new(alloc, map)?;
+    let (lot, mut lots) = map.deal(alloc, seats)?;
+    let writer = Writer::new(&map, alloc, lot)?;
+    match lots.pop() {
+        Some(lot) => Ok((writer, Reader::new(&map, alloc, lot)?)),
+        None => Err(Error::msg("a map of two passes has a reader")),
+    }
+}
+
+// Puts two prices, whose keys are in two shards, as one block.
+fn fill(alloc: Global, writer: Writer<Global>) -> Result<Writer<Global>> {
+    let (apple, thirty) = pair("apple", "30")?;
+    let (plum, twelve) = pair("plum", "12")?;
+    let edits = [Edit::Put(apple, thirty), Edit::Put(plum, twelve)];
+    let (writer, made) = writer.apply(alloc, &edits);
+    made?;
+    Ok(writer)
 }
 
 // Prints what somebody finds who has the root digest of all shards, and a proof.
@@ -37,34 +54,26 @@ fn tell(rt: &HostRuntime, shards: usize, root: &[u8; 32], key: &Key, proof: &[u8
     Ok(())
 }
 
-// Proves an answer of a snapshot.
-fn prove(rt: &HostRuntime, snapshot: &mut Snapshot<'_, Global, Global>) -> Result<()> {
+// Proves an answer of a snapshot: root digest and proof must be of one.
+fn prove(rt: &HostRuntime, snapshot: &mut Snapshot<Global>) -> Result<()> {
     let plum = Key::new(b"plum")?;
-    let root = snapshot.root(rt.alloc())?;
+    let root = snapshot.root();
     let proof = snapshot.prove(rt.alloc(), &plum)?;
     tell(rt, snapshot.shards(), &root, &plum, &proof)
 }
 
-// Writes through a handle, and proves an answer.
-fn show(rt: &HostRuntime, mut handle: Handle<'_, Global, Global>) -> Result<()> {
-    fill(&mut handle)?;
-    prove(rt, &mut handle.snapshot())
-}
-
-// The first keys of the shards after the first: below h, from h on, from p on.
-fn splits(alloc: Global) -> Result<Vec<Key>> {
-    Ok(vec![in alloc; Key::new(b"h")?, Key::new(b"p")?]?)
-}
-
-// The last of the handles.
-fn show_last(rt: &HostRuntime, mut handles: Vec<Handle<'_, Global, Global>>) -> Result<()> {
-    match handles.pop() {
-        Some(handle) => show(rt, handle),
-        None => Err(Error::msg("there are two handles")),
-    }
+// Takes a snapshot of the last block, and proves an answer of it.
+fn read(rt: &HostRuntime, reader: Reader<Global>) -> Result<()> {
+    let Ok(mut snapshot) = reader.try_snapshot() else {
+        return Err(Error::msg("a block is just being published"));
+    };
+    prove(rt, &mut snapshot)?;
+    let _reader = snapshot.release();
+    Ok(())
 }
 
 pub fn run(rt: &HostRuntime) -> Result<()> {
-    let (sharded, seats) = Sharded::open(rt.alloc(), splits(rt.alloc())?, SHAPE)?;
-    show_last(rt, sharded.deal(rt.alloc(), seats)?)
+    let (writer, reader) = open(rt.alloc())?;
+    let _writer = fill(rt.alloc(), writer)?;
+    read(rt, reader)
 }

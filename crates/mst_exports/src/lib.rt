@@ -1,7 +1,7 @@
 //! The store for C, and for every language that calls C: a static library.
 //!
-//! Each export is a call of `mst_c`, which lists the numbers that calls return, of `mst_c_sharded`
-//! or of `mst_c_blocks`, and repeats its contract. `include/mst_store.h` declares them.
+//! Each export is a call of `mst_c`, which lists the numbers that calls return, or of
+//! `mst_c_blocks`, and repeats its contract. `include/mst_store.h` declares them.
 #![tactic(auto)]
 
 ghost use Rattle.std.specs.Prelude.{◌≡◌, ◌≢◌, ◌↔◌, ◌⊎◌, pos, length as count, None, IsSome};
@@ -13,7 +13,6 @@ ghost use Rattle.mst_c.specs.Opened.{Opened, IsSize, AllEmpty};
 ghost use Rattle.mst_c.specs.Ranges.{RangeTold};
 ghost use Rattle.mst_c.specs.Told.{GetTold, PutTold, RootTold, ProveTold, PinTold, UnpinTold, CloseTold, RemoveTold, VersionTold, RowsTold, NextTold};
 
-mod blocks_calls;
 mod sharded_calls;
 
 use mst_c::hand::{Hand, PaddedHand};

@@ -19,7 +19,7 @@ enum Refusal {
 }
 
 /// Whether a refusal prints this text.
-pub(crate) fn says<T: Display>(rt: &impl Abort, alloc: Global, fault: &T, text: &str) -> bool {
+fn says<T: Display>(rt: &impl Abort, alloc: Global, fault: &T, text: &str) -> bool {
     let printed = format!(in alloc; "{fault}").expect(rt, "memory");
     printed.as_str() == text
 }

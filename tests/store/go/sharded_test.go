@@ -5,10 +5,19 @@ import (
 	"errors"
 	"fmt"
 	"math/rand"
+	"sync"
 	"testing"
 
 	"mst"
+	"mstverifier"
 )
+
+// told is what the writer tells of a block, with the map that the block left.
+type told struct {
+	number uint64
+	root   mst.Root
+	known  map[byte][]byte
+}
 
 // splitsOf16 are the splits of 16 shards of keys of one byte.
 func splitsOf16() [][]byte {
@@ -19,244 +28,396 @@ func splitsOf16() [][]byte {
 	return splits
 }
 
-func openSharded(t *testing.T, rows, handles int) []*mst.Handle {
-	t.Helper()
-	opened, err := mst.OpenSharded(mst.Format1, rows, handles, splitsOf16())
-	if err != nil {
-		t.Fatal(err)
-	}
-	return opened
-}
-
 func isTold(value []byte, present bool, err error, wanted []byte) bool {
 	return err == nil && present == (wanted != nil) && bytes.Equal(value, wanted)
 }
 
-func TestAShardedMapAnswersAsAMap(t *testing.T) {
-	handles := openSharded(t, 256, 2)
-	reader, writer := handles[0], handles[1]
-	chance, known := rand.New(rand.NewSource(7)), map[byte][]byte{}
-	for step := 0; step < 4000; step++ {
-		key := byte(chance.Intn(256))
-		if chance.Intn(3) == 0 {
-			value, present, err := writer.Remove([]byte{key})
-			if !isTold(value, present, err, known[key]) {
-				t.Fatal(step, value, present, err)
-			}
-			delete(known, key)
-		} else {
-			value, present, err := writer.Put([]byte{key}, numbered(step))
-			if !isTold(value, present, err, known[key]) {
-				t.Fatal(step, value, present, err)
-			}
-			known[key] = numbered(step)
-		}
-		if value, present, err := reader.Get([]byte{key}); !isTold(value, present, err, known[key]) {
-			t.Fatal(step, value, present, err)
-		}
+func openSharded(
+	t *testing.T, format mst.Format, rows, readers int,
+) (*mst.ShardedWriter, []*mst.ShardedReader) {
+	t.Helper()
+	writer, opened, err := mst.OpenSharded(format, rows, readers, splitsOf16())
+	if err != nil {
+		t.Fatal(err)
 	}
+	return writer, opened
+}
+
+func snapshotOf(t *testing.T, reader *mst.ShardedReader) *mst.ShardedSnapshot {
+	t.Helper()
 	then, err := reader.Snapshot()
 	if err != nil {
 		t.Fatal(err)
 	}
-	root, err := then.Root()
+	return then
+}
+
+func rootOf(t *testing.T, writer *mst.ShardedWriter) mst.Root {
+	t.Helper()
+	root, err := writer.Root()
 	if err != nil {
 		t.Fatal(err)
 	}
-	for key := 0; key < 256; key++ {
-		if _, _, err := writer.Put([]byte{byte(key)}, []byte("later")); err != nil {
-			t.Fatal(err)
+	return root
+}
+
+// makes makes a block of up to 23 edits at random.
+func makes(t *testing.T, writer *mst.ShardedWriter, before told, chance *rand.Rand) told {
+	t.Helper()
+	known := map[byte][]byte{}
+	for key, value := range before.known {
+		known[key] = value
+	}
+	var batch mst.Batch
+	for more := chance.Intn(24); more > 0; more-- {
+		key := byte(chance.Intn(256))
+		if chance.Intn(3) == 0 {
+			batch.Remove([]byte{key})
+			delete(known, key)
+		} else {
+			known[key] = numbered(chance.Intn(1000))
+			batch.Put([]byte{key}, known[key])
 		}
+	}
+	number, err := writer.Apply(&batch)
+	if err != nil || number != before.number+1 {
+		t.Fatal(number, before.number, err)
+	}
+	if again, err := writer.Number(); again != number || err != nil {
+		t.Fatal(again, number, err)
+	}
+	key := byte(chance.Intn(256))
+	value, present, err := writer.Get([]byte{key})
+	if wanted, there := known[key]; present != there || string(value) != string(wanted) || err != nil {
+		t.Fatal(key, value, present, err)
+	}
+	return told{number, rootOf(t, writer), known}
+}
+
+// shows tests whether a snapshot is of this block.
+func shows(t *testing.T, then *mst.ShardedSnapshot, of told) {
+	t.Helper()
+	number, err := then.Number()
+	if number != of.number || err != nil {
+		t.Fatal(number, of.number, err)
+	}
+	if root, err := then.Root(); root != of.root || err != nil {
+		t.Fatal(root, of.root, err)
+	}
+	for key := 0; key < 256; key++ {
 		value, present, err := then.Get([]byte{byte(key)})
-		if !isTold(value, present, err, known[byte(key)]) {
+		if !isTold(value, present, err, of.known[byte(key)]) {
 			t.Fatal(key, value, present, err)
 		}
 	}
-	if again, err := then.Root(); again != root || err != nil {
-		t.Fatal(again, err)
-	}
-	if proof, err := then.Prove([]byte("a")); len(proof) == 0 || err != nil {
-		t.Fatal(err)
-	}
 	pairs, err := then.Range(nil, nil, -1)
-	if err != nil || len(pairs) != len(known) {
-		t.Fatal(len(pairs), len(known), err)
+	if err != nil || len(pairs) != len(of.known) {
+		t.Fatal(len(pairs), len(of.known), err)
 	}
-	for _, pair := range pairs {
-		if !bytes.Equal(pair.Value, known[pair.Key[0]]) {
-			t.Fatal(pair)
+	for place, pair := range pairs {
+		var last []byte
+		if place > 0 {
+			last = pairs[place-1].Key
+		}
+		next, found, err := then.Next(last)
+		if err != nil || !found || !bytes.Equal(next.Key, pair.Key) {
+			t.Fatal(next, found, err)
 		}
 	}
-	if next, found, err := then.Next(pairs[0].Key); !found || err != nil ||
-		!bytes.Equal(next.Key, pairs[1].Key) {
-		t.Fatal(next, found, err)
+}
+
+// proves tests whether the verifier accepts the proofs of a snapshot.
+func proves(t *testing.T, then *mst.ShardedSnapshot, format mst.Format, of told) {
+	t.Helper()
+	if is, err := then.Format(); is != format || err != nil {
+		t.Fatal(is, err)
 	}
 	if directory, err := then.Directory(); len(directory) != 16 || err != nil {
 		t.Fatal(directory, err)
 	}
-	if err := writer.Migrate(mst.Format2); err != nil {
+	known := mstverifier.Format(format)
+	for number := 0; number < 256; number += 5 {
+		key := []byte{byte(number)}
+		proof, err := then.Prove(key)
+		if err != nil {
+			t.Fatal(err)
+		}
+		value, present, err := mstverifier.VerifySharded(known, of.root, key, proof)
+		if !isTold(value, present, err, of.known[byte(number)]) {
+			t.Fatal(number, value, present, err)
+		}
+	}
+}
+
+func TestASnapshotKeepsItsBlock(t *testing.T) {
+	for _, format := range []mst.Format{mst.Format1, mst.Format2} {
+		writer, readers := openSharded(t, format, 256, 2)
+		chance, last := rand.New(rand.NewSource(7)), told{0, rootOf(t, writer), nil}
+		for round := 0; round < 40; round++ {
+			kept, then := last, snapshotOf(t, readers[0])
+			for more := 0; more < 4; more++ {
+				last = makes(t, writer, last, chance)
+				now, err := readers[1].TrySnapshot()
+				if err != nil {
+					t.Fatal(err)
+				}
+				shows(t, now, last)
+				now.Release()
+			}
+			shows(t, then, kept)
+			proves(t, then, format, kept)
+			then.Release()
+		}
+		value, present, err := readers[0].Get([]byte("a"))
+		if !isTold(value, present, err, last.known['a']) {
+			t.Fatal(value, present, err)
+		}
+	}
+}
+
+func TestARefusedBlockChangesNoShard(t *testing.T) {
+	writer, readers, err := mst.OpenSharded(mst.Format2, 12, 2, [][]byte{{'b'}, {'c'}, {'d'}})
+	if err != nil {
 		t.Fatal(err)
 	}
-	if format, err := then.Format(); format != mst.Format1 || err != nil {
-		t.Fatal(format, err)
+	var first, batch mst.Batch
+	first.Put([]byte("a"), []byte("old")).Put([]byte("c"), []byte("old"))
+	if number, err := writer.Apply(&first); number != 1 || err != nil {
+		t.Fatal(number, err)
 	}
-	if _, found, err := then.VersionAt(16); found || err != nil {
-		t.Fatal(found, err)
+	old := told{1, rootOf(t, writer), map[byte][]byte{'a': []byte("old"), 'c': []byte("old")}}
+	then := snapshotOf(t, readers[1])
+	batch.Put([]byte("d"), []byte("1"))
+	for last := byte(0); last < 12; last++ {
+		batch.Put([]byte{'c', last}, []byte("1"))
+	}
+	batch.Put([]byte("a"), []byte("1"))
+	for again := 0; again < 3; again++ {
+		// the third shard has no rows for its edits
+		var refused *mst.ShardError
+		number, err := writer.Apply(&batch)
+		if !errors.As(err, &refused) || refused.Shard != 2 || number != 0 ||
+			!errors.Is(err, mst.ErrNoFreeRows) {
+			t.Fatal(number, err)
+		}
+		now := snapshotOf(t, readers[0])
+		shows(t, now, old)
+		now.Release()
+	}
+	batch.Reset()
+	batch.Put([]byte("a"), []byte("new")).Put([]byte("d"), []byte("new")).Remove([]byte("c"))
+	if number, err := writer.Apply(&batch); number != 2 || err != nil {
+		t.Fatal(number, err)
+	}
+	shows(t, then, old)
+	then.Release()
+	known := map[byte][]byte{'a': []byte("new"), 'd': []byte("new")}
+	shows(t, snapshotOf(t, readers[1]), told{2, rootOf(t, writer), known})
+}
+
+func TestACopyIsAMapThatWasFilledDirectly(t *testing.T) {
+	for from, to := range map[mst.Format]mst.Format{
+		mst.Format1: mst.Format2, mst.Format2: mst.Format1,
+	} {
+		writer, readers := openSharded(t, from, 256, 1)
+		chance, last := rand.New(rand.NewSource(9)), told{0, rootOf(t, writer), nil}
+		for made := 0; made < 30; made++ {
+			last = makes(t, writer, last, chance)
+		}
+		copied, lookers, err := mst.OpenSharded(to, 999, 1, [][]byte{{'a'}})
+		if err != nil {
+			t.Fatal(err)
+		}
+		direct, _, err := mst.OpenSharded(to, 500, 0, [][]byte{{'a'}})
+		if err != nil {
+			t.Fatal(err)
+		}
+		var batch mst.Batch
+		for key, value := range last.known {
+			batch.Put([]byte{key}, value)
+		}
+		if number, err := direct.Apply(&batch); number != 1 || err != nil {
+			t.Fatal(number, err)
+		}
+		then := snapshotOf(t, readers[0])
+		if number, err := then.CopyTo(copied); number != 1 || err != nil {
+			t.Fatal(number, err)
+		}
+		shows(t, snapshotOf(t, lookers[0]), told{1, rootOf(t, direct), last.known})
+		refusesCopies(t, then, to)
+	}
+}
+
+// refusesCopies tests that a full map is as it was, and that nothing is copied of a snapshot that
+// has ended.
+func refusesCopies(t *testing.T, then *mst.ShardedSnapshot, to mst.Format) {
+	t.Helper()
+	full, _, err := mst.OpenSharded(to, 8, 0, [][]byte{{'a'}})
+	if err != nil {
+		t.Fatal(err)
+	}
+	var refused *mst.ShardError
+	number, err := then.CopyTo(full)
+	if !errors.As(err, &refused) || number != 0 || !errors.Is(err, mst.ErrNoFreeRows) {
+		t.Fatal(number, err)
+	}
+	if number, err := full.Number(); number != 0 || err != nil {
+		t.Fatal(number, err)
 	}
 	then.Release()
-	then.Release()
-	if _, _, err := then.Get([]byte("a")); !errors.Is(err, mst.ErrClosed) {
+	if _, err := then.CopyTo(full); !errors.Is(err, mst.ErrClosed) {
 		t.Fatal(err)
 	}
 }
 
-func TestAShardedMapRefuses(t *testing.T) {
+func TestBlocksRefuse(t *testing.T) {
 	for _, splits := range [][][]byte{{{}}, {{0}}, {{2}, {2}}, {{2}, {1}}, {make([]byte, 33)}} {
-		if _, err := mst.OpenSharded(mst.Format1, 16, 1, splits); !errors.Is(err, mst.ErrSplits) {
+		_, _, err := mst.OpenSharded(mst.Format1, 16, 1, splits)
+		if !errors.Is(err, mst.ErrSplits) {
 			t.Fatal(splits, err)
 		}
 	}
-	for _, shape := range [][2]int{{3, 1}, {65536, 1}, {-1, 1}, {16, 0}, {16, 33}, {16, -1}} {
-		_, err := mst.OpenSharded(mst.Format2, shape[0], shape[1], nil)
+	for _, shape := range [][2]int{{3, 1}, {65536, 1}, {-1, 1}, {16, 32}, {16, -1}} {
+		_, _, err := mst.OpenSharded(mst.Format2, shape[0], shape[1], nil)
 		if !errors.Is(err, mst.ErrShape) {
 			t.Fatal(shape, err)
 		}
 	}
-	handle := openSharded(t, 16, 1)[0]
-	then, err := handle.Snapshot()
-	if err != nil {
-		t.Fatal(err)
-	}
-	if _, err := handle.Snapshot(); !errors.Is(err, mst.ErrPinned) {
-		t.Fatal(err)
-	}
-	if _, _, err := handle.Put([]byte("a"), nil); !errors.Is(err, mst.ErrPinned) {
-		t.Fatal(err)
-	}
-	if err := handle.Close(); err != nil {
-		t.Fatal(err)
-	}
-	if _, err := then.Root(); !errors.Is(err, mst.ErrClosed) {
-		t.Fatal(err)
-	}
-	if err := handle.Close(); !errors.Is(err, mst.ErrClosed) {
-		t.Fatal(err)
-	}
-}
-
-// appliedTwice tries a batch from a shard on by both calls, which are to end likewise.
-func appliedTwice(t *testing.T, handle *mst.Handle, batch *mst.Batch, from int) error {
-	t.Helper()
-	first, second := handle.TryApply(batch, from), handle.Apply(batch, from)
-	if (first == nil) != (second == nil) || first != nil && first.Error() != second.Error() {
-		t.Fatal(first, second)
-	}
-	return second
-}
-
-func versionsOf(t *testing.T, handle *mst.Handle) []uint64 {
-	t.Helper()
-	then, err := handle.Snapshot()
-	if err != nil {
-		t.Fatal(err)
-	}
-	defer then.Release()
-	var versions []uint64
-	for shard := 0; ; shard++ {
-		version, found, err := then.VersionAt(shard)
-		if err != nil {
-			t.Fatal(err)
-		}
-		if !found {
-			return versions
-		}
-		versions = append(versions, version)
-	}
-}
-
-func TestABatchIsOneVersionOfEachShard(t *testing.T) {
-	handles, err := mst.OpenSharded(mst.Format1, 8, 2, [][]byte{{'b'}, {'c'}, {'d'}})
-	if err != nil {
-		t.Fatal(err)
-	}
-	reader, writer := handles[0], handles[1]
+	writer, readers := openSharded(t, mst.Format1, 16, 1)
 	var batch mst.Batch
-	batch.Put([]byte("d"), []byte("1")).Put([]byte("a"), []byte("1")).Remove([]byte("b"))
-	if err := appliedTwice(t, writer, &batch, 0); err != nil {
-		t.Fatal(err)
-	}
-	if err := appliedTwice(t, writer, &batch, 3); err != nil {
-		t.Fatal(err)
-	}
-	if made := versionsOf(t, reader); fmt.Sprint(made) != "[2 2 0 4]" {
-		t.Fatal(made)
-	}
-	// the third shard has no rows for its edits
-	for last := byte(0); last < 9; last++ {
-		batch.Put([]byte{'c', last}, nil)
-	}
-	batch.Put([]byte("a"), []byte("2")).Put([]byte("d"), []byte("2"))
-	var stopped *mst.ShardError
-	err = appliedTwice(t, writer, &batch, 0)
-	if !errors.As(err, &stopped) || stopped.Shard != 2 || !errors.Is(err, mst.ErrNoFreeRows) {
-		t.Fatal(err)
-	}
-	if made := versionsOf(t, reader); fmt.Sprint(made) != "[4 4 0 4]" {
-		t.Fatal(made)
-	}
-	if value, present, err := reader.Get([]byte("a")); !isTold(value, present, err, []byte("2")) {
-		t.Fatal(value, present, err)
-	}
-	if value, present, err := reader.Get([]byte("d")); !isTold(value, present, err, []byte("1")) {
-		t.Fatal(value, present, err)
-	}
-	for _, from := range []int{4, -1} {
-		if err := appliedTwice(t, writer, &batch, from); !errors.Is(err, mst.ErrNoShard) {
-			t.Fatal(err)
-		}
-	}
-	batch.Reset()
 	batch.Put([]byte("a"), nil).Remove(nil)
 	var bad *mst.EditError
-	err = appliedTwice(t, writer, &batch, 0)
+	_, err := writer.Apply(&batch)
 	if !errors.As(err, &bad) || bad.Place != 1 || !errors.Is(err, mst.ErrKey) {
 		t.Fatal(err)
 	}
-	then, err := writer.Snapshot()
-	if err != nil {
+	if number, err := writer.Number(); number != 0 || err != nil {
+		t.Fatal(number, err)
+	}
+	if number, err := writer.Apply(&mst.Batch{}); number != 1 || err != nil {
+		t.Fatal(number, err)
+	}
+	then := snapshotOf(t, readers[0])
+	if _, err := readers[0].Snapshot(); !errors.Is(err, mst.ErrPinned) {
 		t.Fatal(err)
 	}
-	if err := appliedTwice(t, writer, &mst.Batch{}, 0); !errors.Is(err, mst.ErrPinned) {
+	if _, err := readers[0].TrySnapshot(); !errors.Is(err, mst.ErrPinned) {
 		t.Fatal(err)
 	}
-	then.Release()
-	if err := writer.Close(); err != nil {
-		t.Fatal(err)
-	}
-	if err := appliedTwice(t, writer, &mst.Batch{}, 0); !errors.Is(err, mst.ErrClosed) {
+	if _, err := then.Prove(nil); !errors.Is(err, mst.ErrKey) {
 		t.Fatal(err)
 	}
 }
 
-func TestGoroutinesWriteToShardsSideBySide(t *testing.T) {
-	handles := openSharded(t, 1000, 4)
-	var calls []func()
-	for at := range handles {
-		at := at
+func TestReadersGoOnWithoutAWriter(t *testing.T) {
+	writer, readers := openSharded(t, mst.Format2, 16, 2)
+	var batch mst.Batch
+	if _, err := writer.Apply(batch.Put([]byte("a"), []byte("1"))); err != nil {
+		t.Fatal(err)
+	}
+	first := told{1, rootOf(t, writer), map[byte][]byte{'a': []byte("1")}}
+	if err := writer.Close(); err != nil {
+		t.Fatal(err)
+	}
+	if _, err := writer.Apply(&batch); !errors.Is(err, mst.ErrClosed) {
+		t.Fatal(err)
+	}
+	then := snapshotOf(t, readers[0])
+	shows(t, then, first)
+	then.Release()
+	then.Release()
+	// of a reader's next snapshot the older one knows nothing
+	next := snapshotOf(t, readers[0])
+	if _, err := then.Root(); !errors.Is(err, mst.ErrClosed) {
+		t.Fatal(err)
+	}
+	if err := readers[0].Close(); err != nil {
+		t.Fatal(err)
+	}
+	if _, err := next.Number(); !errors.Is(err, mst.ErrClosed) {
+		t.Fatal(err)
+	}
+	if _, err := readers[0].Shards(); !errors.Is(err, mst.ErrClosed) {
+		t.Fatal(err)
+	}
+	if shards, err := readers[1].Shards(); shards != 16 || err != nil {
+		t.Fatal(shards, err)
+	}
+	shows(t, snapshotOf(t, readers[1]), first)
+}
+
+// lastBlock is that of the goroutines below.
+const lastBlock = 1000
+
+// hasOneBlock is an error unless the snapshot has the number of its block at each key.
+func hasOneBlock(then *mst.ShardedSnapshot, number uint64) error {
+	for shard := 0; shard < 16; shard++ {
+		value, present, err := then.Get([]byte{byte(16*shard + 1)})
+		var wanted []byte
+		if number > 0 {
+			wanted = numbered(int(number))
+		}
+		if !isTold(value, present, err, wanted) {
+			return fmt.Errorf("block %d: %v, %v, %v", number, value, present, err)
+		}
+	}
+	return nil
+}
+
+// read takes a snapshot, and returns its number and its root digest.
+func read(reader *mst.ShardedReader) (number uint64, root mst.Root, err error) {
+	then, err := reader.Snapshot()
+	if err != nil {
+		return 0, root, err
+	}
+	defer then.Release()
+	if number, err = then.Number(); err != nil {
+		return 0, root, err
+	}
+	if err = hasOneBlock(then, number); err != nil {
+		return 0, root, err
+	}
+	root, err = then.Root()
+	return number, root, err
+}
+
+func TestGoroutinesReadWhileBlocksAreMade(t *testing.T) {
+	writer, readers := openSharded(t, mst.Format1, 64, 3)
+	var mutex sync.Mutex
+	roots := []mst.Root{rootOf(t, writer)}
+	calls := []func(){func() {
+		var batch mst.Batch
+		for number := uint64(1); number <= lastBlock; number++ {
+			batch.Reset()
+			for shard := 0; shard < 16; shard++ {
+				batch.Put([]byte{byte(16*shard + 1)}, numbered(int(number)))
+			}
+			made, err := writer.Apply(&batch)
+			root, other := writer.Root()
+			if made != number || err != nil || other != nil {
+				t.Error(made, number, err, other)
+			}
+			mutex.Lock()
+			roots = append(roots, root)
+			mutex.Unlock()
+		}
+	}}
+	for _, reader := range readers {
+		reader := reader
 		calls = append(calls, func() {
-			for number := 0; number < 64; number++ {
-				key := []byte{byte(number*4 + at)}
-				if _, _, err := handles[at].Put(key, []byte{byte(at)}); err != nil {
-					t.Error(err)
+			for before := uint64(0); before < lastBlock; {
+				number, root, err := read(reader)
+				mutex.Lock()
+				// the writer tells of a block after it has made it
+				isOther := number < uint64(len(roots)) && roots[number] != root
+				mutex.Unlock()
+				if err != nil || number < before || isOther {
+					t.Error(number, before, isOther, err)
+					return
 				}
+				before = number
 			}
 		})
 	}
 	together(calls...)
-	for number := 0; number < 256; number++ {
-		value, present, err := handles[0].Get([]byte{byte(number)})
-		if !isTold(value, present, err, []byte{byte(number % 4)}) {
-			t.Fatal(number, value, present, err)
-		}
-	}
 }

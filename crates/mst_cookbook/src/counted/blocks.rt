@@ -1,4 +1,4 @@
-//! Blocks of a sharded map, and snapshots of them.
+//! Blocks of a sharded map, snapshots of them, and gets of a reader.
 ghost use Rattle.std.specs.Prelude.{◌≡◌, ◌<◌, ◌≤◌, length};
 ghost use Rattle.std.specs.Arc.{arc_value};
 ghost use Rattle.std.specs.List.{AllByRecursion};
@@ -126,6 +126,28 @@ fn make(
         }
     }
     all_done
+}
+
+// Gets `calls` keys. Returns true if each has a value.
+fn get(reader: &mut Reader<Global>, keys: &[Key], calls: u32) -> bool
+    requires some { 0 < length keys.now }
+{
+    for call in 0..calls {
+        if reader.get(picked(keys, call)).is_none() {
+            return false;
+        }
+    }
+    true
+}
+
+/// Makes gets of a reader of a sharded map that has these keys, which rise.
+pub fn run_gets(rt: &HostRuntime, keys: &[Key], of: &Calls) -> Result<()>
+    requires some { 0 < length keys.now }
+    requires few { length keys.now ≤ most_rows }
+{
+    let (writer, mut reader) = open(rt.alloc(), keys, of)?;
+    let (_writer, filled) = apply(rt.alloc(), writer, keys, 0, keys.len() as u32);
+    tell(rt, of, filled && get(&mut reader, keys, of.calls))
 }
 
 /// Makes blocks of a sharded map that has these keys, which rise.

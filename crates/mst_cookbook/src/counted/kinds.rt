@@ -26,12 +26,10 @@ pub enum Kind {
     Load,
     /// Gets of passes, one after the other, each of a store that has the keys of one shard.
     GetOfPasses,
-    /// Gets of a handle of a map of shards.
-    GetOfHandle,
+    /// Gets of a reader of a map of shards.
+    GetOfReader,
     /// Puts into a store that has what a directory has: a pair for each shard.
     PutOfListing,
-    /// Snapshots of a map of shards, each of which is released.
-    Snapshots(Each),
     /// Blocks of a map of shards, and snapshots of them.
     Blocks(Block),
 }
@@ -44,39 +42,6 @@ pub struct Block {
     /// Whether a snapshot is taken, asked for its number and its root digest, and released.
     pub is_read: bool,
 }
-
-/// What is done with each snapshot.
-#[derive(Clone, Copy)]
-pub struct Each {
-    /// Whether a value is put before it.
-    pub puts: bool,
-    /// Whether it is asked for its root digest.
-    pub roots: bool,
-}
-
-/// Without a put, and without a root digest.
-const STILL: Each = Each {
-    puts: false,
-    roots: false,
-};
-
-/// Without a put.
-const TOLD: Each = Each {
-    puts: false,
-    roots: true,
-};
-
-/// Without a root digest.
-const CHANGED: Each = Each {
-    puts: true,
-    roots: false,
-};
-
-/// With both.
-const CHANGED_AND_TOLD: Each = Each {
-    puts: true,
-    roots: true,
-};
 
 /// A snapshot alone.
 const SEEN: Block = Block {
@@ -121,15 +86,8 @@ const KINDS: &[(Kind, &str)] = &[
     (Kind::Migrate, "migrate"),
     (Kind::Load, "load"),
     (Kind::GetOfPasses, "get in stores of one shard"),
-    (Kind::GetOfHandle, "get of a handle"),
+    (Kind::GetOfReader, "get of a reader"),
     (Kind::PutOfListing, "put of a listing"),
-    (Kind::Snapshots(STILL), "snapshot"),
-    (Kind::Snapshots(TOLD), "snapshot with its root"),
-    (Kind::Snapshots(CHANGED), "put and snapshot"),
-    (
-        Kind::Snapshots(CHANGED_AND_TOLD),
-        "put and snapshot with its root",
-    ),
     (Kind::Blocks(SEEN), "snapshot of a block"),
     (Kind::Blocks(ONE), "block of 1 edit"),
     (
@@ -154,11 +112,7 @@ impl Kind {
     pub fn is_sharded(self) -> bool {
         matches!(
             self,
-            Kind::GetOfPasses
-                | Kind::GetOfHandle
-                | Kind::PutOfListing
-                | Kind::Snapshots(_)
-                | Kind::Blocks(_)
+            Kind::GetOfPasses | Kind::GetOfReader | Kind::PutOfListing | Kind::Blocks(_)
         )
     }
 }

@@ -1,16 +1,12 @@
-//! Calls of a handle of a sharded map; and in addition to them gets of the same keys in single
-//! stores, and puts into a store with the pairs of a directory.
+//! The shape of the sharded map whose calls are counted; and gets of its keys in single stores, and
+//! puts into a store with the pairs of a directory.
 ghost use Rattle.std.specs.Prelude.{◌<◌, ◌≤◌, IfOk, length};
 ghost use Rattle.mst_store.specs.Passes.{most_rows};
 
-use super::alone::{self, tell};
-use super::changes::{FIRST_NEW_VALUE, picked};
-use super::keys::value;
-use super::kinds::{Each, Kind};
+use super::alone;
 use super::words::Calls;
 use anyhow::{Error, Result};
 use mst_key::{Format, Key};
-use mst_sharded::{Handle, Sharded};
 use mst_store::Shape;
 use std::alloc::{AllocError, Global};
 
@@ -42,109 +38,6 @@ pub fn shape(keys: &[Key], format: Format, passes: u32) -> Shape
         passes,
         format,
     }
-}
-
-// Puts each key with its first value. Returns true if each call went through.
-fn fill(handle: &mut Handle<'_, Global, Global>, keys: &[Key]) -> bool {
-    for (number, key) in keys.iter().enumerate() {
-        if handle.try_put(key, &value(number as u64, false)).is_err() {
-            return false;
-        }
-    }
-    true
-}
-
-// Gets `calls` keys. Returns true if each has a value.
-fn get(handle: &mut Handle<'_, Global, Global>, keys: &[Key], calls: u32) -> bool
-    requires some { 0 < length keys.now }
-{
-    for call in 0..calls {
-        if handle.get(picked(keys, call)).is_none() {
-            return false;
-        }
-    }
-    true
-}
-
-// Puts a value other than the current one. Returns true if the call went through.
-fn put(handle: &mut Handle<'_, Global, Global>, keys: &[Key], call: u32) -> bool
-    requires some { 0 < length keys.now }
-{
-    let new = value(FIRST_NEW_VALUE + u64::from(call), false);
-    matches!(handle.try_put(picked(keys, call), &new), Ok(Some(_)))
-}
-
-// Takes a snapshot and ends it, perhaps of a map that was just changed. Returns the handle, and
-// whether each call went through.
-fn snapshot<'a>(
-    alloc: Global,
-    mut handle: Handle<'a, Global, Global>,
-    keys: &[Key],
-    call: u32,
-    each: Each,
-) -> (Handle<'a, Global, Global>, bool)
-    requires some { 0 < length keys.now }
-{
-    let changed = !each.puts || put(&mut handle, keys, call);
-    let mut snapshot = handle.snapshot();
-    let told = !each.roots || snapshot.root(alloc).is_ok();
-    (snapshot.release(), changed && told)
-}
-
-// Takes `calls` snapshots. Returns true if each call went through.
-fn snapshots(
-    alloc: Global,
-    mut handle: Handle<'_, Global, Global>,
-    keys: &[Key],
-    calls: u32,
-    each: Each,
-) -> bool
-    requires some { 0 < length keys.now }
-{
-    let mut all_done = true;
-    for call in 0..calls {
-        let (released, done) = snapshot(alloc, handle, keys, call, each);
-        handle = released;
-        all_done = all_done && done;
-    }
-    all_done
-}
-
-// Puts all keys, and takes snapshots or makes gets. Returns true if each call went through.
-fn make(alloc: Global, mut handle: Handle<'_, Global, Global>, keys: &[Key], of: &Calls) -> bool
-    requires some { 0 < length keys.now }
-{
-    let filled = fill(&mut handle, keys);
-    filled
-        && match of.kind {
-            Kind::Snapshots(each) => snapshots(alloc, handle, keys, of.calls, each),
-            _ => get(&mut handle, keys, of.calls),
-        }
-}
-
-// Makes calls of one kind of the handle, of which there is one.
-fn run_last(
-    rt: &HostRuntime,
-    mut handles: Vec<Handle<'_, Global, Global>>,
-    keys: &[Key],
-    of: &Calls,
-) -> Result<()>
-    requires some { 0 < length keys.now }
-{
-    match handles.pop() {
-        Some(handle) => tell(rt, of, make(rt.alloc(), handle, keys, of)),
-        None => Err(Error::msg("there is a handle")),
-    }
-}
-
-/// Makes calls of one kind of a sharded map, where the map has these keys, which rise.
-pub fn run_handle(rt: &HostRuntime, keys: &[Key], of: &Calls) -> Result<()>
-    requires some { 0 < length keys.now }
-    requires few { length keys.now ≤ most_rows }
-{
-    let shape = shape(keys, of.format, 1);
-    let (sharded, seats) = Sharded::open(rt.alloc(), splits(rt.alloc(), keys)?, shape)?;
-    run_last(rt, sharded.deal(rt.alloc(), seats)?, keys, of)
 }
 
 // Makes gets in a store that has the keys of this shard.

@@ -22,9 +22,8 @@ mst_cookbook load KEYS CALLS [1|2]
 KIND is one of: put, put in batches of N (1, 10, 100, 1000 or 10000; each put is a call),
   remove and put back, version, get, get of a pinned version, next, range of 100, prove, verify,
   migrate (to the other format, and back); of a map of 32 shards, or of stores that have its keys:
-  get of a handle, get in stores of one shard, put of a listing, snapshot, snapshot with its root,
-  put and snapshot, put and snapshot with its root, snapshot of a block, block of 1 edit,
-  block of 1 edit and its snapshot, block of 1000 edits";
+  get of a reader, get in stores of one shard, put of a listing, snapshot of a block,
+  block of 1 edit, block of 1 edit and its snapshot, block of 1000 edits";
 
 // The number that a word spells, if it is above 0.
 fn number(word: &str) -> Option<u32> {

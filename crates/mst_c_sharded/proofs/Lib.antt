@@ -1,6 +1,0 @@
-pub mod CodesApart
-pub mod ShardedBox
-pub mod ShardedDealt
-pub mod ShardedPacking
-pub mod ShardedRising
-pub mod ShardedValues

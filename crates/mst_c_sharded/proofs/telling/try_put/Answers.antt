@@ -1,8 +1,0 @@
-use Rattle.std.proofs.Common.{rules}
-use Rattle.mst_c_sharded.proofs.telling.try_put.Goals as goal
-
-pub returns-in-Ok-wrote : goal.returns-in-Ok-wrote
-returns-in-Ok-wrote c = search rules
-
-pub returns-in-Err : goal.returns-in-Err
-returns-in-Err c = search rules
