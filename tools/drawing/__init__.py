@@ -1,6 +1,6 @@
 """The pictures of docs/pictures, each by the function that draws it."""
-from . import blocks, chosen, crates, engines, place, put, recovery, row, sharded, sharded_threads
-from . import sizes, threads, tree, trust, versions
+from . import blocks, chosen, crates, engines, place, put, recovery, row, sharded, sizes, threads
+from . import tree, trust, versions
 
 PICTURES = {
     "place": place.picture,
@@ -16,6 +16,5 @@ PICTURES = {
     "engines": engines.picture,
     "chosen": chosen.picture,
     "threads": threads.picture,
-    "sharded_threads": sharded_threads.picture,
     "trust": trust.picture,
 }

@@ -23,8 +23,8 @@ LOOKS = {
 LAYERS = 3
 CELL, HIGH, TREE = 20, 26, 58
 CAPTION = [
-    "chosen: by an attacker, all of layer 0. with a tag: the same with a tag at the end, made by a"
-    " secret, which makes them random again.",
+    "Chosen: all of layer 0, by an attacker. With a tag: the same keys, each with a tag at its end that"
+    " is made by a secret; so they are random again.",
     "All scales are logarithmic; those of the two times are the same. µs: microseconds."
     " A kilobyte has 1,000 bytes.",
     "Keys of layer 0 are easy to find: 15 of 16 random keys have it in format 1, 3 of 4 in format 2"

@@ -7,12 +7,12 @@ TOPS, HIGH = (30, 138, 246), 84
 LOWER = TOPS[-1] + HIGH
 TITLE = "One log makes equal stores; whoever trusts a root digest can check their answers"
 LOOKS = [
-    ("thick", "Jombritafo: an ordered map with versions that can be pinned, and what checks its proofs"),
+    ("thick", "Jombritafo: an ordered map whose versions can be pinned, and what checks its proofs"),
     ("thin", "yours: log and consensus, network, signatures, the programs around store and verifier"),
 ]
 NOTES = [
-    "R: the root digest of a version, 32 bytes. It depends on the map and its format alone, so"
-    " replicas that have applied the same entries have the same.",
+    "R: the root digest (Merkle root) of a version, 32 bytes. It depends on the map and its format"
+    " alone, so replicas that have applied the same entries have the same root digest.",
 ]
 
 
@@ -46,7 +46,7 @@ def draw_answers(canvas):
     left, right = sum(REPLICA), CLIENT[0]
     middle = (left + right) / 2
     for y, lines in (
-        (TOPS[0] + 52, ("signed by you: R,", "format and number")),
+        (TOPS[0] + 52, ("signed by you: R, format", "and version number")),
         (TOPS[2] + 30, ("the value, or 'absent',", "with its proof")),
     ):
         canvas.line([(left, y), (right, y)], arrow=True)
@@ -66,7 +66,7 @@ def draw_client(canvas):
     canvas.box(left + 16, top, wide - 32, LOWER - top - 16, "thick", round=6)
     canvas.text(left + 32, top + 30, "verifier", 18, bold=True)
     for line, text in enumerate((
-        "takes R, the format,", "the key and the proof;", "says the value,", "'absent', or which",
+        "takes R, the format,", "the key and the proof;", "returns the value,", "'absent', or which",
         "test the proof fails",
     )):
         canvas.text(left + 32, top + 60 + 24 * line, text, 16, within=wide - 60)

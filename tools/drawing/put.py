@@ -10,8 +10,9 @@ LEFT, RIGHT = 204, WIDTH - 16
 FIRST, HIGH, APART = 50, 40, 66
 WORDS = 46  # from one lane of words to the next
 CAPTION = [
-    f"Time goes from left to right. {{{READER}}}: a mask of passes that has pass {READER} alone. Numbers"
-    " of steps are those of 'A read' and 'A write'.",
+    f"Time goes from left to right. {{{READER}}}: a mask of passes (per-thread handles) that has pass"
+    f" {READER} alone. The steps have the numbers of 'A read' and 'A write'. A record describes one"
+    " version; it is drained once no pass can read it.",
     f"From its pin to its unpin pass {READER} reads record 0 and the rows of its version, at any"
     " time: no step changes them. Between 7 and 8 no word has the mark of its pin: only the writer"
     " has it, to whom the publication returned it.",
@@ -38,12 +39,12 @@ class Table:
 
     def cells(self):
         return {
-            "turn": self.turn,
-            "desk": self.desk,
+            "turn (write lock)": self.turn,
+            "desk (allocator)": self.desk,
             "rows of new path": self.rows,
             f"record {LAST}": self.record,
             "current": f"record {self.current}, pins {mask(self.pinning)}",
-            "writer has mask": mask(self.due) if self.due else "",
+            "writer's mask": mask(self.due) if self.due else "",
             "done of record 0": mask(self.done),
             "who pins record 0": f"pass {READER}" if self.pins() else "nobody",
         }
@@ -86,7 +87,7 @@ STEPS = [
 # The steps that every lane shows.
 MARKED = {"publishes", "transfers"}
 PASS_LANES = {READER: "reader, pass 3", WRITER: "writer, pass 1"}
-LOOKS = [("thick", "while the words have what this put and this read have put there")]
+LOOKS = [("thick", "what this put or this read has changed")]
 
 
 def parts_of(name, tables):
@@ -115,7 +116,7 @@ def draw_pass(canvas, who, top):
     canvas.text(16, top + HIGH / 2 + 6, PASS_LANES[who], 17, bold=True, within=LEFT - 16)
     steps = [(number, x, says) for one, number, x, says, _ in STEPS if one == who]
     begin, end = steps[0][1], steps[-1][1]
-    canvas.box(begin, top, end - begin, HIGH, "thin" if who == WRITER else "thick")
+    canvas.box(begin, top, end - begin, HIGH)
     for number, x, says in steps:
         canvas.mark(x, top + HIGH / 2, "disc", 6)
         canvas.text(x, top - 8, f"{number} {says}".strip(), 16, "middle", bold=says in MARKED)

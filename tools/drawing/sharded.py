@@ -89,7 +89,7 @@ def draw_shards(canvas, it, where):
         proved = shown(shard.map, ASKED) if shard.has(ASKED) else set()
         others = sorted(set(shard.map.pairs) - proved)
         rows = [sorted(proved)] if proved else []
-        rows += [others[place : place + 3] for place in range(0, len(others), 3)]
+        rows += [others[place : place + 4] for place in range(0, len(others), 4)]
         first = KEYS + (HIGH + 34 - 36 * len(rows)) / 2 + 24
         for row, keys in enumerate(rows):
             text, y = ", ".join(map(name, keys)), first + 36 * row

@@ -20,14 +20,15 @@ PARTS = [
     ("M: the rows of the map", INK),
     ("L × M: three versions that stay pinned, each with its own rows at worst", TINT),
     ("W: the rows of the write that is being made", DARK_GREY),
-    ("S × W: the version before, which a short read still has", LIGHT_GREY),
+    ("S × W: the version before, which a short read may still need", LIGHT_GREY),
 ]
-USED = "in use at most, measured in a store of mean size: the mean keys of a shard, and edits"
+USED = "the most rows in use that were measured, in a store with the mean keys and edits of a shard"
 TITLE = "Most rows of a shard are for pinned versions"
 CAPTION = [
-    "Rows needed = (1 + L) × M + (1 + S) × W, here with L = 3 and S = 1. A map of 200,000 random"
-    " keys in format 1; batches of 500 edits. Each bar is of the fullest shard, which has more keys"
-    " than the mean. The line at its right end: the rows with which the shard is opened.",
+    "Rows needed = (1 + L) × M + (1 + S) × W, here with L = 3 and S = 1. A row is a memory cell. A"
+    " map of 200,000 random keys in format 1; blocks of 500 edits. Each bar is of the fullest shard,"
+    " which has more keys than the mean. The line behind its right end: the rows with which the shard"
+    " is opened.",
 ]
 
 

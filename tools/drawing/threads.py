@@ -18,8 +18,8 @@ PANELS = {
         "beside": ("of the newest version, while another thread puts", "white"),
     }),
     "writers": (664, 1184, "puts a second, in thousands", 1_000, ("slowest", "writer, %"), {
-        "before": ("`mst_put`, without the line", LIGHT_GREY),
-        "line": ("`mst_put`, with the line", DARK_GREY),
+        "before": ("`mst_put`, without the queue", LIGHT_GREY),
+        "line": ("`mst_put`, with the queue", DARK_GREY),
         "mutex": ("a mutex around `mst_try_put`", "white"),
     }),
 }
@@ -27,11 +27,11 @@ CAPTION = [
     "One store of 1,000 keys on four processors; each thread has a pass (handle) of its own.",
     "Readers: a get of the newest version pins it and unpins it, by two atomic steps on words that"
     " all threads share. A get of a pinned version makes no such step.",
-    "Writers: one write lock, the turn, serves all, so more writers make no more puts. Those of a"
-    " sharded map do (USING has a picture). With the line, as it is today, calls that have waited"
-    " 30 ms go first. Each bar is the median of five runs.",
-    "time of one get: its processor time; that of a get by one reader alone is 1.",
-    "slowest writer: its puts, as a part of the mean of all writers; the median.",
+    "Writers: one write lock, the turn, serves all, so more writers make no more puts. With the"
+    " queue, as the library has it, calls that have waited 30 ms go first. Each bar is the median of"
+    " five runs.",
+    "Time of one get: its processor time; that of a get by one reader alone is 1.",
+    "Slowest writer: its puts, as a part of the mean of all writers; the median.",
 ]
 # The heads of the tables that are drawn: what the page says above them is said below the picture.
 HEADS = {"gets a second, by readers": "readers", "puts a second, by writers": "writers"}

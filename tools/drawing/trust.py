@@ -57,7 +57,7 @@ def boxes():
         ("thick", LEFT, ROWS[1], HALF, "definitions", (
             f"{store} lines for the store,", f"{theorem} the theorem, {verifier} the verifier")),
         ("thin", LEFT + HALF + 24, ROWS[1], HALF, "code, laws and proofs", (
-            "each function keeps its contract:", "the checker sees to that")),
+            "the checker accepts a function", "only if it keeps its contract")),
         ("thick", LEFT, ROWS[2], THIRD, "SHA-256", ("is what the crate", "sha2 states")),
         ("thick", second, ROWS[2], THIRD, "atomic steps", ("are sequentially", "consistent")),
         ("thick", third, ROWS[2], THIRD, "ported crates", ("keep to what", "they state")),
@@ -67,9 +67,9 @@ def boxes():
             "no clause says them,", "two tools look at them")),
         ("thick", RIGHT, ROWS[1], COLUMN, "not in Rattle", (
             f"the library's C (under {in_c} lines),", "headers, bindings: tested alone")),
-        ("dashed", RIGHT, ROWS[2], COLUMN, "tests", ("of what no clause says", "crates/*_tests, tests")),
+        ("dashed", RIGHT, ROWS[2], COLUMN, "tests", ("of what no clause says:", "crates/*_tests, tests")),
         ("dashed", RIGHT, ROWS[3], COLUMN, "wrong bodies", (
-            "mutation tests: clauses say enough",)),
+            "mutation tests, which check", "that clauses say enough")),
     ]
 
 
