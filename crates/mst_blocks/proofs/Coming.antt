@@ -6,28 +6,13 @@ use Rattle.mst_key.specs.declared.history.Edit.{Edit}
 use Rattle.mst_store.specs.Passes.{Known, StoreId}
 use Rattle.mst_store.specs.Preparing.{Waiting}
 use Rattle.mst_shards.specs.Laid.{AreOf}
-use Rattle.mst_blocks.specs.Blocks.{MakesNothing}
 use Rattle.mst_blocks.specs.Staging.{PreparesNext, Staged}
-use Rattle.mst_blocks.specs.Origins.{Origin, ComesFrom, pass_now, passes_of, edits_of, IsStoreAt}
+use Rattle.mst_blocks.specs.Origins.{Origin, passes_of, edits_of, IsStoreAt}
 use Rattle.mst_blocks.specs.declared.blocks.Stage.TheVariants as stage
-use Rattle.mst_blocks.specs.declared.part.LaidStage.{LaidStage}
-use Rattle.mst_blocks.specs.declared.part.LaidStage.TheVariants.{Waits, Ready, Stopped}
-use Rattle.mst_blocks.proofs.Committing.{same_nothing, looks_nothing, part_nothing}
 use Rattle.mst_shards.proofs.HandingOut.{next_at}
 use Rattle.mst_shards.proofs.Owned.{next_low, next_own}
 
 -- ---- one part
-
-pub came_nothing : {A : Type 0} (o : Origin) (t : LaidStage A) → ComesFrom o t
-    → MakesNothing o.pass (pass_now t)
-came_nothing o (Waits q edits) c = same_nothing o.pass q c.0
-came_nothing o (Ready w) c = looks_nothing o.pass w.known c.1.prepares.looks
-came_nothing o (Stopped fault q) c = part_nothing fault o.edits o.pass q c.1
-
--- so it is of the store that it was of
-pub came_store : {A : Type 0} (o : Origin) (t : LaidStage A) (s : StoreId) → ComesFrom o t
-    → o.pass.store ≡ s → (pass_now t).store ≡ s
-came_store o t s c own = (came_nothing o t c).same.0 ∙ own
 
 pub staged_ready : (A B : Type 0) (part : List Edit) (p : Known) (w : Waiting) → 0 < length part
     → PreparesNext part p w → Staged {A = A} {B = B} part p (stage.Ready w)

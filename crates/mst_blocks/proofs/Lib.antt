@@ -11,3 +11,4 @@ pub mod PartsCommitted
 pub mod PartsDealt
 pub mod Reading
 pub mod Relisted
+pub mod Sent

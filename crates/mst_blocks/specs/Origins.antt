@@ -10,7 +10,7 @@ use Rattle.mst_blocks.specs.Blocks.{parts_of, RefusesPart}
 use Rattle.mst_blocks.specs.Staging.{PreparesNext}
 use Rattle.mst_blocks.specs.Writing.{IsWriterOf}
 use Rattle.mst_blocks.specs.declared.part.LaidStage.{LaidStage}
-use Rattle.mst_blocks.specs.declared.part.LaidStage.TheVariants.{Waits, Ready, Stopped}
+use Rattle.mst_blocks.specs.declared.part.LaidStage.TheVariants.{Away, Waits, Ready, Stopped}
 
 -- ---- one part
 
@@ -21,15 +21,17 @@ pub record Origin : Type 0 where
 
 -- its edits wait still, or they are prepared, or its shard was refused them
 abbrev pub ComesFrom : {A : Type 0} → Origin → LaidStage A → Type 0
+ComesFrom o Away = ⊥
 ComesFrom o (Waits q edits) = (q ≡ o.pass) × (edits ≡ o.edits)
 ComesFrom o (Ready w) = (0 < length o.edits) × PreparesNext o.edits o.pass w
 ComesFrom o (Stopped fault q) = (0 < length o.edits) × RefusesPart fault o.edits o.pass q
 
--- what its pass knows now
-abbrev pub pass_now : {A : Type 0} → LaidStage A → Known
-pass_now (Waits q edits) = q
-pass_now (Ready w) = w.known
-pass_now (Stopped fault q) = q
+-- its pass is of this store
+abbrev pub HasPassOf : {A : Type 0} → StoreId → LaidStage A → Type 0
+HasPassOf s Away = ⊥
+HasPassOf s (Waits q edits) = q.store ≡ s
+HasPassOf s (Ready w) = w.known.store ≡ s
+HasPassOf s (Stopped fault q) = q.store ≡ s
 
 -- a store stands at this place
 abbrev pub IsStoreAt : List StoreId → ℕ → StoreId → Type 0

@@ -22,17 +22,23 @@ use std::marker::Model;
 use std::snapshot::Snapshot;
 use std::sync::Arc;
 
-/// A block that was begun. It has its writer until it is committed or cancelled with its parts.
-///
-/// One that is dropped takes the writer with it.
+/// What a block has of its writer.
 #[derive(Drop)]
-pub struct Block<A: Allocator + Copy> {
+pub struct Held<A: Allocator + Copy> {
     map: Arc<Sharded<A>, A>,
     // the list of the writer's passes, which is empty now
     room: Vec<Laid<A>, A>,
     directory: Laid<A>,
     // the root digest of the last block
     root: [u8; 32],
+}
+
+/// A block that was begun. It has its writer until it is committed or cancelled with its parts.
+///
+/// One that is dropped takes the writer with it.
+#[derive(Drop)]
+pub struct Block<A: Allocator + Copy> {
+    held: Held<A>,
     // the parts that were begun, for contracts alone
     parts: Snapshot<Vec<BlockPart<A>, A>>,
 }
@@ -46,12 +52,12 @@ impl<A: Allocator + Copy> Model for Block<A> {
 
     ghost Value = { Begun };
 
-    ghost view = { λ b. begun (arc_value b.map).splits b.parts.value.items b.directory };
+    ghost view = { λ b. begun (arc_value b.held.map).splits b.parts.value.items b.held.directory };
 
-    ghost invariant = { λ b. IsBlockOf (arc_value b.map)
-        (begun (arc_value b.map).splits b.parts.value.items b.directory)
-        × IsLastRoot b.root b.directory × (b.room.items ≡ [])
-        × (length b.parts.value.items ≤ vec_capacity b.room) };
+    ghost invariant = { λ b. IsBlockOf (arc_value b.held.map)
+        (begun (arc_value b.held.map).splits b.parts.value.items b.held.directory)
+        × IsLastRoot b.held.root b.held.directory × (b.held.room.items ≡ [])
+        × (length b.parts.value.items ≤ vec_capacity b.held.room) };
 }
 
 // Lists with room for what is prepared of so many shards, and for their passes.
@@ -98,13 +104,13 @@ impl<A: Allocator + Copy> Writer<A> {
         } = self;
         let (parts, room) = begin_all(&map, passes, dealt, shares, room);
         let begun = Snapshot::of(&parts);
-        let block = Block {
+        let held = Held {
             map,
             room,
             directory,
             root,
-            parts: begun,
         };
+        let block = Block { held, parts: begun };
         Ok((block, parts))
     }
 }
@@ -140,12 +146,15 @@ impl<A: Allocator + Copy> Block<A> {
             Err(refused) => return (self.cancel(parts), Err(BlockFault::Memory(refused))),
         };
         let Block {
+            held,
+            parts: _noted,
+        } = self;
+        let Held {
             map,
             room,
             directory,
             root: last,
-            parts: _noted,
-        } = self;
+        } = held;
         let (staged, stopped) = finish_all(alloc, map.stores(), parts, stages);
         let listing = map.directory().lift(directory);
         let (done, listed, made) = conclude(alloc, map.splits(), staged, stopped, listing, passes);
@@ -186,12 +195,15 @@ impl<A: Allocator + Copy> Block<A> {
         ensures same { (blocks : Blocks) → HasMade blocks self.writer → HasMade blocks result }
     {
         let Block {
+            held,
+            parts: _noted,
+        } = self;
+        let Held {
             map,
             room,
             directory,
             root,
-            parts: _noted,
-        } = self;
+        } = held;
         let passes = cancel_parts(map.stores(), parts, room);
         Writer {
             map,

@@ -44,6 +44,7 @@ fn finish_next<'a, A: Allocator + Copy>(
     ensures left { MakesNothing part.pass (canceled_stage result) }
 {
     match part.into_stage() {
+        LaidStage::Away => unreachable!(),
         LaidStage::Waits(laid, edits) => {
             stage_next(alloc, store.lift(laid), edits, stopped, place)
         }
@@ -84,6 +85,7 @@ fn cancel_part<A: Allocator + Copy>(store: &Store<A>, part: BlockPart<A>) -> Lai
     ensures nothing { MakesNothing part.pass result }
 {
     match part.into_stage() {
+        LaidStage::Away => unreachable!(),
         LaidStage::Waits(laid, _) => laid,
         LaidStage::Ready(prepared) => store.lift_prepared(prepared).cancel().lay(),
         LaidStage::Stopped(_, laid) => laid,

@@ -10,12 +10,12 @@
 //! let (writer, made) = writer.apply(rt.alloc(), &edits);  // Ok(1): made whole, in both shards
 //! ```
 //!
-//! A block may be made in parts, each prepared by itself:
+//! A block may be made in parts, by several threads:
 //!
 //! ```
-//! let (block, parts) = writer.begin(rt.alloc(), &edits)?;    // a part for each shard
-//! let parts = prepared(parts);                               // any of them, by BlockPart::prepare
-//! let (writer, made) = block.commit(rt.alloc(), parts);      // as by apply
+//! let (block, mut parts) = writer.begin(rt.alloc(), &edits)?;      // a part for each shard
+//! prepare_in_threads(&rt, rt.alloc(), parts.as_mut_slice(), 4);    // or any, BlockPart::prepare
+//! let (writer, made) = block.commit(rt.alloc(), parts);            // as by apply
 //! ```
 //!
 //! Each shard makes its part in free rows and hashes it. If one of them, or the directory, is
@@ -34,10 +34,12 @@ mod finishing;
 mod making;
 mod part;
 mod parting;
+mod threads;
 mod writer;
 
 pub use block::Block;
 pub use chains::{block_laws, snapshot_laws, writer_laws};
 pub use faults::{BlockFault, Overtaken, PartFault};
 pub use part::BlockPart;
+pub use threads::prepare_in_threads;
 pub use writer::Writer;

@@ -3,7 +3,7 @@ ghost use Rattle.std.specs.Prelude.{◌≡◌, ◌==◌, ◌<◌, length, IfSome
 ghost use Rattle.std.specs.Arc.{arc_value};
 ghost use Rattle.mst_store.specs.Passes.{Known};
 ghost use Rattle.mst_blocks.specs.Blocks.{RefusesPart};
-ghost use Rattle.mst_blocks.specs.Origins.{Origin, ComesFrom, pass_now, IsStoreAt};
+ghost use Rattle.mst_blocks.specs.Origins.{Origin, ComesFrom, HasPassOf, IsStoreAt};
 
 use crate::blocks::{Part, prepare_next};
 use crate::faults::PartFault;
@@ -11,12 +11,15 @@ use mst_shards::Sharded;
 use mst_store::{Laid, LaidPrepared, Store};
 use std::alloc::Allocator;
 use std::marker::Model;
+use std::mem::replace;
 use std::snapshot::Snapshot;
 use std::sync::Arc;
 
 /// How far the part of a shard is. Its pass is laid down.
 #[derive(Drop)]
-pub(crate) enum LaidStage<A: Allocator + Copy> {
+pub enum LaidStage<A: Allocator + Copy> {
+    /// It is just being prepared.
+    Away,
     /// Its edits wait.
     Waits(Laid<A>, Part<A>),
     /// They are prepared.
@@ -25,15 +28,21 @@ pub(crate) enum LaidStage<A: Allocator + Copy> {
     Stopped(PartFault, Laid<A>),
 }
 
+/// The shard of a part, and how far it is.
+#[derive(Drop)]
+pub struct Work<A: Allocator + Copy> {
+    map: Arc<Sharded<A>, A>,
+    place: usize,
+    stage: LaidStage<A>,
+}
+
 /// What one shard has to do for a block that was begun: a pass of it, laid down, and the edits of
 /// its keys. It may be prepared while others wait.
 ///
 /// One that is dropped takes the pass with it: no block can be made of this map any more.
 #[derive(Drop)]
 pub struct BlockPart<A: Allocator + Copy> {
-    map: Arc<Sharded<A>, A>,
-    place: usize,
-    stage: LaidStage<A>,
+    work: Work<A>,
     // what it was begun with, for contracts alone
     pass: Snapshot<Laid<A>>,
     edits: Snapshot<Part<A>>,
@@ -48,8 +57,8 @@ impl<A: Allocator + Copy> Model for BlockPart<A> {
 
     ghost view = { λ p. record { pass = p.pass.value; edits = p.edits.value } };
 
-    ghost invariant = { λ p. IsStoreAt (arc_value p.map).stores p.place p.pass.value.store
-        × ComesFrom (record { pass = p.pass.value; edits = p.edits.value }) p.stage };
+    ghost invariant = { λ p. IsStoreAt (arc_value p.work.map).stores p.work.place p.pass.value.store
+        × ComesFrom (record { pass = p.pass.value; edits = p.edits.value }) p.work.stage };
 }
 
 // Prepares edits that wait, if there are any.
@@ -78,10 +87,11 @@ fn prepare_stage<A: Allocator + Copy>(
     store: &Store<A>,
     stage: LaidStage<A>,
 ) -> LaidStage<A>
-    requires own { (pass_now stage).store ≡ store.now }
+    requires own { HasPassOf store.now stage }
     ensures comes { (o : Origin) → ComesFrom o stage → ComesFrom o result }
 {
     match stage {
+        LaidStage::Away => unreachable!(),
         LaidStage::Waits(laid, part) => prepare_waiting(alloc, store, laid, part),
         LaidStage::Ready(prepared) => LaidStage::Ready(prepared),
         LaidStage::Stopped(fault, laid) => LaidStage::Stopped(fault, laid),
@@ -101,10 +111,9 @@ impl<A: Allocator + Copy> BlockPart<A> {
     {
         let known = Snapshot::of(&pass);
         let edits = Snapshot::of(&part);
+        let stage = LaidStage::Waits(pass, part);
         BlockPart {
-            map,
-            place,
-            stage: LaidStage::Waits(pass, part),
+            work: Work { map, place, stage },
             pass: known,
             edits,
         }
@@ -114,7 +123,8 @@ impl<A: Allocator + Copy> BlockPart<A> {
     pub fn is_empty(&self) -> bool
         ensures empty { result ≡ (length self.now.edits == 0) }
     {
-        match &self.stage {
+        match &self.work.stage {
+            LaidStage::Away => unreachable!(),
             LaidStage::Waits(_, part) => part.edits.is_empty(),
             LaidStage::Ready(_) => false,
             LaidStage::Stopped(_, _) => false,
@@ -124,24 +134,12 @@ impl<A: Allocator + Copy> BlockPart<A> {
     /// Makes its edits in free rows and hashes them. Nothing is published. It remembers a refusal.
     /// If it is prepared or was refused already, it stays so. What is not prepared by then
     /// [`Block::commit`](crate::Block::commit) prepares.
-    pub fn prepare(self, alloc: A) -> BlockPart<A>
-        ensures same { result ≡ self }
+    pub fn prepare(&mut self, alloc: A)
+        ensures same { self.new ≡ self.old }
     {
-        let BlockPart {
-            map,
-            place,
-            stage,
-            pass,
-            edits,
-        } = self;
-        let stage = prepare_stage(alloc, &map.stores()[place], stage);
-        BlockPart {
-            map,
-            place,
-            stage,
-            pass,
-            edits,
-        }
+        let stage = replace(&mut self.work.stage, LaidStage::Away);
+        let store = &self.work.map.stores()[self.work.place];
+        self.work.stage = prepare_stage(alloc, store, stage);
     }
 
     /// Why its shard was refused its edits, if it was. The block will be refused with this fault,
@@ -150,7 +148,8 @@ impl<A: Allocator + Copy> BlockPart<A> {
         ensures why { IfSome result (λ fault. (0 < length self.now.edits)
             × ((q : Known) × RefusesPart fault self.now.edits self.now.pass q)) }
     {
-        match &self.stage {
+        match &self.work.stage {
+            LaidStage::Away => unreachable!(),
             LaidStage::Waits(_, _) => None,
             LaidStage::Ready(_) => None,
             LaidStage::Stopped(fault, _) => Some(*fault),
@@ -161,6 +160,6 @@ impl<A: Allocator + Copy> BlockPart<A> {
     pub(crate) fn into_stage(self) -> LaidStage<A>
         ensures comes { ComesFrom self result }
     {
-        self.stage
+        self.work.stage
     }
 }

@@ -1,8 +1,9 @@
-//! Blocks whose parts are prepared one by one, or not at all, and blocks that are taken back.
+//! Blocks whose parts are prepared by threads. Parts that are prepared one by one, or not at all,
+//! and blocks that are taken back are tested in C (`tests/store/blocks_parts.c`).
 ghost use Rattle.std.specs.Prelude.{◌≡◌};
 
 use crate::maps::{confirm, found, opened, put, taken};
-use mst_blocks::{Block, BlockFault, BlockPart, PartFault, Writer};
+use mst_blocks::{Block, BlockFault, BlockPart, PartFault, Writer, prepare_in_threads};
 use mst_key::{Edit, Format};
 use mst_snapshots::Reader;
 use mst_store::ApplyFault;
@@ -29,18 +30,6 @@ fn begun(
     }
 }
 
-/// The parts, the last of them prepared.
-fn prepared(rt: &impl Abort, alloc: Global, parts: Vec<BlockPart<Global>>) -> Vec<BlockPart<Global>>
-    ensures same { result.items ≡ parts.items }
-{
-    let mut parts = parts;
-    let Some(last) = parts.pop() else {
-        panic!(rt; "a block has parts")
-    };
-    parts.push(last.prepare(alloc)).expect(rt, "memory");
-    parts
-}
-
 /// The values of the three keys in the reader's snapshot.
 fn values(rt: &impl Abort, reader: Reader<Global>) -> (Reader<Global>, [u8; 3]) {
     let mut snapshot = taken(rt, reader);
@@ -50,49 +39,6 @@ fn values(rt: &impl Abort, reader: Reader<Global>) -> (Reader<Global>, [u8; 3]) 
         found(rt, &mut snapshot, b"z"),
     ];
     (snapshot.release(), values)
-}
-
-#[test]
-fn parts_that_are_prepared_and_others_are_one_block(rt: HostRuntime) {
-    let (writer, reader) = opened(&rt, 64, Format::One);
-    let (block, parts) = begun(&rt, rt.alloc(), writer, 7);
-    let parts = prepared(&rt, rt.alloc(), parts);
-    let (reader, before) = values(&rt, reader);
-    let (_writer, told) = block.commit(rt.alloc(), parts);
-    let (_reader, after) = values(&rt, reader);
-    confirm(&rt, told == Ok(1) && before == [0, 0, 0], "it is block 1");
-    confirm(&rt, after == [7, 7, 7], "each shard has its edit");
-}
-
-#[test]
-fn parts_that_nobody_prepared_are_prepared_by_the_commit(rt: HostRuntime) {
-    let (writer, reader) = opened(&rt, 64, Format::Two);
-    let (block, parts) = begun(&rt, rt.alloc(), writer, 5);
-    let (_writer, told) = block.commit(rt.alloc(), parts);
-    let (_reader, after) = values(&rt, reader);
-    confirm(&rt, told == Ok(1) && after == [5, 5, 5], "it is block 1");
-}
-
-#[test]
-fn a_block_that_is_cancelled_leaves_no_trace(rt: HostRuntime) {
-    let (writer, reader) = opened(&rt, 64, Format::One);
-    let root = writer.root();
-    let (block, parts) = begun(&rt, rt.alloc(), writer, 7);
-    let parts = prepared(&rt, rt.alloc(), parts);
-    let writer = block.cancel(parts);
-    confirm(
-        &rt,
-        writer.root() == root && writer.number() == 0,
-        "nothing is made",
-    );
-    let (block, parts) = begun(&rt, rt.alloc(), writer, 9);
-    let (_writer, told) = block.commit(rt.alloc(), parts);
-    let (_reader, after) = values(&rt, reader);
-    confirm(
-        &rt,
-        told == Ok(1) && after == [9, 9, 9],
-        "the next block is made",
-    );
 }
 
 /// Begins a block whose last part finds no room.
@@ -115,19 +61,34 @@ fn begun_too_large(
 }
 
 #[test]
-fn a_part_that_is_refused_refuses_the_block(rt: HostRuntime) {
-    let (writer, reader) = opened(&rt, 4, Format::One);
-    let (block, parts) = begun_too_large(&rt, rt.alloc(), writer);
-    let parts = prepared(&rt, rt.alloc(), parts);
+fn parts_are_prepared_by_threads(rt: HostRuntime) {
+    let (writer, reader) = opened(&rt, 64, Format::One);
+    let (block, mut parts) = begun(&rt, rt.alloc(), writer, 7);
+    prepare_in_threads(&rt, rt.alloc(), parts.as_mut_slice(), 3);
+    let (reader, before) = values(&rt, reader);
+    let (_writer, told) = block.commit(rt.alloc(), parts);
+    let (_reader, after) = values(&rt, reader);
+    confirm(&rt, told == Ok(1) && before == [0, 0, 0], "it is block 1");
+    confirm(&rt, after == [7, 7, 7], "each shard has its edit");
+}
+
+#[test]
+fn parts_that_threads_prepared_tell_who_was_refused(rt: HostRuntime) {
+    let (writer, _reader) = opened(&rt, 4, Format::Two);
+    let (block, mut parts) = begun_too_large(&rt, rt.alloc(), writer);
+    prepare_in_threads(&rt, rt.alloc(), parts.as_mut_slice(), 0);
     let no_room = PartFault::Refused(ApplyFault::NoRoom);
-    let told_by_part = parts.get(2).and_then(|part| part.refusal());
-    confirm(&rt, told_by_part == Some(no_room), "the part tells it");
+    let told_by_last = parts.get(2).and_then(|part| part.refusal());
+    let told_by_first = parts.get(0).and_then(|part| part.refusal());
+    confirm(
+        &rt,
+        told_by_last == Some(no_room) && told_by_first == None,
+        "the last part tells it",
+    );
     let (writer, told) = block.commit(rt.alloc(), parts);
     confirm(
         &rt,
         told == Err(BlockFault::Shard(2, no_room)) && writer.number() == 0,
         "the block is refused",
     );
-    let (_reader, after) = values(&rt, reader);
-    confirm(&rt, after == [0, 0, 0], "nothing is made");
 }

@@ -14,7 +14,7 @@ use Rattle.mst_blocks.proofs.block.Block.cancel.Goals as goal
 
 module _ (g : Over) (c : After-drop-noted g) where
   abbrev splits : List (List ℕ)
-  splits = (arc_value c.self.inside.map).splits
+  splits = (arc_value c.self.inside.held.map).splits
 
   abbrev os : List Origin
   os = vec_items c.self.inside.parts.value
@@ -23,7 +23,7 @@ module _ (g : Over) (c : After-drop-noted g) where
   qs = vec_items c.cancel_parts-passes.result
 
   abbrev d : Known
-  d = c.self.inside.directory
+  d = c.self.inside.held.directory
 
   given : vec_items c.args.parts ≡ os
   given = c.requires.own ∙ sym (ap (λ (b : Begun). b.parts) c.self.view_is)

@@ -29,7 +29,7 @@ conclude-done-requires-clause-shards g c =
     let ts = c.finish_all-staged.result.0.items in
     let given : List Origin = vec_items c.args.parts in
     let os : List Origin = vec_items c.self.inside.parts.value in
-    let same : c.splits.result.now ≡ (arc_value c.self.inside.map).splits = search rules in
+    let same : c.splits.result.now ≡ (arc_value c.self.inside.held.map).splits = search rules in
     let as_many : length given ≡ length os =
     ap (λ (l : List Origin). length l)
     (c.requires.own ∙ sym (ap (λ (b : Begun). b.parts) c.self.view_is)) in
@@ -38,8 +38,8 @@ conclude-done-requires-clause-shards g c =
     let mapped = length-map ts canceled_stage in
     let passes = length-map given (λ (o : Origin). o.pass) in
     let all = length-map os (λ (o : Origin). o.pass) in
-    let count = writer_count (arc_value c.self.inside.map).splits (passes_of os)
-    c.self.inside.directory c.self.invariant.0.own.writer in
+    let count = writer_count (arc_value c.self.inside.held.map).splits (passes_of os)
+    c.self.inside.held.directory c.self.invariant.0.own.writer in
     let wide = ap (λ (l : List (List ℕ)). length l) same in
     omega (
       arith,
@@ -76,10 +76,10 @@ conclude-done-requires-clause-fits g c =
 
 pub lay_all-passes-requires-clause-fits : goal.lay_all-passes-requires-clause-fits
 lay_all-passes-requires-clause-fits g c =
-    let count = parts_count (arc_value c.self.inside.map) c.splits.result.now
+    let count = parts_count (arc_value c.self.inside.held.map) c.splits.result.now
     (vec_items c.self.inside.parts.value) (vec_items c.args.parts)
     (vec_items c.conclude-done.result.0) (vec_items c.conclude-done.result.0)
-    c.self.inside.directory c.lift-listing.result c.conclude-done.result.1
+    c.self.inside.held.directory c.lift-listing.result c.conclude-done.result.1
     c.conclude-done.result.1 c.args.self c.conclude-done.result.2 (search rules)
     (c.requires.own ∙ sym (ap (λ (b : Begun). b.parts) c.self.view_is))
     c.lift-listing.ensures.same refl refl
@@ -93,21 +93,21 @@ lay_all-passes-requires-clause-fits g c =
 
 pub invariant_of-writer : goal.invariant_of-writer
 invariant_of-writer g c = (
-  parts_writer (arc_value c.self.inside.map) c.splits.result.now
+  parts_writer (arc_value c.self.inside.held.map) c.splits.result.now
       (vec_items c.self.inside.parts.value) (vec_items c.args.parts)
       (vec_items c.conclude-done.result.0) (vec_items c.lay_all-passes.result)
-      c.self.inside.directory c.lift-listing.result c.conclude-done.result.1 c.lay-directory.result
-      c.args.self c.conclude-done.result.2 (search rules)
+      c.self.inside.held.directory c.lift-listing.result c.conclude-done.result.1
+      c.lay-directory.result c.args.self c.conclude-done.result.2 (search rules)
       (c.requires.own ∙ sym (ap (λ (b : Begun). b.parts) c.self.view_is))
       c.lift-listing.ensures.same c.lay_all-passes.ensures.same c.lay-directory.ensures.same
       c.self.view_is c.self.invariant.0
       (c.conclude-done.ensures.concludes (edits_of (vec_items c.args.parts))
       (passes_of (vec_items c.args.parts)) c.finish_all-staged.ensures.staged),
-  parts_rooted (arc_value c.self.inside.map) c.splits.result.now
+  parts_rooted (arc_value c.self.inside.held.map) c.splits.result.now
       (vec_items c.self.inside.parts.value) (vec_items c.args.parts)
       (vec_items c.conclude-done.result.0) (vec_items c.lay_all-passes.result)
-      c.self.inside.directory c.lift-listing.result c.conclude-done.result.1 c.lay-directory.result
-      c.args.self c.conclude-done.result.2 (search rules)
+      c.self.inside.held.directory c.lift-listing.result c.conclude-done.result.1
+      c.lay-directory.result c.args.self c.conclude-done.result.2 (search rules)
       (c.requires.own ∙ sym (ap (λ (b : Begun). b.parts) c.self.view_is))
       c.lift-listing.ensures.same c.lay_all-passes.ensures.same c.lay-directory.ensures.same
       c.self.view_is c.self.invariant.0
@@ -119,11 +119,11 @@ invariant_of-writer g c = (
 pub returns-in-Ok-made-clause-ok : goal.returns-in-Ok-made-clause-ok
 returns-in-Ok-made-clause-ok g c edits of =
     from_ok c.conclude-done.result.2 c.in-Ok-made.root c.in-Ok-made.is
-    (parts_added (arc_value c.self.inside.map) c.splits.result.now
+    (parts_added (arc_value c.self.inside.held.map) c.splits.result.now
     (vec_items c.self.inside.parts.value) (vec_items c.args.parts)
     (vec_items c.conclude-done.result.0) (vec_items c.lay_all-passes.result)
-    c.self.inside.directory c.lift-listing.result c.conclude-done.result.1 c.lay-directory.result
-    c.args.self c.conclude-done.result.2 (search rules)
+    c.self.inside.held.directory c.lift-listing.result c.conclude-done.result.1
+    c.lay-directory.result c.args.self c.conclude-done.result.2 (search rules)
     (c.requires.own ∙ sym (ap (λ (b : Begun). b.parts) c.self.view_is))
     c.lift-listing.ensures.same c.lay_all-passes.ensures.same c.lay-directory.ensures.same
     c.self.view_is c.self.invariant.0
@@ -134,11 +134,11 @@ returns-in-Ok-made-clause-ok g c edits of =
 pub returns-in-Ok-made-clause-more : goal.returns-in-Ok-made-clause-more
 returns-in-Ok-made-clause-more g c edits of =
     from_ok c.conclude-done.result.2 c.in-Ok-made.root c.in-Ok-made.is
-    (parts_more (arc_value c.self.inside.map) c.splits.result.now
+    (parts_more (arc_value c.self.inside.held.map) c.splits.result.now
     (vec_items c.self.inside.parts.value) (vec_items c.args.parts)
     (vec_items c.conclude-done.result.0) (vec_items c.lay_all-passes.result)
-    c.self.inside.directory c.lift-listing.result c.conclude-done.result.1 c.lay-directory.result
-    c.args.self c.conclude-done.result.2 (search rules)
+    c.self.inside.held.directory c.lift-listing.result c.conclude-done.result.1
+    c.lay-directory.result c.args.self c.conclude-done.result.2 (search rules)
     (c.requires.own ∙ sym (ap (λ (b : Begun). b.parts) c.self.view_is))
     c.lift-listing.ensures.same c.lay_all-passes.ensures.same c.lay-directory.ensures.same
     c.self.view_is c.self.invariant.0
@@ -150,39 +150,39 @@ returns-in-Ok-made-clause-more g c edits of =
 
 pub invariant_of-writer-in-Err-made : goal.invariant_of-writer-in-Err-made
 invariant_of-writer-in-Err-made g c = (
-  parts_writer (arc_value c.self.inside.map) c.splits.result.now
+  parts_writer (arc_value c.self.inside.held.map) c.splits.result.now
       (vec_items c.self.inside.parts.value) (vec_items c.args.parts)
       (vec_items c.conclude-done.result.0) (vec_items c.lay_all-passes.result)
-      c.self.inside.directory c.lift-listing.result c.conclude-done.result.1 c.lay-directory.result
-      c.args.self c.conclude-done.result.2 (search rules)
+      c.self.inside.held.directory c.lift-listing.result c.conclude-done.result.1
+      c.lay-directory.result c.args.self c.conclude-done.result.2 (search rules)
       (c.requires.own ∙ sym (ap (λ (b : Begun). b.parts) c.self.view_is))
       c.lift-listing.ensures.same c.lay_all-passes.ensures.same c.lay-directory.ensures.same
       c.self.view_is c.self.invariant.0
       (c.conclude-done.ensures.concludes (edits_of (vec_items c.args.parts))
       (passes_of (vec_items c.args.parts)) c.finish_all-staged.ensures.staged),
-  parts_still (arc_value c.self.inside.map) c.splits.result.now
+  parts_still (arc_value c.self.inside.held.map) c.splits.result.now
       (vec_items c.self.inside.parts.value) (vec_items c.args.parts)
       (vec_items c.conclude-done.result.0) (vec_items c.lay_all-passes.result)
-      c.self.inside.directory c.lift-listing.result c.conclude-done.result.1 c.lay-directory.result
-      c.args.self c.conclude-done.result.2 (search rules)
+      c.self.inside.held.directory c.lift-listing.result c.conclude-done.result.1
+      c.lay-directory.result c.args.self c.conclude-done.result.2 (search rules)
       (c.requires.own ∙ sym (ap (λ (b : Begun). b.parts) c.self.view_is))
       c.lift-listing.ensures.same c.lay_all-passes.ensures.same c.lay-directory.ensures.same
       c.self.view_is c.self.invariant.0
       (c.conclude-done.ensures.concludes (edits_of (vec_items c.args.parts))
       (passes_of (vec_items c.args.parts)) c.finish_all-staged.ensures.staged)
-      c.self.inside.root c.in-Err-made.fault c.in-Err-made.is c.self.invariant.1,
+      c.self.inside.held.root c.in-Err-made.fault c.in-Err-made.is c.self.invariant.1,
 )
 
 pub returns-clause-err : goal.returns-clause-err
 returns-clause-err g c edits of =
     from_err_of (λ (fault : BlockFault). RefusesBlock fault edits c.args.self.writer
-    (whole (arc_value c.self.inside.map).splits (vec_items c.lay_all-passes.result)
+    (whole (arc_value c.self.inside.held.map).splits (vec_items c.lay_all-passes.result)
     c.lay-directory.result)) c.conclude-done.result.2 c.in-Err-made.fault c.in-Err-made.is
-    (parts_refused (arc_value c.self.inside.map) c.splits.result.now
+    (parts_refused (arc_value c.self.inside.held.map) c.splits.result.now
     (vec_items c.self.inside.parts.value) (vec_items c.args.parts)
     (vec_items c.conclude-done.result.0) (vec_items c.lay_all-passes.result)
-    c.self.inside.directory c.lift-listing.result c.conclude-done.result.1 c.lay-directory.result
-    c.args.self c.conclude-done.result.2 (search rules)
+    c.self.inside.held.directory c.lift-listing.result c.conclude-done.result.1
+    c.lay-directory.result c.args.self c.conclude-done.result.2 (search rules)
     (c.requires.own ∙ sym (ap (λ (b : Begun). b.parts) c.self.view_is))
     c.lift-listing.ensures.same c.lay_all-passes.ensures.same c.lay-directory.ensures.same
     c.self.view_is c.self.invariant.0
@@ -193,11 +193,11 @@ returns-clause-err g c edits of =
 pub returns-clause-same : goal.returns-clause-same
 returns-clause-same g c =
     from_err c.conclude-done.result.2 c.in-Err-made.fault c.in-Err-made.is
-    (parts_same (arc_value c.self.inside.map) c.splits.result.now
+    (parts_same (arc_value c.self.inside.held.map) c.splits.result.now
     (vec_items c.self.inside.parts.value) (vec_items c.args.parts)
     (vec_items c.conclude-done.result.0) (vec_items c.lay_all-passes.result)
-    c.self.inside.directory c.lift-listing.result c.conclude-done.result.1 c.lay-directory.result
-    c.args.self c.conclude-done.result.2 (search rules)
+    c.self.inside.held.directory c.lift-listing.result c.conclude-done.result.1
+    c.lay-directory.result c.args.self c.conclude-done.result.2 (search rules)
     (c.requires.own ∙ sym (ap (λ (b : Begun). b.parts) c.self.view_is))
     c.lift-listing.ensures.same c.lay_all-passes.ensures.same c.lay-directory.ensures.same
     c.self.view_is c.self.invariant.0
