@@ -24,6 +24,7 @@ use Rattle.mst_shards.specs.BlockHistory.{Whole, IsNumber, IsOneBlock}
 use Rattle.mst_shards.specs.Directory.{AllIn, OfClean}
 use Rattle.mst_shards.specs.Sharding.{Routes, map_of}
 use Rattle.mst_snapshots.specs.Reading.{SeesOn}
+use Rattle.mst_snapshots.specs.Tries.{PinsAfter}
 use Rattle.mst_blocks.specs.declared.faults.BlockFault.{BlockFault}
 use Rattle.mst_blocks.specs.Blocks.{last_made, LeavesAll}
 use Rattle.mst_blocks.specs.Writing.{last_block, block_map, AddsBlock, RefusesBlock}
@@ -38,16 +39,21 @@ abbrev pub Makes : List ℕ → List Edit → Whole → List ℕ → Whole → T
 Makes told es w text x = ((text ≡ told) × AddsBlock es w x)
     ⊎ ((fault : BlockFault) × (text ≡ line_of (block_words fault)) × RefusesBlock fault es w x)
 
--- the value of a key in the last block was looked up, and nothing was made
+-- the value of a key in the last block was looked up, in one step of the pass of its shard, and
+-- nothing was made
 pub record LooksUp (k : List ℕ) (found : Option (List ℕ)) (w x : Whole) : Type 0 where
   pub found_is : found ≡ map_get (block_map w) k
+  pub once : Routes k (λ p q. q.asked ≡ p.asked + 1) w.sharding x.sharding
+  pub directory : x.directory ≡ w.directory
   pub map : block_map x ≡ block_map w
   pub left : LeavesAll w.sharding.shards x.sharding.shards w.directory x.directory
 
--- another has written to the key's shard, and nothing was made
+-- another has written to the key's shard, as one step of its pass told, and nothing was made
 pub record FindsOther (k : List ℕ) (w : Whole) (text : List ℕ) (x : Whole) : Type 0 where
   pub told : text ≡ line_of (codes "overtaken")
   pub other : Routes k (λ p q. Looks p q × (length q.seen ≢ last_made p)) w.sharding x.sharding
+  pub once : Routes k (λ p q. q.asked ≡ p.asked + 1) w.sharding x.sharding
+  pub directory : x.directory ≡ w.directory
   pub left : LeavesAll w.sharding.shards x.sharding.shards w.directory x.directory
 
 -- a put or a remove: a look-up of its key, and then a block of one edit
@@ -62,16 +68,19 @@ Applies es w text x = Makes (line_of (codes "done")) es w text x
 
 -- ---- what a reader does
 
--- a look-up, by the pass of the key's shard
+-- a look-up, by the pass of the key's shard, which looks once: no other pass makes a step
 pub record Gets (k : List ℕ) (r : Whole) (text : List ℕ) (q : Whole) : Type 0 where
   pub found : Option (List ℕ)
   pub told : text ≡ line_of (value_words found)
-  pub answers : Routes k (λ p q. Answers (λ _ m. map_get m k) p found q) r.sharding q.sharding
+  pub answers : Routes k (λ x y. Answers (λ _ m. map_get m k) x found y) r.sharding q.sharding
+  pub once : Routes k (λ x y. y.asked ≡ x.asked + 1) r.sharding q.sharding
   pub directory : q.directory ≡ r.directory
 
--- a snapshot: it is of one block, and has seen all that the reader had seen
+-- A snapshot: it is of one block, and has seen all that the reader had seen. Each try is one step
+-- of each pass, and another follows only where what was pinned was not of one block
 pub record Takes (r y : Whole) : Type 0 where
   pub later : SeesOn r y
+  pub tries : PinsAfter r y
   pub one : IsOneBlock y
 
 -- what a read finds in the map of a snapshot; for some of it memory is taken

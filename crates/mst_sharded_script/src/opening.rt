@@ -7,11 +7,11 @@ ghost use Rattle.mst_shards.specs.Opening.{IsLot, seats_of};
 ghost use Rattle.mst_shards.specs.Sharding.{IsSplits};
 ghost use Rattle.mst_sharded_script.specs.Opening.{IsScriptShape, with_writer as shape_with_writer, reader_of, AreNewOf, Opens};
 
-use mst_blocks::{BlockFault, Writer};
+use mst_blocks::{BlockFault, PartFault, Writer};
 use mst_key::{Key, Memory};
 use mst_shards::{AllSeats, Lot, Sharded, ShardsFault};
 use mst_snapshots::Reader;
-use mst_store::{Shape, is_shape};
+use mst_store::{ApplyFault, Shape, is_shape};
 use mst_words::layout::MOST_PASSES;
 use std::alloc::Allocator;
 use std::sync::{Arc, Wait};
@@ -69,7 +69,8 @@ fn readers_of<A: Allocator + Copy>(
 /// The writer and the readers of a map.
 pub type Roles<A> = (Writer<A>, Vec<Reader<A>, A>);
 
-// Deals a map. Returns `None` if its directory was refused what lists the empty map.
+// Deals a map. Returns `None` if its directory refused the edits that list the empty map, but for
+// memory.
 fn deal_map<A: Allocator + Copy>(
     alloc: A,
     map: Sharded<A>,
@@ -85,6 +86,7 @@ fn deal_map<A: Allocator + Copy>(
     match Writer::new(&map, alloc, lot) {
         Ok(writer) => Ok(Some((writer, readers))),
         Err(BlockFault::Memory(refused)) => Err(refused),
+        Err(BlockFault::Directory(PartFault::Refused(ApplyFault::Memory(refused)))) => Err(refused),
         Err(_) => Ok(None),
     }
 }

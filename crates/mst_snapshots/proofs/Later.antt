@@ -1,14 +1,15 @@
 -- Passes that have seen more.
-use Rattle.std.proofs.Common.{◌≡◌, ℕ, ◌+◌, ◌<◌, List, [], ◌∷◌, length, map, get_or, slice_set, refl, sym, ap, ◌∙◌, subst}
+use Rattle.std.proofs.Common.{◌≡◌, ℕ, zero, suc, ◌+◌, ◌<◌, List, [], ◌∷◌, length, map, get_or, slice_set, refl, sym, ap, ◌∙◌, subst}
 use Rattle.mst_key.proofs.HistoryLaws.{IsPrefix-itself, IsPrefix-chain}
 use Rattle.mst_store.specs.Passes.{StoreId, Known}
-use Rattle.mst_shards.specs.BlockHistory.{Whole, whole}
+use Rattle.mst_shards.specs.BlockHistory.{Whole, whole, IsOneBlock}
 use Rattle.mst_shards.specs.Opening.{Shards}
 use Rattle.mst_shards.specs.Sharding.{AllStep, PinsNow, IsSharding, IsSplits}
 use Rattle.mst_shards.proofs.Owned.{store}
 use Rattle.mst_shards.proofs.PinningAll.{all_step_length}
 use Rattle.mst_shards.proofs.Stepping.{all_still, one_steps, all_weaker}
 use Rattle.mst_snapshots.specs.Reading.{IsLater, SeesOn, PinsWhole, HasSeenBlock, IsReader}
+use Rattle.mst_snapshots.specs.Tries.{InVain, PinsAfter}
 
 pub IsLater-itself : (p : Known) → IsLater p p
 IsLater-itself p = (refl, IsPrefix-itself p.seen)
@@ -54,8 +55,33 @@ pins_on w v pins = record {
 pub tried_on : (w v x : Whole) → SeesOn w v → PinsWhole v x → SeesOn w x
 tried_on w v x so_far pins = SeesOn-chain w v x so_far (pins_on v x pins)
 
+-- ---- tries
+
+-- each try so far was in vain
+pub record HasTried (w v : Whole) : Type 0 where
+  pub tries : ℕ
+  pub vain : InVain tries w v
+
+pub not_tried : (w : Whole) → HasTried w w
+not_tried w = record { tries = zero; vain = refl }
+
+pub tried_again : (w v x : Whole) → HasTried w v → PinsWhole v x → (IsOneBlock x → ⊥)
+    → HasTried w x
+tried_again w v x had pins none = record {
+  tries = suc had.tries;
+  vain = (v, had.vain, pins, none);
+}
+
+pub tried_then : (w v x : Whole) → HasTried w v → PinsWhole v x → PinsAfter w x
+tried_then w v x had pins = record {
+  tries = had.tries;
+  last = v;
+  vain = had.vain;
+  pins = pins;
+}
+
 -- a loop of tries
-pub ruleset all_tries = (SeesOn-itself, tried_on)
+pub ruleset all_tries = (SeesOn-itself, tried_on, not_tried, tried_again, tried_then)
 
 -- the pass at a place has seen more, and the others what they had seen
 pub one_on : (splits : List (List ℕ)) (ps : List Known) (d : Known) (i : ℕ) (p q : Known)

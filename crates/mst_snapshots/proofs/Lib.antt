@@ -1,4 +1,5 @@
 pub mod Clean
+pub mod Counted
 pub mod Kept
 pub mod Later
 pub mod Matching

@@ -1,3 +1,4 @@
 pub mod Agreeing
 pub mod Numbers
 pub mod Reading
+pub mod Tries

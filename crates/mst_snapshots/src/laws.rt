@@ -1,9 +1,11 @@
-//! Laws of the numbers of snapshots, proved as the contract of a function that does nothing.
-ghost use Rattle.std.specs.Prelude.{◌≡◌, ◌≤◌, ℕ};
+//! Laws of the numbers of snapshots, and of the steps that they take, proved as the contracts of
+//! functions that do nothing.
+ghost use Rattle.std.specs.Prelude.{◌≡◌, ◌≤◌, ◌+◌, ℕ};
 ghost use Rattle.mst_key.specs.History.{IsPrefix};
 ghost use Rattle.mst_shards.specs.BlockHistory.{Whole, IsOneBlock, IsNumber};
 ghost use Rattle.mst_snapshots.specs.Numbers.{HaveOneDirectory};
 ghost use Rattle.mst_snapshots.specs.Reading.{SeesOn};
+ghost use Rattle.mst_snapshots.specs.Tries.{PinsAfter, AllMakeSteps};
 
 /// Of two snapshots of one map, of which one has seen a directory's history that the other's
 /// begins with: the number of the later is no lower, and if the numbers are the same, so are the
@@ -18,4 +20,9 @@ pub fn number_laws()
     // a reader's snapshots, one after the other, are of such blocks
     ensures later { (w v : Whole) → SeesOn w v → (v.directory.store ≡ w.directory.store)
         × IsPrefix w.directory.seen v.directory.seen }
+{}
+
+/// Each try of a snapshot is one step of each pass.
+pub fn tries_laws()
+    ensures steps { (w v : Whole) (a : PinsAfter w v) → AllMakeSteps (a.tries + 1) w v }
 {}

@@ -34,6 +34,6 @@ mod snapshot;
 mod trying;
 mod waiting;
 
-pub use laws::number_laws;
+pub use laws::{number_laws, tries_laws};
 pub use reader::Reader;
 pub use snapshot::Snapshot;

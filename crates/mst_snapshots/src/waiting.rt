@@ -2,6 +2,7 @@
 ghost use Rattle.std.specs.Prelude.{◌≡◌};
 ghost use Rattle.mst_shards.specs.BlockHistory.{IsOneBlock};
 ghost use Rattle.mst_snapshots.specs.Reading.{SeesOn};
+ghost use Rattle.mst_snapshots.specs.Tries.{PinsAfter};
 
 use crate::reader::Reader;
 use crate::snapshot::Snapshot;
@@ -14,10 +15,12 @@ impl<A: Allocator + Copy> Reader<A> {
     /// being published. The pause between two tries grows. It takes no memory.
     ///
     /// It may wait forever: no contract says whether or when a try falls between two blocks. If it
-    /// returns, the snapshot has seen all that the reader had seen.
+    /// returns, the snapshot has seen all that the reader had seen. A try is one step of each pass,
+    /// and another follows only where what was pinned was not of one block.
     #[tactic(auto, using(crate::proofs::Later::all_tries))]
     pub fn snapshot<R: Wait>(self, rt: &R) -> Snapshot<A>
         ensures later { SeesOn self result }
+        ensures tries { PinsAfter self result }
         ensures one { IsOneBlock result }
     {
         let backoff = Backoff::new();

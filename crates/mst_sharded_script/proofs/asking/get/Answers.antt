@@ -8,6 +8,7 @@ returns-clause-gets g c = (
     found = c.get-found.result;
     told = refl;
     answers = c.get-found.ensures.answers;
+    once = c.get-found.ensures.once;
     directory = c.get-found.ensures.directory;
   },
   c.free.ensures,

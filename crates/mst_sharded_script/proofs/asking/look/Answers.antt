@@ -10,6 +10,10 @@ pub returns : goal.returns
 returns g c =
     looked c.args.command.now c.args.reader c.snapshot-snapshot.result c.release.result
     (text_of c.recall-answer.result) c.free.result
-    (record { later = c.snapshot-snapshot.ensures.later; one = c.snapshot-snapshot.ensures.one })
+    (record {
+      later = c.snapshot-snapshot.ensures.later;
+      tries = c.snapshot-snapshot.ensures.tries;
+      one = c.snapshot-snapshot.ensures.one;
+    })
     (c.release.ensures.same ∙ c.recall-answer.ensures.same) c.free.ensures c.requires.look
     c.recall-answer.ensures.found

@@ -10,6 +10,7 @@ returns-then-stands-clause-migrates g c =
       y = c.snapshot-snapshot.result;
       takes = record {
         later = c.snapshot-snapshot.ensures.later;
+        tries = c.snapshot-snapshot.ensures.tries;
         one = c.snapshot-snapshot.ensures.one;
       };
       free = c.free-pass.ensures ∙ ap Free (c.release.ensures.same ∙ c.format-was.ensures.same);
@@ -23,6 +24,7 @@ returns-clause-migrates g c = record {
   y = c.snapshot-snapshot.result;
   takes = record {
     later = c.snapshot-snapshot.ensures.later;
+    tries = c.snapshot-snapshot.ensures.tries;
     one = c.snapshot-snapshot.ensures.one;
   };
   free = c.free-pass-2.ensures
