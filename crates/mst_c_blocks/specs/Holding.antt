@@ -1,4 +1,5 @@
--- What the calls of a hand's writer, reader or snapshot do.
+-- What the calls of a hand's writer, reader or snapshot do. A block that was begun and a part of
+-- one answer none of them.
 use Rattle.std.specs.Prelude.{◌≡◌, ◌≢◌, ℕ, ◌+◌, List, length, Bool, true, false, Option, Some, None, Result, Ok, Err}
 use Rattle.mst_key.specs.Map.{map_get}
 use Rattle.mst_sharded_proof.specs.Theorem.{HasShardedRoot}
@@ -10,16 +11,20 @@ use Rattle.mst_snapshots.specs.Reading.{PinsWhole}
 use Rattle.mst_blocks.specs.Blocks.{last_made, LeavesAll}
 use Rattle.mst_blocks.specs.Writing.{last_block, block_map, IsWriter, HasMade}
 use Rattle.mst_c_blocks.specs.declared.role_box.Role.{Role}
-use Rattle.mst_c_blocks.specs.declared.role_box.Role.TheVariants.{Away, Writer, Reader, Snapshot}
+use Rattle.mst_c_blocks.specs.declared.role_box.Role.TheVariants.{Away, Writer, Reader, Snapshot, Block, Part}
 use Rattle.mst_c_blocks.specs.declared.asking.Unread.{Unread}
 use Rattle.mst_c_blocks.specs.declared.asking.Unread.TheVariants.{NoSnapshot, Memory}
+use Rattle.mst_c_blocks.specs.declared.asking.Unfound.{Unfound}
+use Rattle.mst_c_blocks.specs.declared.asking.Unfound.TheVariants.{Overtaken, NoMap}
 
--- how many shards there are
+-- how many shards there are; of a block that was begun and of its parts it is not asked
 abbrev pub shards_in : Role → ℕ
 shards_in Away = 0
 shards_in (Writer w) = length w.sharding.shards
 shards_in (Reader r) = length r.sharding.shards
 shards_in (Snapshot s) = length s.sharding.shards
+shards_in (Block b) = 0
+shards_in (Part p) = 0
 
 -- ---- blocks
 
@@ -32,6 +37,10 @@ Numbers (Reader r) (Some n) = ⊥
 Numbers (Reader r) None = Unit {0}
 Numbers (Snapshot s) (Some n) = IsNumber n s × IsOneBlock s
 Numbers (Snapshot s) None = ⊥
+Numbers (Block b) (Some n) = ⊥
+Numbers (Block b) None = Unit {0}
+Numbers (Part p) (Some n) = ⊥
+Numbers (Part p) None = Unit {0}
 
 -- the root digest of the writer's last block, or of the snapshot's block; a reader has none
 abbrev pub HasRoot : Role → Option (List ℕ) → Role → Type 0
@@ -44,6 +53,10 @@ HasRoot (Reader r) None now = now ≡ Reader r
 HasRoot (Snapshot s) (Some root) now = (now ≡ Snapshot s)
     × OfClean (λ format m. HasShardedRoot format m s.sharding.splits root) s.sharding
 HasRoot (Snapshot s) None now = ⊥
+HasRoot (Block b) (Some root) now = ⊥
+HasRoot (Block b) None now = now ≡ Block b
+HasRoot (Part p) (Some root) now = ⊥
+HasRoot (Part p) None now = now ≡ Part p
 
 -- ---- snapshots
 
@@ -60,6 +73,10 @@ Tries (Reader r) (Some false) now =
     (q : Whole) × (now ≡ Reader q) × PinsWhole r q × (IsOneBlock q → ⊥)
 Tries (Snapshot s) None now = now ≡ Snapshot s
 Tries (Snapshot s) (Some taken) now = ⊥
+Tries (Block b) None now = now ≡ Block b
+Tries (Block b) (Some taken) now = ⊥
+Tries (Part p) None now = now ≡ Part p
+Tries (Part p) (Some taken) now = ⊥
 
 -- a snapshot ends its pins, and is a reader then; the writer and a reader stay
 abbrev pub Releases : Role → Bool → Role → Type 0
@@ -67,6 +84,8 @@ Releases Away done now = ⊥
 Releases (Writer w) done now = (done ≡ false) × (now ≡ Writer w)
 Releases (Reader r) done now = (done ≡ false) × (now ≡ Reader r)
 Releases (Snapshot s) done now = (done ≡ true) × (now ≡ Reader s)
+Releases (Block b) done now = (done ≡ false) × (now ≡ Block b)
+Releases (Part p) done now = (done ≡ false) × (now ≡ Part p)
 
 -- ---- reads
 
@@ -79,20 +98,29 @@ pub record StaysWriter (w v : Whole) : Type 0 where
 -- The value of a key: the writer has it from the map of its last block, or tells that another has
 -- written to the key's shard; a reader's pass of that shard answers, for which it looks once; a
 -- snapshot has it from the map of its block
-abbrev pub Gets : List ℕ → Role → Option (Option (List ℕ)) → Role → Type 0
+abbrev pub Gets : List ℕ → Role → Result (Option (List ℕ)) Unfound → Role → Type 0
 Gets key Away answer now = ⊥
-Gets key (Writer w) None now = (v : Whole) × (now ≡ Writer v) × StaysWriter w v
+Gets key (Writer w) (Err NoMap) now = ⊥
+Gets key (Writer w) (Err Overtaken) now = (v : Whole) × (now ≡ Writer v) × StaysWriter w v
     × Routes key (λ x y. Looks x y × (length y.seen ≢ last_made x)) w.sharding v.sharding
-Gets key (Writer w) (Some answer) now = (v : Whole) × (now ≡ Writer v) × StaysWriter w v
+Gets key (Writer w) (Ok answer) now = (v : Whole) × (now ≡ Writer v) × StaysWriter w v
     × (answer ≡ map_get (block_map w) key)
-Gets key (Reader r) None now = ⊥
-Gets key (Reader r) (Some answer) now = (q : Whole) × (now ≡ Reader q)
+Gets key (Reader r) (Err NoMap) now = ⊥
+Gets key (Reader r) (Err Overtaken) now = ⊥
+Gets key (Reader r) (Ok answer) now = (q : Whole) × (now ≡ Reader q)
     × Routes key (λ x y. Answers (λ _ m. map_get m key) x answer y) r.sharding q.sharding
     × Routes key (λ x y. y.asked ≡ x.asked + 1) r.sharding q.sharding
     × (q.directory ≡ r.directory)
-Gets key (Snapshot s) None now = ⊥
-Gets key (Snapshot s) (Some answer) now =
+Gets key (Snapshot s) (Err NoMap) now = ⊥
+Gets key (Snapshot s) (Err Overtaken) now = ⊥
+Gets key (Snapshot s) (Ok answer) now =
     (now ≡ Snapshot s) × (answer ≡ map_get (map_of s.sharding) key)
+Gets key (Block b) (Err NoMap) now = now ≡ Block b
+Gets key (Block b) (Err Overtaken) now = ⊥
+Gets key (Block b) (Ok answer) now = ⊥
+Gets key (Part p) (Err NoMap) now = now ≡ Part p
+Gets key (Part p) (Err Overtaken) now = ⊥
+Gets key (Part p) (Ok answer) now = ⊥
 
 -- A snapshot answers for its block, and stays. So do the others, which answer nothing
 abbrev pub Reads : {R : Type 0} → (Whole → R → Type 0) → Role → Option R → Role → Type 0
@@ -103,6 +131,10 @@ Reads Says (Reader r) None now = now ≡ Reader r
 Reads Says (Reader r) (Some answer) now = ⊥
 Reads Says (Snapshot s) None now = ⊥
 Reads Says (Snapshot s) (Some answer) now = (now ≡ Snapshot s) × Says s answer
+Reads Says (Block b) None now = now ≡ Block b
+Reads Says (Block b) (Some answer) now = ⊥
+Reads Says (Part p) None now = now ≡ Part p
+Reads Says (Part p) (Some answer) now = ⊥
 
 -- the same of an answer that takes memory, if no growth was refused
 abbrev pub Lists : {R : Type 0} → (Whole → R → Type 0) → Role → Result R Unread → Role → Type 0
@@ -116,3 +148,9 @@ Lists Says (Reader r) (Ok answer) now = ⊥
 Lists Says (Snapshot s) (Err NoSnapshot) now = ⊥
 Lists Says (Snapshot s) (Err (Memory refused)) now = now ≡ Snapshot s
 Lists Says (Snapshot s) (Ok answer) now = (now ≡ Snapshot s) × Says s answer
+Lists Says (Block b) (Err NoSnapshot) now = now ≡ Block b
+Lists Says (Block b) (Err (Memory refused)) now = ⊥
+Lists Says (Block b) (Ok answer) now = ⊥
+Lists Says (Part p) (Err NoSnapshot) now = now ≡ Part p
+Lists Says (Part p) (Err (Memory refused)) now = ⊥
+Lists Says (Part p) (Ok answer) now = ⊥

@@ -8,3 +8,5 @@ pub mod Told
 pub mod Making
 pub mod Reading
 pub mod Proving
+pub mod Begun
+pub mod Parts

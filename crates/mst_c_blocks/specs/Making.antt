@@ -14,6 +14,7 @@ use Rattle.mst_c_blocks.specs.declared.making.Unmade.{Unmade}
 use Rattle.mst_c_blocks.specs.declared.making.Unmade.TheVariants.{NoWriter, Memory, Block}
 use Rattle.mst_c_blocks.specs.declared.role_box.Role.{Role}
 use Rattle.mst_c_blocks.specs.declared.role_box.Role.TheVariants.{Away, Writer, Reader, Snapshot}
+use Rattle.mst_c_blocks.specs.declared.role_box.Role.TheVariants as role
 use Rattle.mst_c_blocks.specs.Holding.{shards_in}
 
 -- The writer makes the edits of all shards as its next block, which has this number: if it has made
@@ -24,8 +25,8 @@ pub record MakesBlock (edits : List Edit) (number : ℕ) (w v : Whole) : Type 0 
   pub more : (blocks : Blocks) → HasMade blocks w → HasMade (blocks ++ edits ∷ []) v
 
 -- Or the block is refused: nothing is made, and the last block is the one that it was. A growth of
--- the list of the edits may be refused before; then the writer has done nothing. A reader and a
--- snapshot make none
+-- the list of the edits may be refused before; then the writer has done nothing. What is no writer
+-- makes none
 abbrev pub Makes : List Edit → Role → Result ℕ Unmade → Role → Type 0
 Makes edits Away made now = ⊥
 Makes edits (Writer w) (Ok n) now = (v : Whole) × (now ≡ Writer v) × MakesBlock edits n w v
@@ -42,6 +43,14 @@ Makes edits (Snapshot s) (Err NoWriter) now = now ≡ Snapshot s
 Makes edits (Snapshot s) (Err (Block fault)) now = ⊥
 Makes edits (Snapshot s) (Err (Memory refused)) now = ⊥
 Makes edits (Snapshot s) (Ok n) now = ⊥
+Makes edits (role.Block b) (Err NoWriter) now = now ≡ role.Block b
+Makes edits (role.Block b) (Err (Block fault)) now = ⊥
+Makes edits (role.Block b) (Err (Memory refused)) now = ⊥
+Makes edits (role.Block b) (Ok n) now = ⊥
+Makes edits (role.Part p) (Err NoWriter) now = now ≡ role.Part p
+Makes edits (role.Part p) (Err (Block fault)) now = ⊥
+Makes edits (role.Part p) (Err (Memory refused)) now = ⊥
+Makes edits (role.Part p) (Ok n) now = ⊥
 
 -- why a shard was refused its part of a block, or the directory its edits
 abbrev pub part_code : PartFault → ℤ

@@ -1,9 +1,11 @@
 -- What C is told by a call of a hand of a sharded map, and what the hand then holds.
-use Rattle.std.specs.Prelude.{◌≡◌, ℕ, ℤ, pos, nat_lt, if◌then◌else◌, List, ◌++◌, length, drop, Bool, true, false, Option, Some, None}
+use Rattle.std.specs.Prelude.{◌≡◌, ℕ, zero, suc, ℤ, pos, nat_lt, if◌then◌else◌, List, ◌++◌, length, drop, Bool, true, false, Option, Some, None, Result, Ok, Err}
 use Rattle.mst_key.specs.Bytes.{IsKey}
 use Rattle.mst_c.specs.Codes.{short_room, bad_key, closed, wrong_state}
 use Rattle.mst_c.specs.Told.{value_code, room_after, done_code}
 use Rattle.mst_c_blocks.specs.Codes.{moving, overtaken}
+use Rattle.mst_c_blocks.specs.declared.asking.Unfound.{Unfound}
+use Rattle.mst_c_blocks.specs.declared.asking.Unfound.TheVariants.{Overtaken, NoMap}
 use Rattle.mst_c_blocks.specs.declared.role_box.Role.{Role}
 use Rattle.mst_c_blocks.specs.Holding.{shards_in, Numbers, HasRoot, Tries, Releases, Gets}
 
@@ -11,10 +13,15 @@ use Rattle.mst_c_blocks.specs.Holding.{shards_in, Numbers, HasRoot, Tries, Relea
 abbrev pub Nothing : ℤ → Option Role → List ℕ → ℤ → List ℕ → Option Role → Type 0
 Nothing wanted hand room code room' hand' = (code ≡ wanted) × (room' ≡ room) × (hand' ≡ hand)
 
+-- -8 where it is not asked how many shards there are
+abbrev pub shards_code : ℕ → ℤ
+shards_code zero = wrong_state
+shards_code (suc n) = pos (suc n)
+
 -- -7 for an empty hand, otherwise how many shards there are
 abbrev pub ShardsTold : Option Role → ℤ → Option Role → Type 0
 ShardsTold None code hand = (code ≡ closed) × (hand ≡ None)
-ShardsTold (Some r) code hand = (code ≡ pos (shards_in r)) × (hand ≡ Some r)
+ShardsTold (Some r) code hand = (code ≡ shards_code (shards_in r)) × (hand ≡ Some r)
 
 -- ---- numbers and root digests
 
@@ -76,18 +83,20 @@ CloseTold (Some r) code hand = (code ≡ pos 0) × (hand ≡ None)
 
 -- ---- values
 
-abbrev pub get_code : ℕ → Option (Option (List ℕ)) → ℤ
-get_code room (Some answer) = value_code room answer
-get_code room None = overtaken
+abbrev pub get_code : ℕ → Result (Option (List ℕ)) Unfound → ℤ
+get_code room (Ok answer) = value_code room answer
+get_code room (Err Overtaken) = overtaken
+get_code room (Err NoMap) = wrong_state
 
-abbrev pub get_room : List ℕ → Option (Option (List ℕ)) → List ℕ
-get_room room (Some answer) = room_after room answer
-get_room room None = room
+abbrev pub get_room : List ℕ → Result (Option (List ℕ)) Unfound → List ℕ
+get_room room (Ok answer) = room_after room answer
+get_room room (Err why) = room
 
--- -7 for an empty hand, -5 for what is no key, otherwise the answer, or -29 if the writer has none
+-- -7 for an empty hand, -5 for what is no key, otherwise the answer, or -29 if the writer has none,
+-- and -8 for a block that was begun and a part of one
 abbrev pub GetTold : Option Role → List ℕ → List ℕ → ℤ → List ℕ → Option Role → Type 0
 GetTold None key room code room' hand = Nothing closed None room code room' hand
 GetTold (Some r) key room code room' hand =
     (¬ (IsKey key) → Nothing bad_key (Some r) room code room' hand)
-    × (IsKey key → (a : Option (Option (List ℕ))) × (t : Role) × (hand ≡ Some t) × Gets key r a t
-    × (code ≡ get_code (length room) a) × (room' ≡ get_room room a))
+    × (IsKey key → (a : Result (Option (List ℕ)) Unfound) × (t : Role) × (hand ≡ Some t)
+    × Gets key r a t × (code ≡ get_code (length room) a) × (room' ≡ get_room room a))

@@ -22,6 +22,14 @@ pub(crate) enum Unread {
     Memory(Memory),
 }
 
+/// Why the value of a key was not looked up.
+pub(crate) enum Unfound {
+    /// Another than the writer has written to the key's shard.
+    Overtaken,
+    /// The hand holds a block that was begun, or a part of one.
+    NoMap,
+}
+
 /// The root digest of the writer's last block, or of the snapshot's block.
 pub(crate) fn root_of(role: Role) -> (Role, Option<[u8; 32]>)
     requires there { IsThere role }
@@ -39,6 +47,8 @@ pub(crate) fn root_of(role: Role) -> (Role, Option<[u8; 32]>)
             let root = snapshot.root();
             (Role::Snapshot(snapshot), Some(root))
         }
+        Role::Block(begun) => (Role::Block(begun), None),
+        Role::Part(part) => (Role::Part(part), None),
     }
 }
 
@@ -56,22 +66,27 @@ pub(crate) fn try_of(role: Role) -> (Role, Option<bool>)
             Err(reader) => (Role::Reader(reader), Some(false)),
         },
         Role::Snapshot(snapshot) => (Role::Snapshot(snapshot), None),
+        Role::Block(begun) => (Role::Block(begun), None),
+        Role::Part(part) => (Role::Part(part), None),
     }
 }
 
 /// The value of a key in the writer's last block. There is no answer if another has written to the
 /// key's shard.
-fn last_value(mut writer: Writer<Global>, key: &Key) -> (Writer<Global>, Option<Option<Value>>)
+fn last_value(
+    mut writer: Writer<Global>,
+    key: &Key,
+) -> (Writer<Global>, Result<Option<Value>, Unfound>)
     ensures gets { Gets key.now (role.Writer writer) result.1 (role.Writer result.0) }
 {
     match writer.get(key) {
-        Ok(found) => (writer, Some(found)),
-        Err(_) => (writer, None),
+        Ok(found) => (writer, Ok(found)),
+        Err(_) => (writer, Err(Unfound::Overtaken)),
     }
 }
 
-/// The value of a key. Only the writer may have no answer.
-pub(crate) fn value_of(role: Role, key: &Key) -> (Role, Option<Option<Value>>)
+/// The value of a key. The writer may have no answer, and a block that was begun has none.
+pub(crate) fn value_of(role: Role, key: &Key) -> (Role, Result<Option<Value>, Unfound>)
     requires there { IsThere role }
     ensures gets { Gets key.now role result.1 result.0 }
     ensures there { IsThere result.0 }
@@ -84,12 +99,14 @@ pub(crate) fn value_of(role: Role, key: &Key) -> (Role, Option<Option<Value>>)
         }
         Role::Reader(mut reader) => {
             let found = reader.get(key);
-            (Role::Reader(reader), Some(found))
+            (Role::Reader(reader), Ok(found))
         }
         Role::Snapshot(mut snapshot) => {
             let found = snapshot.get(key);
-            (Role::Snapshot(snapshot), Some(found))
+            (Role::Snapshot(snapshot), Ok(found))
         }
+        Role::Block(begun) => (Role::Block(begun), Err(Unfound::NoMap)),
+        Role::Part(part) => (Role::Part(part), Err(Unfound::NoMap)),
     }
 }
 
@@ -108,6 +125,8 @@ pub(crate) fn next_of(role: Role, after: Option<&Key>) -> (Role, Option<Option<(
             let pair = snapshot.next(after);
             (Role::Snapshot(snapshot), Some(pair))
         }
+        Role::Block(begun) => (Role::Block(begun), None),
+        Role::Part(part) => (Role::Part(part), None),
     }
 }
 
@@ -125,6 +144,8 @@ pub(crate) fn format_of(role: Role) -> (Role, Option<Format>)
             let format = snapshot.format();
             (Role::Snapshot(snapshot), Some(format))
         }
+        Role::Block(begun) => (Role::Block(begun), None),
+        Role::Part(part) => (Role::Part(part), None),
     }
 }
 
@@ -156,6 +177,8 @@ pub(crate) fn range_of(
             Ok(pairs) => (Role::Snapshot(snapshot), Ok(pairs)),
             Err(refused) => (Role::Snapshot(snapshot), Err(Unread::Memory(refused))),
         },
+        Role::Block(begun) => (Role::Block(begun), Err(Unread::NoSnapshot)),
+        Role::Part(part) => (Role::Part(part), Err(Unread::NoSnapshot)),
     }
 }
 
@@ -179,6 +202,8 @@ pub(crate) fn proof_of(
             Ok(proof) => (Role::Snapshot(snapshot), Ok(proof)),
             Err(refused) => (Role::Snapshot(snapshot), Err(Unread::Memory(refused))),
         },
+        Role::Block(begun) => (Role::Block(begun), Err(Unread::NoSnapshot)),
+        Role::Part(part) => (Role::Part(part), Err(Unread::NoSnapshot)),
     }
 }
 
@@ -202,5 +227,7 @@ pub(crate) fn directory_of(
             Ok(pairs) => (Role::Snapshot(snapshot), Ok(pairs)),
             Err(refused) => (Role::Snapshot(snapshot), Err(Unread::Memory(refused))),
         },
+        Role::Block(begun) => (Role::Block(begun), Err(Unread::NoSnapshot)),
+        Role::Part(part) => (Role::Part(part), Err(Unread::NoSnapshot)),
     }
 }

@@ -86,8 +86,7 @@ impl BlocksHand {
     }
 }
 
-/// What is owed to a writer, a reader or a snapshot that was taken out of a hand: it goes back into
-/// one, or is let go.
+/// What is owed to what was taken out of a hand: it goes back into one, or is let go.
 struct Due;
 
 /// What was taken out of a hand. It is no `Drop`, and only this module takes it apart.
@@ -111,8 +110,8 @@ impl BlocksTaken {
         held
     }
 
-    /// Lets the writer or the reader go, with its share of the map. The pins of a snapshot would
-    /// last as long as the map, so they have to have ended.
+    /// Lets it go, with its share of the map. The pins of a snapshot would last as long as the map,
+    /// so they have to have ended.
     pub(crate) fn let_go(self)
         requires free { PinsNone self.held.value }
     {

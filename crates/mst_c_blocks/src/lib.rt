@@ -6,10 +6,12 @@
 #![tactic(auto)]
 
 mod asking;
+mod begun;
 pub mod codes;
 pub mod hand;
 pub mod making;
 pub mod opening;
+pub mod parts;
 pub mod proving;
 pub mod reading;
 mod role_box;

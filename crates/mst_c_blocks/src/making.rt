@@ -57,11 +57,13 @@ pub(crate) fn apply(held: Role, alloc: Global, packed: &Packed<'_>) -> (Role, Re
         }
         Role::Reader(reader) => (Role::Reader(reader), Err(Unmade::NoWriter)),
         Role::Snapshot(snapshot) => (Role::Snapshot(snapshot), Err(Unmade::NoWriter)),
+        Role::Block(begun) => (Role::Block(begun), Err(Unmade::NoWriter)),
+        Role::Part(part) => (Role::Part(part), Err(Unmade::NoWriter)),
     }
 }
 
 /// The code of a part of a block that was refused.
-fn part_code(fault: PartFault) -> i32
+pub(crate) fn part_code(fault: PartFault) -> i32
     ensures code { result ≡ code_of_part fault }
 {
     match fault {
@@ -72,7 +74,12 @@ fn part_code(fault: PartFault) -> i32
 
 /// The code of a block of a map with so many shards. Its number is written if it is made. If it is
 /// refused, the number of the shard that refused its part is, or that of the shards.
-fn tell_made(made: Result<u64, Unmade>, shards: usize, shard: &mut usize, number: &mut u64) -> i32
+pub(crate) fn tell_made(
+    made: Result<u64, Unmade>,
+    shards: usize,
+    shard: &mut usize,
+    number: &mut u64,
+) -> i32
     ensures code { result ≡ made_code made }
     ensures shard { shard.new ≡ refused_shard shards shard.old made }
     ensures number { number.new ≡ made_number number.old made }

@@ -160,7 +160,7 @@ fn deal_all(
 }
 
 /// No hand holds anything then.
-fn close_all(alloc: Global, hands: &mut [PaddedBlocksHand])
+pub(crate) fn close_all(alloc: Global, hands: &mut [PaddedBlocksHand])
     ensures empty { NoneHeld hands.new }
 {
     for padded in hands.iter_mut() {

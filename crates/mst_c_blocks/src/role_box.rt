@@ -1,16 +1,22 @@
-//! What a hand of a sharded map holds: its writer, a reader or a snapshot, each with a share of the
-//! map.
-ghost use Rattle.std.specs.Prelude.{◌≡◌, ◌≤◌, true, length, Some, None, Ok, Err, IfOk, IfErr};
+//! What a hand of a sharded map holds: its writer, a reader or a snapshot, a block that was begun,
+//! or a part of one, each with a share of the map.
+ghost use Rattle.std.specs.Prelude.{◌≡◌, ◌≤◌, true, length, vec_len, Some, None, Ok, Err, IfOk, IfErr, IsSome, IsNone, IfSome};
 ghost use Rattle.std.specs.Option.{option_copied};
 ghost use Rattle.mst_key.specs.Map.{map_next, map_range};
 ghost use Rattle.mst_c_blocks.specs.Holding.{shards_in, Numbers, HasRoot, Tries, Releases, Gets, Reads, Lists};
+ghost use Rattle.mst_c_blocks.specs.Begun.{shards_to_begin, Begins, Prepares, Commits, Cancels};
 ghost use Rattle.mst_c_blocks.specs.Making.{Makes};
+ghost use Rattle.mst_c_blocks.specs.declared.role_box.Role.TheVariants as role;
 ghost use Rattle.mst_c_blocks.specs.Proving.{HasProof, HasDirectory};
 ghost use Rattle.mst_c_blocks.specs.Reading.{OfMap, HasFormat};
 ghost use Rattle.mst_c_blocks.specs.States.{IsThere, PinsNone};
 
 use crate::asking::{
-    Unread, directory_of, format_of, next_of, proof_of, range_of, root_of, try_of, value_of,
+    Unfound, Unread, directory_of, format_of, next_of, proof_of, range_of, root_of, try_of,
+    value_of,
+};
+use crate::begun::{
+    BegunBlock, PartShare, Uncommitted, Unprepared, begin, cancel, commit, prepare,
 };
 use crate::hand::{BlocksHand, BlocksTaken, PaddedBlocksHand, give};
 use crate::making::{Unmade, apply};
@@ -29,20 +35,24 @@ pub enum Role {
     Writer(Writer<Global>),
     Reader(Reader<Global>),
     Snapshot(Snapshot<Global>),
+    /// A block that the writer has begun, with the writer.
+    Block(BegunBlock),
+    /// A part of such a block, or none where the block was not begun for want of memory.
+    Part(Option<PartShare>),
 }
 
 /// What no call writes at the end of a box.
 const PADDING: [u64; 16] = [0; 16];
 
-/// A writer, a reader or a snapshot, each with its share of the map. Each call moves it out and
-/// back, so the box ends with padding, as that of a pass.
+/// What a hand holds, with its share of the map. Each call moves it out and back, so the box ends
+/// with padding, as that of a pass.
 #[derive(Drop)]
 pub struct RoleBox {
     role: Role,
     padding: [u64; 16],
 }
 
-/// Contracts see the writer, the reader or the snapshot.
+/// Contracts see the writer, the reader, the snapshot, the block or the part.
 impl Model for RoleBox {
     ghost use Rattle.mst_c_blocks.specs.declared.role_box.Role.{Role};
     ghost use Rattle.mst_c_blocks.specs.States.{IsThere};
@@ -94,6 +104,8 @@ impl RoleBox {
             Role::Writer(writer) => writer.shards(),
             Role::Reader(reader) => reader.shards(),
             Role::Snapshot(snapshot) => snapshot.shards(),
+            Role::Block(_) => 0,
+            Role::Part(_) => 0,
         }
     }
 
@@ -106,6 +118,8 @@ impl RoleBox {
             Role::Writer(writer) => Some(writer.number()),
             Role::Reader(_) => None,
             Role::Snapshot(snapshot) => Some(snapshot.number()),
+            Role::Block(_) => None,
+            Role::Part(_) => None,
         }
     }
 
@@ -125,6 +139,73 @@ impl RoleBox {
         let (role, made) = apply(replace(&mut self.role, Role::Away), alloc, packed);
         self.role = role;
         made
+    }
+
+    /// How many shards there are, if this is the writer.
+    pub(crate) fn shards_to_begin(&self) -> Option<usize>
+        ensures count { result ≡ shards_to_begin self.now }
+    {
+        match &self.role {
+            Role::Away => None,
+            Role::Writer(writer) => Some(writer.shards()),
+            Role::Reader(_) => None,
+            Role::Snapshot(_) => None,
+            Role::Block(_) => None,
+            Role::Part(_) => None,
+        }
+    }
+
+    /// Begins a block of the edits of a buffer. Returns a share of each part of it, unless a growth
+    /// was refused.
+    pub(crate) fn begin(
+        &mut self,
+        alloc: Global,
+        packed: &Packed<'_>,
+    ) -> Option<Vec<PartShare, Global>>
+        requires writer { IsSome (shards_to_begin self.old) }
+        ensures begun { IfSome result
+            (λ shares. Begins packed.now self.old shares.items self.new) }
+        ensures count { IfSome result (λ shares. shards_to_begin self.old ≡ Some (vec_len shares)) }
+        ensures same { IsNone result → self.new ≡ self.old }
+    {
+        let (role, begun) = begin(replace(&mut self.role, Role::Away), alloc, packed);
+        self.role = role;
+        begun
+    }
+
+    /// The hand waits for a part, and this is its share.
+    pub(crate) fn settle(&mut self, part: PartShare)
+        requires waits { self.old ≡ role.Part None }
+        ensures part { self.new ≡ role.Part (Some part) }
+    {
+        self.role = Role::Part(Some(part));
+    }
+
+    /// Prepares the part, if this is one.
+    pub(crate) fn prepare(&mut self, alloc: Global) -> Result<(), Unprepared>
+        ensures prepares { Prepares self.old result self.new }
+    {
+        let (role, prepared) = prepare(replace(&mut self.role, Role::Away), alloc);
+        self.role = role;
+        prepared
+    }
+
+    /// Makes the block, if this is one that was begun.
+    pub(crate) fn commit(&mut self, alloc: Global) -> Result<u64, Uncommitted>
+        ensures commits { Commits self.old result self.new }
+    {
+        let (role, made) = commit(replace(&mut self.role, Role::Away), alloc);
+        self.role = role;
+        made
+    }
+
+    /// Takes the block back, if this is one that was begun. There is no answer of what is none.
+    pub(crate) fn cancel(&mut self) -> Option<bool>
+        ensures cancels { Cancels self.old result self.new }
+    {
+        let (role, done) = cancel(replace(&mut self.role, Role::Away));
+        self.role = role;
+        done
     }
 
     /// Whether a reader has turned into a snapshot. There is no answer of what is no reader.
@@ -155,11 +236,19 @@ impl RoleBox {
                 self.role = Role::Reader(snapshot.release());
                 true
             }
+            Role::Block(begun) => {
+                self.role = Role::Block(begun);
+                false
+            }
+            Role::Part(part) => {
+                self.role = Role::Part(part);
+                false
+            }
         }
     }
 
-    /// The value of a key. Only the writer may have no answer: if another has written.
-    pub(crate) fn get(&mut self, key: &Key) -> Option<Option<Value>>
+    /// The value of a key. The writer may have no answer: if another has written.
+    pub(crate) fn get(&mut self, key: &Key) -> Result<Option<Value>, Unfound>
         ensures gets { Gets key.now self.old result self.new }
     {
         let (role, found) = value_of(replace(&mut self.role, Role::Away), key);

@@ -1,13 +1,25 @@
 //! The calls of the writer, of readers and of snapshots, as C is told of them.
-ghost use Rattle.std.specs.Prelude.{◌≡◌, length, None};
-ghost use Rattle.mst_c_blocks.specs.Told.{number_code, number_after, try_code as code_of_try, get_code, get_room, ShardsTold, NumberTold, TryTold, ReleaseTold, CloseTold, GetTold};
+ghost use Rattle.std.specs.Prelude.{◌≡◌, ◌≤◌, length, None};
+ghost use Rattle.mst_c_blocks.specs.Told.{shards_code, number_code, number_after, try_code as code_of_try, get_code, get_room, ShardsTold, NumberTold, TryTold, ReleaseTold, CloseTold, GetTold};
 
+use crate::asking::Unfound;
 use crate::codes::{MOVING, OVERTAKEN};
 use crate::hand::{BlocksHand, give, take};
 use mst_c::codes::{BAD_KEY, CLOSED, WRONG_STATE};
 use mst_c::telling::{done_code, tell};
 use mst_key::{Key, Value};
 use std::alloc::Global;
+
+/// The code of a number of shards: none is counted where it is not asked.
+fn count_code(count: usize) -> i32
+    requires most { count ≤ 1024 }
+    ensures code { result ≡ shards_code count }
+{
+    if count == 0 {
+        return WRONG_STATE;
+    }
+    count as i32
+}
 
 /// As `mst_sharded_shards` of `mst_exports` says.
 pub fn shards(alloc: Global, hand: &mut BlocksHand) -> i32
@@ -18,7 +30,7 @@ pub fn shards(alloc: Global, hand: &mut BlocksHand) -> i32
     };
     let count = taken.held.shards();
     give(hand, taken);
-    count as i32
+    count_code(count)
 }
 
 /// The code of a block's number. The number is written then, if there is one.
@@ -97,13 +109,14 @@ pub fn close(alloc: Global, hand: &mut BlocksHand) -> i32
 
 /// The code of a value. It stands first in the room then, if it fits. The writer has none if
 /// another has written.
-fn tell_value(found: Option<Option<Value>>, room: &mut [u8]) -> i32
+fn tell_value(found: Result<Option<Value>, Unfound>, room: &mut [u8]) -> i32
     ensures code { result ≡ get_code (length room.old) found }
     ensures room { room.new ≡ get_room room.old found }
 {
     match found {
-        Some(value) => tell(&value, room),
-        None => OVERTAKEN,
+        Ok(value) => tell(&value, room),
+        Err(Unfound::Overtaken) => OVERTAKEN,
+        Err(Unfound::NoMap) => WRONG_STATE,
     }
 }
 

@@ -6,13 +6,14 @@ ghost use Rattle.mst_c.specs.Formats.{format_named};
 ghost use Rattle.mst_c.specs.Opened.{IsSize};
 ghost use Rattle.mst_c_blocks.specs.Making.{ApplyTold};
 ghost use Rattle.mst_c_blocks.specs.Opened.{BlocksOpened, NoneHeld};
+ghost use Rattle.mst_c_blocks.specs.Parts.{BeginTold, PrepareTold, CommitTold, CancelTold};
 ghost use Rattle.mst_c_blocks.specs.Proving.{ProveTold, DirectoryTold};
 ghost use Rattle.mst_c_blocks.specs.Reading.{NextTold, RangeTold, FormatTold};
 ghost use Rattle.mst_c_blocks.specs.Splits.{PacksSplits};
 ghost use Rattle.mst_c_blocks.specs.Told.{GetTold, ShardsTold, NumberTold, RootTold, TryTold, ReleaseTold, CloseTold};
 
 use mst_c_blocks::hand::{BlocksHand, PaddedBlocksHand};
-use mst_c_blocks::{making, opening, proving, reading, telling};
+use mst_c_blocks::{making, opening, parts, proving, reading, telling};
 use std::alloc::Global;
 
 /// Opens a sharded map of the empty map in format 1 or 2, each shard with `rows` rows, and makes
@@ -45,8 +46,9 @@ pub extern "C" fn mst_sharded_open(
     opening::open(alloc, format, rows, splits, hands)
 }
 
-/// Closes the writer, the reader or the snapshot, whose pins end first. Returns 0 or -7. The map is
-/// freed with the last hand that is closed.
+/// Closes the writer, the reader or the snapshot, whose pins end first; or a block that was begun,
+/// and its writer with it; or a part, of which the block has a share still. Returns 0 or -7. The
+/// map is freed with the last hand that is closed.
 #[unsafe(no_mangle)]
 pub extern "C" fn mst_sharded_close(alloc: Global, hand: &mut BlocksHand) -> i32
     ensures told { CloseTold hand.old.held result hand.new.held }
@@ -54,7 +56,7 @@ pub extern "C" fn mst_sharded_close(alloc: Global, hand: &mut BlocksHand) -> i32
     telling::close(alloc, hand)
 }
 
-/// Returns how many shards the map has, 1 to 1,024; or -7.
+/// Returns how many shards the map has, 1 to 1,024; or -7; -8 for a block that was begun or a part.
 #[unsafe(no_mangle)]
 pub extern "C" fn mst_sharded_shards(alloc: Global, hand: &mut BlocksHand) -> i32
     ensures told { ShardsTold hand.old.held result hand.new.held }
@@ -69,7 +71,7 @@ pub extern "C" fn mst_sharded_shards(alloc: Global, hand: &mut BlocksHand) -> i3
 /// refused its edits, or -29 if another has written to it: `shard` is the number of this shard,
 /// from 0. The same for the directory, and -9 if a list was refused memory: `shard` is then the
 /// number of the shards. Returns -7; -5, -6, -25 for what is no edit, and then `place` is the
-/// number of the first such one, from 0; -8 for a reader or a snapshot: `shard` stays, as with 0.
+/// number of the first such one, from 0; -8 for what is no writer: `shard` stays, as with 0.
 /// `place` stays where no edit is refused.
 #[unsafe(no_mangle)]
 pub extern "C" fn mst_sharded_apply(
@@ -86,8 +88,67 @@ pub extern "C" fn mst_sharded_apply(
     making::apply_edits(alloc, hand, edits, place, shard, number)
 }
 
+/// Begins the writer's next block, of the edits of a buffer as that of `mst_sharded_apply`: the
+/// writer's hand becomes that of the block, and each of the hands of the parts, which are closed
+/// first, gets the part of the shard with its number. Returns 0. Otherwise the writer is as it was:
+/// returns -7, -8 for what is no writer, -10 if there are not as many hands as shards, and then the
+/// hands of the parts stay; -5, -6, -25 for what is no edit, with `place` as `mst_sharded_apply`
+/// has it, and -9 if a growth was refused, and then the hands of the parts are empty.
+#[unsafe(no_mangle)]
+pub extern "C" fn mst_sharded_begin(
+    alloc: Global,
+    hand: &mut BlocksHand,
+    edits: &[u8],
+    place: &mut usize,
+    hands: &mut [PaddedBlocksHand],
+) -> i32
+    ensures told { BeginTold hand.old.held edits.now place.old hands.old result place.new
+        hand.new.held hands.new }
+{
+    parts::begin(alloc, hand, edits, place, hands)
+}
+
+/// Prepares the part of a block: makes its edits in free rows and hashes them. Readers see nothing
+/// of it. Returns 0, also where there is nothing to prepare; the number with which
+/// `mst_sharded_commit` will refuse the block, unless a shard before it is refused its edits too:
+/// -21, -22, -9, -23 or -29; -7; -8 for what is no part, or one of a block that was made or taken
+/// back; -21 if another call has the part.
+#[unsafe(no_mangle)]
+pub extern "C" fn mst_sharded_prepare(alloc: Global, hand: &mut BlocksHand) -> i32
+    ensures told { PrepareTold hand.old.held result hand.new.held }
+{
+    parts::prepare(alloc, hand)
+}
+
+/// Makes the block that was begun, of its parts, whether they are prepared or not: returns what
+/// `mst_sharded_apply` returns of the same edits, and tells `shard` and `number` as that does. The
+/// hand has the writer again. Returns -7; -8 for what is no block; -21 while a part is just being
+/// prepared, and then `shard` is as it was, and the block may be made later.
+#[unsafe(no_mangle)]
+pub extern "C" fn mst_sharded_commit(
+    alloc: Global,
+    hand: &mut BlocksHand,
+    shard: &mut usize,
+    number: &mut u64,
+) -> i32
+    ensures told { CommitTold hand.old.held shard.old number.old result shard.new number.new
+        hand.new.held }
+{
+    parts::commit(alloc, hand, shard, number)
+}
+
+/// Takes the block that was begun back: nothing has changed, and the hand has the writer again.
+/// Returns 0; -7; -8 for what is no block; -21 while a part is just being prepared, and then the
+/// block stays.
+#[unsafe(no_mangle)]
+pub extern "C" fn mst_sharded_cancel(alloc: Global, hand: &mut BlocksHand) -> i32
+    ensures told { CancelTold hand.old.held result hand.new.held }
+{
+    parts::cancel(alloc, hand)
+}
+
 /// Sets `number` to the number of the writer's last block, or of the snapshot's block: 0 is the
-/// empty map. Returns 0; or -7, -8 for a reader, and then the number stays.
+/// empty map. Returns 0; or -7, -8 for what is neither, and then the number stays.
 #[unsafe(no_mangle)]
 pub extern "C" fn mst_sharded_number(alloc: Global, hand: &mut BlocksHand, number: &mut u64) -> i32
     ensures told { NumberTold hand.old.held number.old result number.new hand.new.held }
@@ -96,8 +157,8 @@ pub extern "C" fn mst_sharded_number(alloc: Global, hand: &mut BlocksHand, numbe
 }
 
 /// Turns the reader into a snapshot, which pins all shards and the directory as of one block: each
-/// read is of it until `mst_sharded_release`. Returns 0; -7; -8 for the writer or a snapshot; -30
-/// while a block is published, and then the reader stays.
+/// read is of it until `mst_sharded_release`. Returns 0; -7; -8 for what is no reader; -30 while a
+/// block is published, and then the reader stays.
 #[unsafe(no_mangle)]
 pub extern "C" fn mst_sharded_try_snapshot(alloc: Global, hand: &mut BlocksHand) -> i32
     ensures told { TryTold hand.old.held result hand.new.held }
@@ -105,7 +166,8 @@ pub extern "C" fn mst_sharded_try_snapshot(alloc: Global, hand: &mut BlocksHand)
     telling::try_snapshot(alloc, hand)
 }
 
-/// Turns the snapshot into a reader: its pins end. Returns 0; -7; -8 for the writer or a reader.
+/// Turns the snapshot into a reader: its pins end. Returns 0; -7; -8 for what is no
+/// snapshot.
 #[unsafe(no_mangle)]
 pub extern "C" fn mst_sharded_release(alloc: Global, hand: &mut BlocksHand) -> i32
     ensures told { ReleaseTold hand.old.held result hand.new.held }
@@ -114,8 +176,8 @@ pub extern "C" fn mst_sharded_release(alloc: Global, hand: &mut BlocksHand) -> i
 }
 
 /// As `mst_get`: of the writer from its last block, of a snapshot from its block, of a reader from
-/// the current version of the key's shard. Returns -7, -5, -1, -2, and of the writer -29 if another
-/// has written to that shard.
+/// the current version of the key's shard. Returns -7, -5, -1, -2, of the writer -29 if another has
+/// written to that shard, and -8 for a block that was begun or a part.
 #[unsafe(no_mangle)]
 pub extern "C" fn mst_sharded_get(
     alloc: Global,
@@ -129,7 +191,7 @@ pub extern "C" fn mst_sharded_get(
 }
 
 /// As `mst_next`, in the map of a snapshot's block. Returns -7; -5 for a bound of more than 32
-/// bytes; -8 for the writer or a reader; -1 if there is no such pair; -2 if one of the two rooms is
+/// bytes; -8 for what is no snapshot; -1 if there is no such pair; -2 if one of the two rooms is
 /// too short. With each of these both rooms and `length` stay.
 #[unsafe(no_mangle)]
 pub extern "C" fn mst_sharded_next(
@@ -147,7 +209,7 @@ pub extern "C" fn mst_sharded_next(
 }
 
 /// As `mst_range`, in the map of a snapshot's block. Returns 0 or -2. Returns -7, -5 for a bound of
-/// more than 32 bytes, -8 for the writer or a reader, -9: room and both numbers stay.
+/// more than 32 bytes, -8 for what is no snapshot, -9: room and both numbers stay.
 #[unsafe(no_mangle)]
 pub extern "C" fn mst_sharded_range(
     alloc: Global,
@@ -165,8 +227,8 @@ pub extern "C" fn mst_sharded_range(
     reading::range(alloc, hand, from, to, limit, room, count, length)
 }
 
-/// Returns the number of the format of a snapshot's block, 1 or 2; -7; -8 for the writer or a
-/// reader.
+/// Returns the number of the format of a snapshot's block, 1 or 2; -7; -8 for what is no
+/// snapshot.
 #[unsafe(no_mangle)]
 pub extern "C" fn mst_sharded_format(alloc: Global, hand: &mut BlocksHand) -> i32
     ensures told { FormatTold hand.old.held result hand.new.held }
@@ -175,8 +237,8 @@ pub extern "C" fn mst_sharded_format(alloc: Global, hand: &mut BlocksHand) -> i3
 }
 
 /// Returns 32, the length of the root digest of the writer's last block, or of the snapshot's
-/// block, and its bytes stand first in the room. Returns -7; -8 for a reader; -2 for a room of less
-/// than 32 bytes.
+/// block, and its bytes stand first in the room. Returns -7; -8 for what is neither; -2 for a
+/// room of less than 32 bytes.
 #[unsafe(no_mangle)]
 pub extern "C" fn mst_sharded_root(alloc: Global, hand: &mut BlocksHand, root: &mut [u8]) -> i32
     ensures told { RootTold hand.old.held root.old result root.new hand.new.held }
@@ -186,7 +248,7 @@ pub extern "C" fn mst_sharded_root(alloc: Global, hand: &mut BlocksHand, root: &
 
 /// Makes the proof of the key's answer against the root digest of the same snapshot. Returns 0: its
 /// bytes stand first in the room, and their number in `length`. Returns -2: `length` is their
-/// number, and the room stays. Returns -7, -5, -8 for the writer or a reader, -9: both stay.
+/// number, and the room stays. Returns -7, -5, -8 for what is no snapshot, -9: both stay.
 #[unsafe(no_mangle)]
 pub extern "C" fn mst_sharded_prove(
     alloc: Global,
@@ -202,8 +264,8 @@ pub extern "C" fn mst_sharded_prove(
 }
 
 /// Lists the directory of a snapshot as `mst_range` lists pairs: of each shard its lower bound,
-/// with its root digest and its upper bound as the value. Returns 0 or -2. Returns -7, -8 for the
-/// writer or a reader, -9: room and both numbers stay.
+/// with its root digest and its upper bound as the value. Returns 0 or -2. Returns -7, -8 for what
+/// is no snapshot, -9: room and both numbers stay.
 #[unsafe(no_mangle)]
 pub extern "C" fn mst_sharded_directory(
     alloc: Global,

@@ -13,13 +13,13 @@ use Rattle.std_alloc.proofs.SendSync.{quiet, lies}
 use Rattle.std_heap.proofs.Global.TheSendSync as handle
 use Rattle.mst_c_blocks.specs.Owning.{HeldNow, hand_owns}
 use Rattle.mst_c_blocks.specs.contracts.role_box.RoleBox as RoleBox
-use Rattle.mst_c_blocks.proofs.role_box.RoleBox.TheSendSync.{the_send as held}
+use Rattle.mst_c_blocks.proofs.Sent.{box_send}
 use Rattle.mst_c_blocks.specs.contracts.hand.BlocksHand.{the_row, the_type}
 
 owned : (a : Global) (p : Ptr) (h : HeldNow) → Keyless (hand_owns a p h)
 owned a p None = tt
 owned a p (Some x) =
-    (lies RoleBox.the_row held p x, heap.frees.frees a (raw (lone RoleBox.the_row.mir)) p)
+    (lies RoleBox.the_row box_send p x, heap.frees.frees a (raw (lone RoleBox.the_row.mir)) p)
 
 pub send : IsSend the_row
 send =
