@@ -9,14 +9,15 @@
  * fixed number of them. A room is a buffer of the caller's, into which a call writes its answer.
  *
  * mst_open makes a store of the empty map and puts a pass into each hand of an array. Each thread
- * uses a hand of its own. Reads take no lock and wait for no other thread. One pass at a time has
- * the turn; meanwhile mst_try_put and its like return MST_BUSY for another pass, while mst_put,
- * mst_remove, mst_apply and mst_migrate wait, and mst_put_within and its like wait for a time that
- * is given. The store is freed when its last pass is closed.
+ * uses a hand of its own. Reads take none of the store's locks, and by their code wait for no other
+ * thread (a tool checks it, nothing proves it; mst_range and mst_prove call malloc, which may have
+ * locks). One pass at a time has the turn; meanwhile mst_try_put and its like return MST_BUSY for
+ * another pass, while mst_put, mst_remove, mst_apply and mst_migrate wait, and mst_put_within and
+ * its like wait for a time that is given. The store is freed when its last pass is closed.
  *
  *     mst_pass passes[2] = {MST_PASS_CLOSED, MST_PASS_CLOSED};
  *     uint8_t old[MST_VALUE_LONGEST], root[MST_ROOT_LENGTH];
- *     if (mst_open(1, 1000, passes, 2) != MST_OK)
+ *     if (mst_open(1, 1000, passes, 2) != MST_OK)    // format 1, 1,000 rows, two passes
  *         give_up();
  *     mst_put(&passes[0], key, key_length, value, value_length, old, sizeof old);
  *     mst_root(&passes[1], root, sizeof root);       // in another thread, say
@@ -31,8 +32,8 @@
  *     and reads go on;
  *   - calls that wait let those go first that have waited long, but calls that try do not: where
  *     those take the turn again and again, a writer may starve;
- *   - keys that an attacker chooses can make a node of the tree large, and with it writes slow and
- *     proofs long.
+ *   - keys that an attacker chooses can make a node of the tree large, and with it reads and writes
+ *     slow and proofs long.
  *
  * What a caller owes, and nothing checks:
  *   - a hand is MST_PASS_CLOSED before its first call, and is neither copied nor written by the
@@ -64,7 +65,9 @@
  *
  * Link with libmst_store, which `make -C bindings` makes: `pkg-config --cflags --libs mst_store`
  * says how, after `make -C bindings install`. docs/STORE_C.md has examples. If you link the proved
- * archive libmst_exports.a itself, compile the C files of bindings/ along with your program.
+ * archive libmst_exports.a itself, compile the C files of bindings/ but opening.c along with your
+ * program, and link the kit's object for memory. Calls that wait then form no queue, and the calls
+ * that open close all hands of their array before they look at its count.
  */
 #ifndef MST_STORE_H
 #define MST_STORE_H
@@ -93,7 +96,7 @@ extern "C" {
  */
 typedef struct mst_pass {
     void *at;    /* the library's alone */
-    void *place; /* the library's alone: the pass's place in the line of those that wait */
+    void *place; /* the library's alone: the pass's place in the queue */
     uint64_t padding[30];
 } mst_pass;
 
@@ -121,8 +124,8 @@ typedef struct mst_pass {
 #define MST_PASSES_MOST 32
 
 /*
- * What was asked is done. Instead, mst_get, mst_next, mst_root, puts and removes return a length,
- * mst_format and migrations a format.
+ * What was asked is done. Calls with an answer return that in its place: mst_get, mst_next,
+ * mst_root, puts and removes a length, mst_format and migrations a format.
  */
 #define MST_OK 0
 
@@ -145,13 +148,14 @@ typedef struct mst_pass {
 /* A value has 0 to 64 bytes. */
 #define MST_BAD_VALUE (-6)
 
-/* The hand holds no pass; of a sharded map it holds no writer, reader or snapshot. */
+/* The hand holds no pass; of a sharded map it holds nothing. */
 #define MST_CLOSED (-7)
 
 /*
  * A pinned pass neither writes, migrates, pins nor counts rows; a free one does not unpin. Of a
  * sharded map the writer alone makes blocks, only a reader takes a snapshot, and only a snapshot
- * lists pairs and proves answers.
+ * lists pairs and proves answers; a block that was begun is only committed or cancelled, and a part
+ * of one only prepared, until its block is.
  */
 #define MST_WRONG_STATE (-8)
 
@@ -165,8 +169,9 @@ typedef struct mst_pass {
 #define MST_BAD_SHAPE (-10)
 
 /*
- * Another pass has the turn: it writes, migrates or counts rows. Nothing has changed: try again. In
- * a shard of a sharded map only a thread that has ended within a call leaves it so.
+ * Another pass has the turn: it writes, migrates or counts rows. Nothing has changed: try again. Of
+ * a block: a thread has died within a call, and the shard takes no more edits; of one that was
+ * begun: a part of it is just being prepared.
  */
 #define MST_BUSY (-21)
 
@@ -448,7 +453,7 @@ size_t mst_edit_remove(uint8_t *room, size_t at, const uint8_t *key, size_t key_
  * As mst_try_put, but waits instead of returning MST_BUSY: it tries again after a moment, then
  * after giving the processor up, then after sleeps, from a microsecond up to a millisecond.
  *
- * A call that has waited for 30 milliseconds stands in line. From then on each call of this store
+ * A call that has waited for 30 milliseconds joins the queue. From then on each call of this store
  * that waits, and has not waited as long, leaves the turn to it: it sleeps instead of trying. So a
  * thread that writes without a pause does not keep the turn from the others. A call that waits but
  * gives no sign of it for 50 milliseconds, such as one of a thread that was stopped or has died,
@@ -497,8 +502,9 @@ int32_t mst_migrate_within(mst_pass *pass, uint32_t format, uint64_t microsecond
  * for a thread of its own. The writer makes blocks: a block is a batch of edits of all shards that
  * is one version of the whole map, with one number and one root digest, made whole or not at all.
  * Block 0 is the empty map. Readers take snapshots: a snapshot shows exactly one block, unless
- * SHA-256 collides on the nodes of its trees. Readers wait for no block to be made. A map keeps its
- * format, its splits and its rows; mst_sharded_copy copies its pairs into a map with others.
+ * SHA-256 collides on the nodes of its trees. Readers do not wait while a block is made; only
+ * mst_sharded_snapshot waits, for the moment while one is published. A map keeps its format, its
+ * splits and its rows; mst_sharded_copy copies its pairs into a map with others.
  *
  *     mst_handle hands[2] = {MST_HANDLE_CLOSED, MST_HANDLE_CLOSED};
  *     mst_handle *writer = &hands[0], *reader = &hands[1];
@@ -521,8 +527,8 @@ int32_t mst_migrate_within(mst_pass *pass, uint32_t format, uint64_t microsecond
  */
 
 /*
- * A hand of a sharded map: what holds the writer, a reader or a snapshot for its thread, or
- * nothing. It has 256 bytes, as that of a pass.
+ * A hand of a sharded map: what holds the writer, a reader, a snapshot, a block that was begun, or
+ * a part of one for its thread, or nothing. It has 256 bytes, as that of a pass.
  */
 typedef struct mst_handle {
     void *at; /* the library's alone */
@@ -562,7 +568,9 @@ int32_t mst_sharded_open(uint32_t format, uint32_t rows, const uint8_t *splits,
 /*
  * Closes the writer, the reader or the snapshot, whose pins end first. Returns MST_OK, and then the
  * hand is empty, or MST_CLOSED. The map is freed with the last hand that is closed. Once the writer
- * is closed, no more blocks are made, and readers go on.
+ * is closed, no more blocks are made, and readers go on. The same if a block that was begun is
+ * closed: its writer is lost with it. Where a part is closed nothing is lost, since its block has a
+ * share of it: so it may be committed or cancelled as before.
  */
 int32_t mst_sharded_close(mst_handle *handle);
 
@@ -573,7 +581,10 @@ int32_t mst_sharded_close(mst_handle *handle);
  */
 size_t mst_split(uint8_t *room, size_t at, const uint8_t *key, size_t key_length);
 
-/* Returns how many shards the map has, 1 to 1,024; or MST_CLOSED. */
+/*
+ * Returns how many shards the map has, 1 to 1,024; or MST_CLOSED; MST_WRONG_STATE for a block that
+ * was begun or a part of one.
+ */
 int32_t mst_sharded_shards(mst_handle *handle);
 
 /*
@@ -583,10 +594,10 @@ int32_t mst_sharded_shards(mst_handle *handle);
  * Returns MST_OK, and *number is the number of the block: one more than that of the block before.
  * Otherwise nothing has changed in any shard, and *number is as it was. Returns MST_CLOSED; if an
  * edit is none, then for the first such one MST_BAD_KEY, MST_BAD_VALUE or MST_BAD_BATCH, and *place
- * is the number of that edit, from 0; MST_WRONG_STATE for a reader or a snapshot. Then returns
- * MST_BUSY, MST_VERSIONS_SPENT, MST_MEMORY, MST_NO_FREE_ROWS or MST_OVERTAKEN if a shard refused
- * its edits: *shard is the number of this shard, from 0. If it was the directory, or there is no
- * memory for the lists of the edits (MST_MEMORY), then *shard is the number of the shards.
+ * is the number of that edit, from 0; MST_WRONG_STATE for what is no writer. Then returns MST_BUSY,
+ * MST_VERSIONS_SPENT, MST_MEMORY, MST_NO_FREE_ROWS or MST_OVERTAKEN if a shard refused its edits:
+ * *shard is the number of this shard, from 0. If it was the directory, or there is no memory for
+ * the lists of the edits (MST_MEMORY), then *shard is the number of the shards.
  *
  * Where no edit is refused, *place is as it was; where no block is refused, *shard is.
  */
@@ -596,14 +607,14 @@ int32_t mst_sharded_apply(mst_handle *writer, const uint8_t *edits, size_t lengt
 /*
  * Sets *number to the number of the writer's last block, or of the snapshot's block: how many
  * blocks led to this map. Two snapshots with one number show one map, unless SHA-256 collides.
- * Returns MST_OK; MST_CLOSED; MST_WRONG_STATE for a reader.
+ * Returns MST_OK; MST_CLOSED; MST_WRONG_STATE for what is neither.
  */
 int32_t mst_sharded_number(mst_handle *handle, uint64_t *number);
 
 /*
  * Turns the reader into a snapshot of one block: until mst_sharded_release each read is of it.
- * Returns MST_OK; MST_CLOSED; MST_WRONG_STATE for the writer or a snapshot; MST_MOVING while a
- * block is just being published: the hand still holds the reader, so try again. It takes no memory.
+ * Returns MST_OK; MST_CLOSED; MST_WRONG_STATE for what is no reader; MST_MOVING while a block is
+ * just being published: the hand still holds the reader, so try again. It takes no memory.
  *
  * If no block was made since the reader's last snapshot, this compares numbers alone; otherwise the
  * root digest of each shard with what the directory lists.
@@ -612,7 +623,7 @@ int32_t mst_sharded_try_snapshot(mst_handle *reader);
 
 /*
  * Turns the snapshot into a reader: its pins end. Returns MST_OK, MST_CLOSED, or MST_WRONG_STATE
- * for the writer or a reader.
+ * for what is no snapshot.
  */
 int32_t mst_sharded_release(mst_handle *reader);
 
@@ -620,14 +631,15 @@ int32_t mst_sharded_release(mst_handle *reader);
  * As mst_get: the writer reads its last block, a snapshot its block, a reader the current version
  * of the key's shard. Two such reads of a reader need not be of one block. Returns what mst_get
  * returns, or for the writer MST_OVERTAKEN if another than the writer has written to the key's
- * shard, which no call makes so.
+ * shard, which no call makes so; right after MST_BAD_KEY comes MST_WRONG_STATE for a block that was
+ * begun or a part of one.
  */
 int32_t mst_sharded_get(mst_handle *hand, const uint8_t *key, size_t key_length,
                         uint8_t *room, size_t room_length);
 
 /*
  * As mst_next, in the map of a snapshot. Returns what mst_next returns; right after MST_BAD_KEY
- * comes MST_WRONG_STATE for the writer or a reader. It takes no memory.
+ * comes MST_WRONG_STATE for what is no snapshot. It takes no memory.
  */
 int32_t mst_sharded_next(mst_handle *reader, const uint8_t *key, size_t key_length,
                          uint8_t *key_room, size_t key_room_length, size_t *next_length,
@@ -635,7 +647,7 @@ int32_t mst_sharded_next(mst_handle *reader, const uint8_t *key, size_t key_leng
 
 /*
  * As mst_range, in the map of a snapshot. Returns what mst_range returns; right after MST_BAD_KEY
- * comes MST_WRONG_STATE for the writer or a reader.
+ * comes MST_WRONG_STATE for what is no snapshot.
  */
 int32_t mst_sharded_range(mst_handle *reader, const uint8_t *from, size_t from_length,
                           const uint8_t *to, size_t to_length, uint32_t limit,
@@ -643,22 +655,22 @@ int32_t mst_sharded_range(mst_handle *reader, const uint8_t *from, size_t from_l
 
 /*
  * Returns the format of a snapshot, 1 or 2, in which its root digest and its proofs are. Returns
- * MST_CLOSED; MST_WRONG_STATE for the writer or a reader.
+ * MST_CLOSED; MST_WRONG_STATE for what is no snapshot.
  */
 int32_t mst_sharded_format(mst_handle *reader);
 
 /*
  * Returns 32, the length of the root digest of all shards together, and its bytes stand first in
  * `root`: that of the writer's last block, or of the snapshot's block. It depends on the content,
- * the format and the splits alone. Returns MST_CLOSED; MST_WRONG_STATE for a reader; MST_SHORT_ROOM
- * if root_length is less than 32. It takes no memory.
+ * the format and the splits alone. Returns MST_CLOSED; MST_WRONG_STATE for what is neither;
+ * MST_SHORT_ROOM if root_length is less than 32. It takes no memory.
  */
 int32_t mst_sharded_root(mst_handle *handle, uint8_t *root, size_t root_length);
 
 /*
  * Makes the proof of the key's answer, which mst_verify_sharded judges in the format and by the
  * root digest of the same snapshot. Returns MST_OK: its bytes stand first in the room, and *length
- * is their number. Returns MST_CLOSED; MST_BAD_KEY; MST_WRONG_STATE for the writer or a reader;
+ * is their number. Returns MST_CLOSED; MST_BAD_KEY; MST_WRONG_STATE for what is no snapshot;
  * MST_MEMORY: room and *length are as they were. Returns MST_SHORT_ROOM if the room is too short:
  * *length is the length of the proof, and the room is as it was.
  */
@@ -670,7 +682,7 @@ int32_t mst_sharded_prove(mst_handle *reader, const uint8_t *key, size_t key_len
  * its value the shard's root digest, of 32 bytes, and the upper bound, of none if there is no
  * bound: the pairs of the directory, whose root digest is that of mst_sharded_root. They stand in
  * the room as those of mst_range, and MST_PAIR_LONGEST bytes for each shard are enough. Returns
- * MST_OK or MST_SHORT_ROOM as mst_range; MST_CLOSED; MST_WRONG_STATE for the writer or a reader;
+ * MST_OK or MST_SHORT_ROOM as mst_range; MST_CLOSED; MST_WRONG_STATE for what is no snapshot;
  * MST_MEMORY: room, *count and *length are as they were.
  */
 int32_t mst_sharded_directory(mst_handle *reader, uint8_t *room, size_t room_length,
@@ -696,8 +708,8 @@ int32_t mst_sharded_snapshot(mst_handle *reader);
  *         told = mst_sharded_copy(reader, &more[0], &shard, &number);    // its block 1
  *
  * Returns MST_OK, and *number is the number of the block. Otherwise nothing has changed in any
- * shard, and *number is as it was. Returns MST_CLOSED, or MST_WRONG_STATE for the writer or a
- * reader, if the first hand holds no snapshot; MST_MEMORY if there is none for the list of all
+ * shard, and *number is as it was. Returns MST_CLOSED or MST_WRONG_STATE if the first hand holds no
+ * snapshot; MST_MEMORY if there is none for the list of all
  * pairs: *shard is the number of the shards of the other map. Then returns what mst_sharded_apply
  * returns, and tells *shard as that does. Both hands are in the call until it returns.
  *
@@ -706,6 +718,94 @@ int32_t mst_sharded_snapshot(mst_handle *reader);
  */
 int32_t mst_sharded_copy(mst_handle *snapshot, mst_handle *writer, size_t *shard,
                          uint64_t *number);
+
+/* ---- one block by several threads ---- */
+
+/*
+ * A block may be made in parts, one for each shard: most of the work of a block is to make its
+ * edits in free rows and to hash them, and threads may do that for several shards at a time.
+ *
+ *     mst_handle parts[2] = {MST_HANDLE_CLOSED, MST_HANDLE_CLOSED};     // one for each shard
+ *     if (mst_sharded_begin(writer, edits, length, &place, parts, 2) != MST_OK)
+ *         give_up();
+ *     mst_sharded_prepare(&parts[0]);       // in one thread
+ *     mst_sharded_prepare(&parts[1]);       // in another
+ *     mst_sharded_commit(writer, &shard, &number);      // once both are done
+ *     mst_sharded_close(&parts[0]);
+ *     mst_sharded_close(&parts[1]);
+ *
+ * A part is a shard's of this one block. Each call of it is for one thread at a time, as of each
+ * hand; calls of different parts, and of the block, may be made at the same time.
+ *
+ * mst_sharded_apply_in_threads below does all this in one call, by threads that it starts.
+ */
+
+/*
+ * Begins the next block, of edits in the form of mst_try_apply. The writer's hand then holds the
+ * block, and with it the writer. There have to be as many hands for the parts as shards: each gets
+ * the part of the shard with its number, whether that has edits or not. What they held before is
+ * closed. Readers see nothing of the block before mst_sharded_commit.
+ *
+ * Returns MST_OK. Otherwise the writer is as it was. Returns MST_CLOSED; MST_WRONG_STATE for what
+ * is no writer; MST_BAD_SHAPE if there are not as many hands as shards: the hands for the parts are
+ * as they were. Returns MST_BAD_KEY, MST_BAD_VALUE, MST_BAD_BATCH as mst_sharded_apply, with *place
+ * as there; MST_MEMORY: the hands for the parts are empty.
+ */
+int32_t mst_sharded_begin(mst_handle *writer, const uint8_t *edits, size_t length, size_t *place,
+                          mst_handle *parts, size_t count);
+
+/*
+ * Prepares a part: makes its edits in free rows of its shard, and hashes them. Nothing of it is
+ * published. Parts may be prepared in any order, or not at all: mst_sharded_commit prepares what is
+ * not prepared. Of a part that is prepared, or has no edits, nothing is left to do.
+ *
+ * Returns MST_OK; MST_CLOSED; MST_WRONG_STATE for what is no part, or the part of a block that was
+ * committed or cancelled; MST_BUSY if the block is just being committed or cancelled. Returns
+ * MST_BUSY, MST_VERSIONS_SPENT, MST_MEMORY, MST_NO_FREE_ROWS or MST_OVERTAKEN too if the shard
+ * refuses its edits: then mst_sharded_commit will return this number, or that of a shard before it.
+ */
+int32_t mst_sharded_prepare(mst_handle *part);
+
+/*
+ * Makes the block that was begun, as mst_sharded_apply makes one of the same edits: returns what
+ * that returns, without MST_BAD_KEY, MST_BAD_VALUE and MST_BAD_BATCH, and tells *shard and *number
+ * as that does. Whatever it returns, the hand then holds the writer. But MST_CLOSED and
+ * MST_WRONG_STATE for what is no block that was begun, and MST_BUSY while a part is just being
+ * prepared: *shard is as it was, and the hand holds the block still. So call it once all calls of
+ * mst_sharded_prepare have returned. The hands of the parts hold nothing of use any more, and are
+ * to be closed.
+ */
+int32_t mst_sharded_commit(mst_handle *block, size_t *shard, uint64_t *number);
+
+/*
+ * Takes the block that was begun back: nothing has changed, and all rows that were taken are free
+ * again. Returns MST_OK, and the hand holds the writer; MST_CLOSED; MST_WRONG_STATE for what is no
+ * block that was begun; MST_BUSY while a part is just being prepared: the hand holds the block. It
+ * takes no memory.
+ */
+int32_t mst_sharded_cancel(mst_handle *block);
+
+/*
+ * Makes a block as mst_sharded_apply does, in one call, by at most `threads` threads: this one and
+ * others, which it starts, and which have ended when it returns. It begins the block, the threads
+ * prepare its parts, each the next one that nobody has taken, and this thread commits it. 0 threads
+ * are as 1, which is mst_sharded_apply. There are never more threads than shards. Where a thread
+ * cannot be started, the others do its work.
+ *
+ * Returns what mst_sharded_apply returns of the same edits, and tells *place, *shard and *number as
+ * that does. Whatever it returns, the hand holds what it held before, and after a refusal nothing
+ * has changed in any shard. Before it looks at the edits it takes memory for a hand of each shard;
+ * if there is none it returns MST_MEMORY, and *shard is the number of the shards.
+ *
+ * The hand and the edits are in the call until it returns. It starts its threads anew each time, so
+ * a block of few edits may take longer than by mst_sharded_apply. They have the stack that
+ * pthread_create gives by default, and take no signals. A thread leaves this call by its return
+ * alone: one that is cancelled meanwhile goes on to the end of the call (pthread_cancel with
+ * deferred cancellation).
+ */
+int32_t mst_sharded_apply_in_threads(mst_handle *writer, const uint8_t *edits, size_t length,
+                                     size_t threads, size_t *place, size_t *shard,
+                                     uint64_t *number);
 
 /* ---- several threads that write blocks ---- */
 
@@ -727,7 +827,7 @@ typedef struct mst_sharded_group mst_sharded_group;
 /*
  * Makes a group of the writer in the hand, and sets *group to its address. Returns MST_OK, and then
  * the hand is empty. Otherwise the hand and *group are as they were: returns MST_CLOSED;
- * MST_WRONG_STATE for a reader or a snapshot; MST_MEMORY.
+ * MST_WRONG_STATE for what is no writer; MST_MEMORY.
  */
 int32_t mst_sharded_group_open(mst_handle *writer, mst_sharded_group **group);
 
@@ -752,6 +852,11 @@ int32_t mst_sharded_group_open(mst_handle *writer, mst_sharded_group **group);
  * So a call is refused only if mst_sharded_apply would refuse its edits alone, after those of the
  * calls before it. Bad edits go into no block with others. A block of several calls takes memory
  * for all their edits; if there is none, each call gets a block of its own.
+ *
+ * It reads nothing. While a group has the writer, no call reads the map and writes it at once: what
+ * a reader or a snapshot tells may be changed by another call before these edits are made. If edits
+ * depend on what the map has, such as those of a counter, updates may be lost. Hold a lock around
+ * the read and this call in all threads that write, or let one thread write without a group.
  *
  * A thread leaves this call by its return alone. One that is cancelled meanwhile goes on to the end
  * of the call (pthread_cancel with deferred cancellation). If a thread ends within it, others may

@@ -1,6 +1,6 @@
 /*
- * How long blocks of a sharded map take, beside LMDB's transactions of as many puts, and the
- * snapshots that a reader takes while blocks are made.
+ * How long blocks of a sharded map take, by one thread and by several, beside LMDB's transactions of
+ * as many puts, and the snapshots that a reader takes while blocks are made.
  *
  *     blocks [KEYS [SHARDS [ROUNDS]]]       1000000 32 100
  *
@@ -13,11 +13,13 @@
  * with values of 32. Writes a line for each figure, with its name and a tab before it: `fill`, the
  * puts a second of blocks, or transactions, of 10,000 into the empty map; `N, least` and `N,
  * median`, the milliseconds of one with N puts of keys that are there, which the engines make in
- * turn, round for round. `snapshot` is the least microseconds of a snapshot, with its release, if
- * nothing has changed. And of a reader that takes one snapshot after another while blocks of N are
- * made: `tries`, how many of a thousand had to try again; of such a snapshot `waited, median` and
- * `waited, longest`, the microseconds from its first try to the beginning of the one that was of one
- * block, and `taken, median` and `taken, longest`, those to its end.
+ * turn, round for round. `block by T threads: N, least` and `N, median` are those of blocks that
+ * mst_sharded_apply_in_threads makes, by 1, 2 and 4 threads in turn. `snapshot` is the least
+ * microseconds of a snapshot, with its release, if nothing has changed. And of a reader that takes
+ * one snapshot after another while blocks of N are made: `tries`, how many of a thousand had to try
+ * again; of such a snapshot `waited, median` and `waited, longest`, the microseconds from its first
+ * try to the beginning of the one that was of one block, and `taken, median` and `taken, longest`,
+ * those to its end.
  */
 #include "../common.h"
 #include "mst_store.h"
@@ -58,17 +60,23 @@ static void close_map(void) {
         mst_sharded_close(&hands[hand]);
 }
 
-/* One block. */
-static void put_all(const uint8_t *pairs, size_t count) {
+/* One block, by so many threads. */
+static void put_by_threads(const uint8_t *pairs, size_t count, size_t threads) {
     static uint8_t edits[BLOCK_MOST * MST_EDIT_LONGEST];
     static uint64_t last;
     size_t length = 0, place, shard;
     uint64_t number;
     for (size_t i = 0; i < count; i++, pairs += PAIR_LENGTH)
         length = mst_edit_put(edits, length, pairs, KEY_LENGTH, pairs + KEY_LENGTH, VALUE_LENGTH);
-    int32_t told = mst_sharded_apply(&hands[0], edits, length, &place, &shard, &number);
+    int32_t told = mst_sharded_apply_in_threads(&hands[0], edits, length, threads, &place, &shard,
+                                                &number);
     if (told != MST_OK || number != ++last)
-        give_up("mst_sharded_apply", told);
+        give_up("mst_sharded_apply_in_threads", told);
+}
+
+/* One block. By one thread it is that of mst_sharded_apply. */
+static void put_all(const uint8_t *pairs, size_t count) {
+    put_by_threads(pairs, count, 1);
 }
 
 static const struct engine blocks_engine = {
@@ -145,10 +153,10 @@ static void one_round(int round, size_t count) {
     }
 }
 
-static void tell(int it, size_t count, int rounds) {
-    qsort(took[it], (size_t)rounds, sizeof *took[it], by_length);
-    printf("%s: %zu, least\t%.4g\n", engines[it]->name, count, took[it][0] * 1e3);
-    printf("%s: %zu, median\t%.4g\n", engines[it]->name, count, took[it][rounds / 2] * 1e3);
+static void tell(const char *name, size_t count, double *times, int rounds) {
+    qsort(times, (size_t)rounds, sizeof *times, by_length);
+    printf("%s: %zu, least\t%.4g\n", name, count, times[0] * 1e3);
+    printf("%s: %zu, median\t%.4g\n", name, count, times[rounds / 2] * 1e3);
     fflush(stdout);
 }
 
@@ -156,7 +164,30 @@ static void in_turn(size_t count, int rounds) {
     for (int round = 0; round < rounds; round++)
         one_round(round, count);
     for (int it = 0; it < ENGINES; it++)
-        tell(it, count, rounds);
+        tell(engines[it]->name, count, took[it], rounds);
+}
+
+/* ---- blocks by several threads ---- */
+
+static const struct crew {
+    const char *name;
+    size_t threads;
+} crews[] = {{"block by 1 thread", 1}, {"block by 2 threads", 2}, {"block by 4 threads", 4}};
+
+enum { CREWS = sizeof crews / sizeof *crews };
+
+/* In turn. Each puts pairs of its own: to put the same pairs again is less work. */
+static void by_threads(size_t count, int rounds) {
+    static double times[CREWS][ROUNDS_MOST];
+    for (int round = 0; round < rounds; round++)
+        for (int it = 0; it < CREWS; it++) {
+            draw_pairs(count);
+            double began = now();
+            put_by_threads(pairs, count, crews[it].threads);
+            times[it][round] = now() - began;
+        }
+    for (int it = 0; it < CREWS; it++)
+        tell(crews[it].name, count, times[it], rounds);
 }
 
 /* ---- snapshots ---- */
@@ -236,6 +267,7 @@ int main(int count, char **words) {
     in_turn(100, 2 * (int)rounds);
     in_turn(1000, (int)rounds);
     in_turn(BLOCK_MOST, (int)rounds / 3 + 1);
+    by_threads(BLOCK_MOST, (int)rounds / 3 + 1);
     still();
     beside_reader(1, 100 * (int)rounds);
     beside_reader(1000, (int)rounds);

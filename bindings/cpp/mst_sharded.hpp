@@ -13,6 +13,9 @@
 #pragma once
 #include "mst_store.hpp"
 
+#include <thread>
+#include <utility>
+
 namespace mst {
 
 namespace detail {
@@ -95,11 +98,31 @@ inline std::uint64_t block(int code, std::uint64_t number, std::size_t shard) {
     }
 }
 
+// The number of the block that a call makes of edits.
+template <typename Call> std::uint64_t applied(Call call) {
+    std::size_t place = 0, shard = 0;
+    std::uint64_t number = 0;
+    int code = call(&place, &shard, &number);
+    if (code == MST_BAD_KEY || code == MST_BAD_VALUE) throw refused_edit(code, place);
+    return block(code, number, shard);
+}
+
+// The code of a call that ends a block, once no part of it is just being prepared.
+template <typename Call> int ended(Call call) {
+    for (;;) {
+        std::size_t shard = SIZE_MAX; // told where a shard is busy, but not where a part is
+        int code = call(&shard);
+        if (code != MST_BUSY || shard != SIZE_MAX) return code;
+        std::this_thread::yield();
+    }
+}
+
 } // namespace detail
 
 namespace sharded {
 
 class writer;
+struct begun;
 struct opened;
 
 // What the writer, a reader and a snapshot have in common. The hand lies on the heap, so that a
@@ -274,6 +297,78 @@ public:
     void close() noexcept { close_hand(); }
 };
 
+// A part of a block that was begun: the edits of one shard. It is one thread's at a time, and closes
+// itself. If that is before its block ends, the block loses nothing.
+class part {
+    friend class writer;
+    mst_handle handle = MST_HANDLE_CLOSED;
+
+public:
+    part() noexcept = default;
+    part(part &&other) noexcept : handle(other.handle) { other.handle = MST_HANDLE_CLOSED; }
+    part &operator=(part &&other) noexcept {
+        if (this != &other) {
+            close();
+            handle = other.handle;
+            other.handle = MST_HANDLE_CLOSED;
+        }
+        return *this;
+    }
+    ~part() { close(); }
+
+    // Makes the edits in free rows, and hashes them: readers see nothing of it. Parts may be
+    // prepared in any order, each in any thread, or not at all. Returns whether nothing is left to
+    // do. It throws nothing: if the shard refuses its edits, block::commit says why.
+    bool prepare() noexcept { return mst_sharded_prepare(&handle) == MST_OK; }
+
+    // Closes the part before the object ends. A later prepare does nothing, and returns false.
+    void close() noexcept { mst_sharded_close(&handle); }
+};
+
+// A block that was begun, by writer::begin. Until it ends, the calls of its writer are refused, with
+// MST_WRONG_STATE. If the object ends first, the block is cancelled. If the writer is closed first,
+// the block is lost.
+class [[nodiscard]] block {
+    friend class writer;
+    std::shared_ptr<mst::detail::sharded_held> hand; // that of the writer
+
+    block() noexcept = default;
+
+public:
+    block(block &&other) noexcept : hand(std::move(other.hand)) {}
+    block &operator=(block &&other) noexcept {
+        if (this != &other) {
+            cancel();
+            hand = std::move(other.hand);
+        }
+        return *this;
+    }
+    ~block() { cancel(); }
+
+    // Makes the block, as writer::apply makes one of the same edits: returns its number, or throws
+    // why it is refused, and nothing has changed. It prepares the parts that are not prepared, and
+    // waits for one that another thread is just preparing. No other call may follow.
+    std::uint64_t commit() {
+        auto of = std::exchange(hand, nullptr);
+        if (of == nullptr) throw refused(MST_CLOSED);
+        std::size_t refusing = 0;
+        std::uint64_t number = 0;
+        int code = mst::detail::ended([&](std::size_t *shard) {
+            int told = mst_sharded_commit(&of->handle, shard, &number);
+            refusing = *shard;
+            return told;
+        });
+        return mst::detail::block(code, number, refusing);
+    }
+
+    // Takes the block back before the object ends: nothing has changed. It waits for a part that
+    // another thread is just preparing. No other call may follow.
+    void cancel() noexcept {
+        if (auto of = std::exchange(hand, nullptr))
+            mst::detail::ended([&](std::size_t *) { return mst_sharded_cancel(&of->handle); });
+    }
+};
+
 // The writer of a sharded map, which alone makes its blocks.
 class writer : public member {
     friend class snapshot;
@@ -296,13 +391,33 @@ public:
     // If the block is refused, nothing has changed in any shard: refused_edit tells which edit is
     // none, and refused_shard, or overtaken, which shard refused its edits.
     std::uint64_t apply(const batch &edits) {
-        std::size_t place = 0, shard = 0;
-        std::uint64_t number = 0;
-        int code = mst_sharded_apply(at(), edits.edits.data(), edits.edits.size(), &place, &shard,
-                                     &number);
-        if (code == MST_BAD_KEY || code == MST_BAD_VALUE) throw refused_edit(code, place);
-        return mst::detail::block(code, number, shard);
+        const auto &packed = edits.edits;
+        return mst::detail::applied([&](auto... told) {
+            return mst_sharded_apply(at(), packed.data(), packed.size(), told...);
+        });
     }
+
+    // As apply, but by at most so many threads: this one, and others, which have ended when it
+    // returns. Each makes and hashes the edits of other shards. It starts them anew each time, so a
+    // block of few edits may take longer than by apply. Where a thread cannot be started, the
+    // others do its work.
+    std::uint64_t apply_in_threads(const batch &edits, std::size_t threads) {
+        const auto &packed = edits.edits;
+        return mst::detail::applied([&](auto... told) {
+            return mst_sharded_apply_in_threads(at(), packed.data(), packed.size(), threads,
+                                                told...);
+        });
+    }
+
+    // Begins the next block, of these edits, and returns it with its parts, one for each shard, for
+    // threads that the caller has. If an edit is none, or there is no memory, nothing has changed.
+    //
+    //     auto [block, parts] = writer.begin(edits);
+    //     std::thread other([&part = parts[0]] { part.prepare(); });
+    //     parts[1].prepare();
+    //     other.join();
+    //     auto number = block.commit();
+    begun begin(const batch &edits);
 
     // Returns the value of the key in the last block, or nothing if the key is absent: so a block
     // can depend on what the map has.
@@ -318,6 +433,26 @@ public:
     // All later calls are refused.
     void close() noexcept { close_hand(); }
 };
+
+// A block that was begun, and its parts, in the order of the shards.
+struct begun {
+    sharded::block block;
+    std::vector<part> parts;
+};
+
+inline begun writer::begin(const batch &edits) {
+    std::vector<mst_handle> hands(shards()); // null, as MST_HANDLE_CLOSED
+    begun all{block(), std::vector<part>(hands.size())};
+    mst::detail::applied([&](std::size_t *place, std::size_t *shard, std::uint64_t *) {
+        *shard = hands.size(); // as apply tells it, if there is no memory for lists
+        return mst_sharded_begin(at(), edits.edits.data(), edits.edits.size(), place, hands.data(),
+                                 hands.size());
+    });
+    all.block.hand = hand;
+    // what the hands hold moves, once, as by open
+    for (std::size_t i = 0; i < hands.size(); i++) all.parts[i].handle = hands[i];
+    return all;
+}
 
 inline std::uint64_t snapshot::copy_to(writer &other) {
     std::size_t shard = 0;

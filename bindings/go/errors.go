@@ -18,8 +18,9 @@ var (
 	ErrValue = errors.New("mst: a value has 0 to 64 bytes")
 	// ErrClosed says that the pass is closed, or its pin ended.
 	ErrClosed = errors.New("mst: the pass is closed, or its pin ended")
-	// ErrPinned says that the pass pins a version: it neither writes, migrates, pins nor counts.
-	ErrPinned = errors.New("mst: the pass pins a version")
+	// ErrPinned says that the pass pins a version: it neither writes, migrates, pins nor counts. Of
+	// a ShardedWriter it says that a block was begun, and has not ended.
+	ErrPinned = errors.New("mst: the pass pins a version, or the writer has begun a block")
 	// ErrMemory says that the library got no memory.
 	ErrMemory = errors.New("mst: a growth of memory was refused")
 	// ErrShape says that a store has 4 to 65,535 rows and 1 to 32 passes.
@@ -93,6 +94,14 @@ func (e *EditError) Error() string {
 // Unwrap returns ErrKey or ErrValue.
 func (e *EditError) Unwrap() error {
 	return e.Err
+}
+
+// refusalOfPart is the error for the part of a shard, which is closed when its block has ended.
+func refusalOfPart(told C.int32_t, shard int) error {
+	if told == C.MST_WRONG_STATE {
+		return ErrClosed
+	}
+	return refusalOfBlock(told, 0, C.size_t(shard))
 }
 
 // refusalOfBlock is the error for a block.

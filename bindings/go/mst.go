@@ -10,10 +10,10 @@
 //	then.Unpin()
 //
 // A store is used through its passes alone, one for each goroutine, say: goroutines that share a
-// pass wait for each other. Reads wait for no other pass. One pass at a time has the turn to write;
-// the calls that begin with Try return ErrBusy meanwhile, and the others wait, each in a thread of
-// the system, so that other goroutines run. Those that end with Within wait for no longer than a
-// time that they are given.
+// pass wait for each other. By their code reads wait for no other pass (docs/LIMITS.md has how that
+// is known). One pass at a time has the turn to write; the calls that begin with Try return ErrBusy
+// meanwhile, and the others wait, each in a thread of the system, so that other goroutines run.
+// Those that end with Within wait for no longer than a time that they are given.
 //
 // Keys have 1 to 32 bytes, values 0 to 64. What a call is given it does not keep, and what it
 // returns is the caller's own. Each refusal is one of the errors below, as errors.Is finds it;

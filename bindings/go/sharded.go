@@ -3,16 +3,25 @@ package mst
 // #include "mst_store.h"
 import "C"
 
-import "runtime"
+import (
+	"runtime"
+	"sync"
+)
 
 // SplitsMost is the most splits of a sharded map.
 const SplitsMost = C.MST_SPLITS_MOST
+
+// noShard is what a block that is not made tells of no shard.
+const noShard = ^C.size_t(0)
 
 // ShardedWriter is the writer of a sharded map, from OpenSharded, which alone makes its blocks. A
 // block is edits of all shards as one version of the whole map, with one number and one root
 // digest, made whole or not at all. Goroutines that share it wait for each other.
 type ShardedWriter struct {
-	of member
+	// How many blocks were begun, and whether the last one has not ended.
+	blocks  uint64
+	isBegun bool
+	of      member
 }
 
 // ShardedReader is a reader of a sharded map, from OpenSharded: it takes snapshots, one at a time.
@@ -81,12 +90,13 @@ func OpenSharded(
 	return writer, made, nil
 }
 
-// Close closes the writer: then no more blocks are made, and readers go on. A second close returns
-// ErrClosed and has no other effect. The runtime closes a writer that nothing refers to any more,
-// at some time.
+// Close closes the writer: then no more blocks are made, and readers go on. A block that was begun
+// is lost. A second close returns ErrClosed and has no other effect. The runtime closes a writer
+// that nothing refers to any more, at some time.
 func (w *ShardedWriter) Close() error {
 	w.of.mutex.Lock()
 	defer w.of.mutex.Unlock()
+	w.isBegun = false
 	if err := w.of.close(); err != nil {
 		return err
 	}
@@ -116,6 +126,65 @@ func (w *ShardedWriter) Apply(batch *Batch) (number uint64, err error) {
 	return uint64(made), refusalOfBlock(told, place, shard)
 }
 
+// ApplyInThreads is as Apply, but by at most so many threads: this one, and others of the library,
+// which have ended when it returns. Each makes and hashes the edits of other shards. It starts them
+// anew each time, so a block of few edits may take longer than by Apply. Where a thread cannot be
+// started, the others do its work.
+func (w *ShardedWriter) ApplyInThreads(batch *Batch, threads int) (number uint64, err error) {
+	w.of.mutex.Lock()
+	defer w.of.mutex.Unlock()
+	if threads < 0 {
+		threads = 0
+	}
+	var place, shard C.size_t
+	var made C.uint64_t
+	told := C.mst_sharded_apply_in_threads(&w.of.hand, at(batch.packed), size(batch.packed),
+		C.size_t(threads), &place, &shard, &made)
+	return uint64(made), refusalOfBlock(told, place, shard)
+}
+
+// Begin begins the next block, of the edits of the batch, and returns it with its parts, one for
+// each shard, in their order, for goroutines to prepare. Until the block ends, the error of all
+// other calls of the writer but Close is ErrPinned. After an error nothing has changed. The error
+// is as that of Apply, or ErrPinned if a block was begun already.
+//
+//	block, parts, err := writer.Begin(&batch)
+//	var all sync.WaitGroup
+//	for _, part := range parts {
+//		all.Add(1)
+//		go func(part *mst.ShardedPart) {
+//			defer all.Done()
+//			part.Prepare()
+//		}(part)
+//	}
+//	all.Wait()
+//	number, err := block.Commit()
+func (w *ShardedWriter) Begin(batch *Batch) (*ShardedBlock, []*ShardedPart, error) {
+	w.of.mutex.Lock()
+	defer w.of.mutex.Unlock()
+	shards, err := w.of.shards()
+	if err != nil {
+		return nil, nil, err
+	}
+	hands := make([]C.mst_handle, shards)
+	var place C.size_t
+	told := C.mst_sharded_begin(&w.of.hand, at(batch.packed), size(batch.packed), &place, &hands[0],
+		C.size_t(shards))
+	if told != C.MST_OK {
+		return nil, nil, refusalOfBlock(told, place, C.size_t(shards))
+	}
+	w.blocks, w.isBegun = w.blocks+1, true
+	block := &ShardedBlock{by: w, number: w.blocks}
+	runtime.SetFinalizer(block, (*ShardedBlock).Cancel)
+	// The hands move: their old places are not used again.
+	parts := make([]*ShardedPart, shards)
+	for shard := range parts {
+		parts[shard] = &ShardedPart{shard: shard, hand: hands[shard]}
+		runtime.SetFinalizer(parts[shard], (*ShardedPart).Close)
+	}
+	return block, parts, nil
+}
+
 // Get returns the value of the key in the last block, if the key is present: so a block can depend
 // on what the map has. The error is ErrClosed, ErrKey, or ErrOvertaken.
 func (w *ShardedWriter) Get(key []byte) (value []byte, present bool, err error) {
@@ -137,6 +206,93 @@ func (w *ShardedWriter) Root() (Root, error) {
 	w.of.mutex.Lock()
 	defer w.of.mutex.Unlock()
 	return w.of.root()
+}
+
+// ShardedPart is a part of a block that was begun: the edits of one shard. Goroutines that share it
+// wait for each other.
+type ShardedPart struct {
+	mutex sync.Mutex
+	shard int
+	// It ends with padding, and stands last, as the hand of a pass.
+	hand C.mst_handle
+}
+
+// Prepare makes the edits in free rows, and hashes them: readers see nothing of it. Parts may be
+// prepared in any order, each in any goroutine, or not at all. If nothing is left to do, it does
+// nothing. If the shard refuses its edits, the error is a *ShardError, and so is that of Commit,
+// for this shard or for one before it. It is one with ErrBusy also while the block is just being
+// ended, and ErrClosed once it has ended.
+func (p *ShardedPart) Prepare() error {
+	p.mutex.Lock()
+	defer p.mutex.Unlock()
+	return refusalOfPart(C.mst_sharded_prepare(&p.hand), p.shard)
+}
+
+// Close closes the part. If that is before its block ends, the block loses nothing. A second close
+// returns ErrClosed and has no other effect. The runtime closes a part that nothing refers to any
+// more, at some time.
+func (p *ShardedPart) Close() error {
+	p.mutex.Lock()
+	defer p.mutex.Unlock()
+	if told := C.mst_sharded_close(&p.hand); told != C.MST_OK {
+		return refusal(told)
+	}
+	runtime.SetFinalizer(p, nil)
+	return nil
+}
+
+// ShardedBlock is a block that was begun, and that Commit or Cancel ends.
+type ShardedBlock struct {
+	by     *ShardedWriter
+	number uint64
+}
+
+// end gets the hand for a call that ends the block, which then gives it back.
+func (b *ShardedBlock) end() (*member, error) {
+	b.by.of.mutex.Lock()
+	if !b.by.isBegun || b.by.blocks != b.number {
+		b.by.of.mutex.Unlock()
+		return nil, ErrClosed
+	}
+	b.by.isBegun = false
+	runtime.SetFinalizer(b, nil)
+	return &b.by.of, nil
+}
+
+// Commit makes the block, as Apply makes one of the same edits, and returns its number. It prepares
+// the parts that are not prepared, and waits for one that another goroutine is just preparing.
+// After an error nothing has changed in any shard. The error is ErrClosed if the block has ended
+// before, or a *ShardError as that of Apply.
+func (b *ShardedBlock) Commit() (number uint64, err error) {
+	m, err := b.end()
+	if err != nil {
+		return 0, err
+	}
+	defer m.mutex.Unlock()
+	var made C.uint64_t
+	for {
+		// Of a part that is just being prepared no shard is told.
+		shard := noShard
+		told := C.mst_sharded_commit(&m.hand, &shard, &made)
+		if told != C.MST_BUSY || shard != noShard {
+			return uint64(made), refusalOfBlock(told, 0, shard)
+		}
+		runtime.Gosched()
+	}
+}
+
+// Cancel takes the block back: nothing has changed. It waits for a part that another goroutine is
+// just preparing. It has no effect if the block has ended before. The runtime cancels a block that
+// nothing refers to any more, at some time.
+func (b *ShardedBlock) Cancel() {
+	m, err := b.end()
+	if err != nil {
+		return
+	}
+	defer m.mutex.Unlock()
+	for C.mst_sharded_cancel(&m.hand) == C.MST_BUSY {
+		runtime.Gosched()
+	}
 }
 
 // Close closes the reader, and ends its pins if it has a snapshot. A second close returns ErrClosed

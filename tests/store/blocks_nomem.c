@@ -1,7 +1,7 @@
 /*
  * A malloc that counts, and that refuses its n-th call: an opening of a sharded map leaves all hands
- * empty, a block and a copy leave the map and the number as they were, each question leaves its
- * snapshot as it was, and nothing is ever leaked.
+ * empty, a block, its parts, one by two threads and a copy leave the map and the number as they
+ * were, each question leaves its snapshot as it was, and nothing is ever leaked.
  */
 #include "heap.h"
 #include "blocks.h"
@@ -83,6 +83,134 @@ static long blocks(mst_handle *writer, mst_handle *reader) {
     }
     return -1;
 }
+
+/* ---- the parts of a block ---- */
+
+static mst_handle parts[3];
+
+static void close_parts(void) {
+    for (int i = 0; i < 3; i++)
+        EXPECT(mst_sharded_close(&parts[i]) == MST_OK);
+}
+
+/* Whether the last block is this one, of puts of its number: the writer has it, and the reader. */
+static int is_last(mst_handle *writer, mst_handle *reader, uint8_t block) {
+    return has_number(writer, block) && have(reader, block)
+        && mst_sharded_try_snapshot(reader) == MST_OK && have_one_root(writer, reader)
+        && mst_sharded_release(reader) == MST_OK;
+}
+
+/* How many begins were refused before one was not. Then no hand has a part. */
+static long begins(mst_handle *writer, mst_handle *reader) {
+    for (long n = 0; n < 1000; n++) {
+        long before = live;
+        place = 77;
+        count_from(n);
+        int32_t told = mst_sharded_begin(writer, edits, length, &place, parts, 3);
+        count_on();
+        EXPECT(place == 77);
+        if (told == MST_OK) {
+            /* to take all back asks for no memory */
+            asked = 0;
+            count_from(0);
+            EXPECT(mst_sharded_cancel(writer) == MST_OK && asked == 0);
+            count_on();
+            close_parts();
+            EXPECT(live == before && is_last(writer, reader, 2));
+            return n;
+        }
+        EXPECT(told == MST_MEMORY && live == before && is_last(writer, reader, 2));
+        for (int i = 0; i < 3; i++)
+            EXPECT(parts[i].at == NULL);
+    }
+    return -1;
+}
+
+/* How often a part was refused before it was not. The block is refused then, and names it. */
+static long prepares(mst_handle *writer, mst_handle *reader, int at) {
+    for (long n = 0; n < 1000; n++) {
+        long before = live;
+        shard = 77, number = 77;
+        EXPECT(mst_sharded_begin(writer, edits, length, &place, parts, 3) == MST_OK);
+        count_from(n);
+        int32_t told = mst_sharded_prepare(&parts[at]);
+        count_on();
+        if (told == MST_OK)
+            EXPECT(mst_sharded_cancel(writer) == MST_OK);
+        else
+            EXPECT(told == MST_MEMORY && mst_sharded_prepare(&parts[at]) == MST_MEMORY
+                   && mst_sharded_commit(writer, &shard, &number) == MST_MEMORY
+                   && shard == (size_t)at && number == 77);
+        close_parts();
+        EXPECT(live == before && is_last(writer, reader, 2));
+        if (told == MST_OK)
+            return n;
+    }
+    return -1;
+}
+
+/* How many commits were refused before one was not, with a part prepared before. */
+static long commits(mst_handle *writer, mst_handle *reader) {
+    for (long n = 0; n < 1000; n++) {
+        long before = live;
+        shard = 77, number = 77;
+        EXPECT(mst_sharded_begin(writer, edits, length, &place, parts, 3) == MST_OK);
+        EXPECT(mst_sharded_prepare(&parts[1]) == MST_OK);
+        count_from(n);
+        int32_t told = mst_sharded_commit(writer, &shard, &number);
+        count_on();
+        close_parts();
+        EXPECT(live == before);
+        if (told == MST_OK) {
+            EXPECT(number == 3 && shard == 77 && have(reader, 3) && has_number(writer, 3));
+            return n;
+        }
+        EXPECT(told == MST_MEMORY && shard <= 3 && shard != 1 && number == 77);
+        EXPECT(is_last(writer, reader, 2));
+    }
+    return -1;
+}
+
+/*
+ * How many blocks by two threads were refused before one was not. Which of both asks for memory
+ * first is chance, but that for the hands comes before all else.
+ */
+static long by_threads(mst_handle *writer, mst_handle *reader) {
+    thirty_edits(4);
+    for (long n = 0; n < 1000; n++) {
+        long before = live;
+        place = shard = 77, number = 77;
+        count_from(n);
+        int32_t told =
+            mst_sharded_apply_in_threads(writer, edits, length, 2, &place, &shard, &number);
+        count_on();
+        EXPECT(live == before && place == 77);
+        if (told == MST_OK) {
+            EXPECT(number == 4 && shard == 77 && is_last(writer, reader, 4));
+            return n;
+        }
+        EXPECT(told == MST_MEMORY && number == 77 && (n == 0 ? shard == 3 : shard <= 3));
+        EXPECT(is_last(writer, reader, 3));
+    }
+    return -1;
+}
+
+/* The block of twos is there; one of threes is made in the end. */
+static long all_of_parts(mst_handle *writer, mst_handle *reader) {
+    thirty_edits(3);
+    long refused = begins(writer, reader);
+    EXPECT(refused > 10);
+    for (int at = 0; at < 3; at++) {
+        long more = prepares(writer, reader, at);
+        EXPECT(more > 0);
+        refused += more;
+    }
+    long more = commits(writer, reader);
+    EXPECT(more > 0);
+    return refused + more;
+}
+
+/* ---- questions and copies ---- */
 
 enum question { PROOF, RANGE, DIRECTORY };
 
@@ -172,12 +300,15 @@ static void of_format(uint32_t format) {
     long proofs = asked_for(&hands[1], PROOF), ranges = asked_for(&hands[1], RANGE);
     EXPECT(proofs > 0 && ranges > 0 && asked_for(&hands[1], DIRECTORY) > 0);
     long copied = copies(&hands[1], 3 - format);
-    EXPECT(copied > 10);
+    EXPECT(copied > 10 && mst_sharded_release(&hands[1]) == MST_OK);
+    long of_parts = all_of_parts(&hands[0], &hands[1]);
+    long threads = by_threads(&hands[0], &hands[1]);
+    EXPECT(threads > 10);
     EXPECT(mst_sharded_close(&hands[0]) == MST_OK && mst_sharded_close(&hands[1]) == MST_OK);
     counting = 0;
     EXPECT(live == 0);
-    printf("%ld openings, %ld blocks, %ld proofs, %ld ranges and %ld copies refused\n", opened,
-           refused, proofs, ranges, copied);
+    printf("%ld openings, %ld blocks, %ld of parts, %ld by threads, %ld proofs, %ld ranges, "
+           "%ld copies refused\n", opened, refused, of_parts, threads, proofs, ranges, copied);
 }
 
 int main(void) {

@@ -8,6 +8,7 @@ mst_pass one = MST_PASS_CLOSED;
 mst_pass two[2] = {MST_PASS_CLOSED, MST_PASS_CLOSED};
 mst_handle three = MST_HANDLE_CLOSED;
 mst_sharded_group *four;
+mst_handle five = MST_HANDLE_CLOSED;
 
 } // namespace
 
@@ -28,6 +29,9 @@ int32_t each_call(uint8_t *room, size_t length) {
     uint64_t number = length;
     told += mst_sharded_snapshot(&three) + mst_sharded_group_open(&three, &four);
     told += mst_sharded_copy(&three, &three, &place, &number);
+    told += mst_sharded_begin(&three, room, length, &place, &five, 1) + mst_sharded_prepare(&five);
+    told += mst_sharded_commit(&three, &place, &number) + mst_sharded_cancel(&three);
+    told += mst_sharded_apply_in_threads(&three, room, length, 4, &place, &end, &number);
     told += mst_sharded_group_apply(four, room, length, &place, &end, &number);
     told += mst_sharded_group_close(four, &three);
     told += mst_verify(1, room, 32, room, length, room, length, room, length);

@@ -1,6 +1,6 @@
 /*
  * A malloc that counts, and that refuses its n-th call, or what would have too many bytes held at a
- * time. It stands before glibc's own.
+ * time. It stands before glibc's own. Threads may be in it at the same time.
  */
 #ifndef HEAP_H
 #define HEAP_H
@@ -16,11 +16,11 @@ extern void *__libc_realloc(void *at, size_t size);
 extern void __libc_free(void *at);
 
 static int counting = 0;
-static long asked = 0;  /* how many calls asked for memory while counting */
-static long live = 0;   /* how many blocks were taken and not given back while counting */
-static size_t held = 0; /* how many bytes they have */
-static size_t peak = 0; /* how many they had at most */
-static long left = -1;  /* how many calls more are granted; -1: all */
+static _Atomic long asked = 0;  /* how many calls asked for memory while counting */
+static _Atomic long live = 0;   /* how many blocks were taken and not given back while counting */
+static _Atomic size_t held = 0; /* how many bytes they have */
+static _Atomic size_t peak = 0; /* how many they had at most, if by one thread */
+static _Atomic long left = -1;  /* how many calls more are granted; -1: all */
 static size_t room_for = SIZE_MAX; /* how many bytes may be held; SIZE_MAX: any number */
 
 static int refuses(size_t size) {

@@ -1,5 +1,6 @@
 // Sharded maps from C++: what a snapshot has is what one block left of a std::map, and the verifier
-// accepts its proofs; blocks that are refused, copies, ends, and threads.
+// accepts its proofs; blocks that are refused or by several threads, copies, ends, and threads that
+// read.
 #include "mst_sharded.hpp"
 #include "mst_verifier.h"
 #include "tests.h"
@@ -226,6 +227,92 @@ void ends() {
     EXPECT(shows(now, first));
 }
 
+// Some edits at random.
+mst::batch some_edits(std::mt19937 &chance) {
+    mst::batch edits;
+    for (auto more = chance() % 200; more > 0; more--) {
+        auto key = one_byte(chance() % 256);
+        if (chance() % 3 == 0)
+            edits.remove(key);
+        else
+            edits.put(key, std::to_string(chance()));
+    }
+    return edits;
+}
+
+// Prepares the parts in so many threads, some of them twice or not at all.
+void prepare(std::vector<mst::sharded::part> &parts, std::size_t threads) {
+    std::atomic<int> wrong_ones{0};
+    std::vector<std::thread> all;
+    for (std::size_t first = 0; first < threads; first++)
+        all.emplace_back([&, first] {
+            for (auto at = first; at < parts.size(); at += threads)
+                for (auto times = at % 3; times > 0; times--) wrong_ones += !parts[at].prepare();
+        });
+    for (auto &thread : all) thread.join();
+    EXPECT(wrong_ones == 0);
+}
+
+// The same blocks by apply, by threads that the library starts, and by threads of this test.
+void blocks_by_threads() {
+    auto [writer, readers] = mst::sharded::open(256, 1, sixteen());
+    auto once = mst::sharded::open(256, 0, sixteen()).writer;
+    auto hers = mst::sharded::open(256, 0, sixteen()).writer;
+    std::mt19937 chance(11);
+    for (std::uint64_t number = 1; number <= 60; number++) {
+        auto edits = some_edits(chance), others = some_edits(chance);
+        EXPECT(once.apply(edits) == number && hers.apply_in_threads(edits, number % 5) == number);
+        {
+            auto [block, parts] = writer.begin(others);
+            EXPECT(parts.size() == 16);
+            prepare(parts, 3);
+            // not made: it ends here
+        }
+        auto [block, parts] = writer.begin(edits);
+        EXPECT(is_refused(MST_WRONG_STATE, [&, &by = writer] { (void)by.number(); }));
+        prepare(parts, 1 + number % 4);
+        if (number % 2 == 0) parts.clear();
+        EXPECT(block.commit() == number && writer.number() == number);
+        EXPECT(parts.empty() || !parts[0].prepare());
+        EXPECT(once.root() == writer.root() && once.root() == hers.root());
+        EXPECT(readers[0].snapshot().root() == once.root());
+    }
+}
+
+void refused_blocks_by_threads() {
+    auto writer = mst::sharded::open(12, 0, {"b", "c", "d"}).writer;
+    mst::batch edits, none;
+    for (char end = 'a'; end < 'm'; end++) edits.put(std::string("c") + end, "1");
+    edits.put("a", "1");
+    none.put("a", "1").put("b", std::string(65, '1'));
+    auto empty = writer.root();
+    auto refused_at = [](auto call) -> std::size_t {
+        try {
+            (void)call();
+        } catch (const mst::refused_shard &refusal) {
+            return refusal.code() == MST_NO_FREE_ROWS ? refusal.shard() : 66;
+        } catch (const mst::refused_edit &refusal) {
+            return refusal.code() == MST_BAD_VALUE ? 10 + refusal.place() : 66;
+        }
+        return 77;
+    };
+    EXPECT(refused_at([&] { return writer.apply_in_threads(edits, 4); }) == 2);
+    EXPECT(refused_at([&] { return writer.apply_in_threads(none, 4); }) == 11);
+    EXPECT(refused_at([&] { return writer.begin(none).parts.size(); }) == 11);
+    auto [block, parts] = writer.begin(edits);
+    EXPECT(parts[0].prepare() && !parts[2].prepare());
+    EXPECT(refused_at([&, &of = block] { return of.commit(); }) == 2);
+    EXPECT(is_refused(MST_CLOSED, [&, &of = block] { (void)of.commit(); }));
+    EXPECT(writer.number() == 0 && writer.root() == empty && !writer.get("a"));
+    auto next = writer.begin(mst::batch().put("a", "1"));
+    auto moved = std::move(next.block);
+    next.block.cancel();
+    EXPECT(moved.commit() == 1 && writer.get("a") == "1");
+    auto last = writer.begin(mst::batch());
+    writer.close();
+    EXPECT(is_refused(MST_CLOSED, [&] { (void)last.block.commit(); }));
+}
+
 // What the writer has told of its blocks, for the threads that read.
 struct told {
     std::mutex lock;
@@ -283,6 +370,8 @@ int main() {
     copies(mst::format::two);
     openings();
     ends();
+    blocks_by_threads();
+    refused_blocks_by_threads();
     threads();
     return ended("sharded maps in C++");
 }

@@ -1,5 +1,5 @@
-"""Sharded maps from Python: all of a block or nothing, snapshots that keep theirs, copies, and what
-is refused by which exception."""
+"""Sharded maps from Python: all of a block or nothing, also by several threads, snapshots that keep
+theirs, copies, and what is refused by which exception."""
 import copy
 import os
 import pickle
@@ -7,11 +7,12 @@ import random
 import sys
 import threading
 import unittest
+from concurrent.futures import ThreadPoolExecutor
 
 import mst_store
 from mst_store import (
-    Format, Moving, Overtaken, Refused, RefusedEdit, RefusedShard, ShardedReader, ShardedWriter,
-    open_sharded,
+    Format, Moving, Overtaken, Refused, RefusedEdit, RefusedShard, ShardedPart, ShardedReader,
+    ShardedWriter, open_sharded,
 )
 
 HERE = os.path.dirname(os.path.abspath(__file__))
@@ -207,6 +208,59 @@ class Blocks(unittest.TestCase):
         self.assertIsInstance(overtaken, RefusedShard)
         self.assertEqual((overtaken.code, overtaken.shard), (mst_store.OVERTAKEN, 3))
         self.assertIs(type(pickle.loads(pickle.dumps(Moving()))), Moving)
+
+    # ---- blocks by several threads
+
+    def test_blocks_by_threads_are_those_by_one(self):
+        chance = random.Random(9)
+        (once,), (hers,), (writer,) = (open_sharded(256, 0, SPLITS) for _ in range(3))
+        with ThreadPoolExecutor(4) as pool:
+            for number in range(1, 41):
+                edits = [edit for _ in range(8) for edit in edits_at_random(chance)]
+                self.assertEqual(once.apply(edits), number)
+                self.assertEqual(hers.apply_in_threads(iter(edits), number % 5), number)
+                # a block that is not committed is not made
+                with writer.begin(edits_at_random(chance)) as block:
+                    list(pool.map(ShardedPart.prepare, block.parts[:number % 17]))
+                    self.refused(mst_store.WRONG_STATE, writer.number)
+                self.refused(mst_store.CLOSED, block.commit)
+                self.assertEqual(writer.number(), number - 1)
+                with writer.begin(edits) as block:
+                    self.assertEqual(len(block.parts), 16)
+                    for _ in range(number % 3):
+                        list(pool.map(ShardedPart.prepare, block.parts))
+                    self.assertEqual(block.commit(), number)
+                    self.refused(mst_store.CLOSED, block.commit)
+                    self.refused(mst_store.WRONG_STATE, block.parts[0].prepare)
+                block.cancel()
+                self.assertEqual(writer.number(), number)
+                self.assertEqual({writer.root(), hers.root()}, {once.root()})
+
+    def test_blocks_by_threads_that_are_refused(self):
+        (writer,) = open_sharded(12, 0, [b"b", b"c", b"d"], Format.TWO)
+        told = writer.number(), writer.root()
+        edits = [(b"d", b"1"), *((bytes((ord("c"), last)), b"1") for last in range(12))]
+        with writer.begin(edits) as block:
+            block.parts[0].prepare()
+            for call in (block.parts[2].prepare, block.commit):
+                self.assertEqual(self.refused(mst_store.NO_FREE_ROWS, call).shard, 2)
+            self.refused(mst_store.CLOSED, block.commit)
+        for threads in (0, 1, 2, 2**70, -1):
+            refused = self.refused(mst_store.NO_FREE_ROWS, writer.apply_in_threads, edits, threads)
+            self.assertEqual((type(refused), refused.shard), (RefusedShard, 2))
+        bad = [(b"a", b"1"), (b"", b"1")]
+        for call in (lambda: writer.apply_in_threads(bad, 4), writer.begin(bad).__enter__):
+            self.assertEqual(self.refused(mst_store.BAD_KEY, call).place, 1)
+        self.assertRaises(TypeError, writer.apply_in_threads, edits, "4")
+        self.assertEqual((writer.number(), writer.root()), told)
+        with writer.begin([]) as block:
+            for one in (block, block.parts[0]):
+                self.assertRaises(TypeError, copy.copy, one)
+            self.assertRaises(TypeError, ShardedPart, None, 0)
+            writer.close()
+            self.refused(mst_store.CLOSED, block.commit)
+        for call in (lambda: writer.apply_in_threads(edits, 4), writer.begin(edits).__enter__):
+            self.refused(mst_store.CLOSED, call)
 
     # ---- threads
 

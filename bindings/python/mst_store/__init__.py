@@ -1,8 +1,8 @@
 """An in-memory ordered map of short keys and values, with a root digest, proofs, and pinned
 versions.
 
-A store is used through its passes alone. Reads wait for no one; one write runs at a time. The
-store is freed with its last pass.
+A store is used through its passes alone. By their code reads wait for no one (docs/LIMITS.md has
+how that is known); one write runs at a time. The store is freed with its last pass.
 
     writer, reader = open_store(rows=1000, passes=2)
     writer.put(b"apple", b"30")
@@ -34,7 +34,9 @@ from ._refusals import (
     RefusedEdit,
 )
 from ._refusals import BAD_SPLITS, MOVING, OVERTAKEN, BusyShard, Moving, Overtaken, RefusedShard
-from ._sharded import ShardedReader, ShardedSnapshot, ShardedWriter, open_sharded
+from ._sharded import (
+    ShardedBlock, ShardedPart, ShardedReader, ShardedSnapshot, ShardedWriter, open_sharded,
+)
 
 __version__ = "0.3.0"
 
@@ -44,5 +46,6 @@ __all__ = [
     "VALUE_LONGEST", "VERSIONS_SPENT", "WRONG_STATE", "Busy", "Edit", "Format", "Octets", "Pass",
     "Refused", "RefusedEdit", "library_version", "open_store",
     "BAD_SPLITS", "MOVING", "OVERTAKEN", "BusyShard", "Moving", "Overtaken", "RefusedShard",
-    "ShardedReader", "ShardedSnapshot", "ShardedWriter", "open_sharded",
+    "ShardedBlock", "ShardedPart", "ShardedReader", "ShardedSnapshot", "ShardedWriter",
+    "open_sharded",
 ]

@@ -22,8 +22,8 @@ HAND = ctypes.POINTER(Hand)
 
 
 class ShardedHand(ctypes.Structure):
-    """What holds the writer of a sharded map, a reader or a snapshot. It stays where it is, and has
-    padding, as a Hand."""
+    """What holds the writer of a sharded map, a reader, a snapshot, a block that was begun, or a
+    part of one. It stays where it is, and has padding, as a Hand."""
 
     _fields_ = [("at", ctypes.c_void_p), ("padding", ctypes.c_uint64 * 31)]
 
@@ -72,6 +72,13 @@ def _sharded_signatures() -> Dict[str, Tuple[Any, ...]]:
         "mst_sharded_close": (hand,),
         "mst_sharded_shards": (hand,),
         "mst_sharded_apply": (hand, text, size, pointer(size), pointer(size), number),
+        "mst_sharded_apply_in_threads": (
+            hand, text, size, size, pointer(size), pointer(size), number,
+        ),
+        "mst_sharded_begin": (hand, text, size, pointer(size), hand, size),
+        "mst_sharded_prepare": (hand,),
+        "mst_sharded_commit": (hand, pointer(size), number),
+        "mst_sharded_cancel": (hand,),
         "mst_sharded_number": (hand, number),
         "mst_sharded_try_snapshot": (hand,),
         "mst_sharded_snapshot": (hand,),

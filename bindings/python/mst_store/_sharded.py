@@ -5,6 +5,7 @@ import ctypes
 import operator
 import os
 import threading
+import time
 from contextlib import contextmanager
 from typing import (
     TYPE_CHECKING, Any, Callable, Dict, Iterable, Iterator, List, NoReturn, Optional, Tuple, Type,
@@ -36,23 +37,29 @@ def _answer(code: int) -> int:
     return code
 
 
-class _Held:
-    """A hand, and the rooms of its calls. A hand is in one call at a time, so who makes one of
-    these has the lock."""
+class _Hand:
+    """A hand. It is in one call at a time, so who makes one has the lock."""
 
     def __init__(self, hand: Any) -> None:
         if not isinstance(hand, SHARDED_HAND):
-            raise TypeError("writers and readers come from open_sharded")
+            raise TypeError("writers and readers come from open_sharded, parts from begin")
         self.hand, self.process = hand, os.getpid()
         self.lock = threading.Lock()
-        self.room = ctypes.create_string_buffer(VALUE_LONGEST)
-        self.key_room = ctypes.create_string_buffer(KEY_LONGEST)
-        self.long_room = ctypes.create_string_buffer(4096)  # grows with the longest proof or range
 
     def __del__(self) -> None:
         # As for a pass: no other call can be under way, and a forked child calls nothing by itself.
         if _lib is not None and getattr(self, "process", None) == os.getpid():
             _lib.mst_sharded_close(self.hand)
+
+
+class _Held(_Hand):
+    """A hand, and the rooms of its calls."""
+
+    def __init__(self, hand: Any) -> None:
+        super().__init__(hand)
+        self.room = ctypes.create_string_buffer(VALUE_LONGEST)
+        self.key_room = ctypes.create_string_buffer(KEY_LONGEST)
+        self.long_room = ctypes.create_string_buffer(4096)  # grows with the longest proof or range
 
     def shards(self) -> int:
         return _answer(_lib.mst_sharded_shards(self.hand))
@@ -262,6 +269,70 @@ class ShardedReader:
         raise TypeError("a reader is neither copied nor pickled")
 
 
+class ShardedPart:
+    """A part of a block that was begun, from ShardedBlock.parts: the edits of one shard."""
+
+    def __init__(self, hand: Any, shard: int) -> None:
+        self._hand, self._shard = _Hand(hand), shard
+
+    def prepare(self) -> None:
+        """Makes the edits in free rows, and hashes them: readers see nothing of it. Parts may be
+        prepared in any order, each in any thread, or not at all. Other Python threads run
+        meanwhile. If nothing is left to do, it does nothing.
+
+        If the shard refuses its edits, RefusedShard is raised, and ShardedBlock.commit will raise
+        the same, unless a shard before it refuses its own. BusyShard is also raised while another
+        thread ends the block, and then Refused with WRONG_STATE.
+        """
+        with self._hand.lock:
+            code = _lib.mst_sharded_prepare(self._hand.hand)
+        _block(code, ctypes.c_uint64(), ctypes.c_size_t(self._shard))
+
+    def __reduce__(self) -> NoReturn:
+        # A copy would have the same hand.
+        raise TypeError("a part is neither copied nor pickled")
+
+
+class ShardedBlock:
+    """A block that was begun, from a writer's begin, with its `parts`, one for each shard, in their
+    order. If it is not committed when the `with` ends, it is cancelled."""
+
+    def __init__(self, held: _Held, parts: List[ShardedPart]) -> None:
+        self.parts = parts
+        self._held, self._is_over = held, False
+
+    def commit(self) -> int:
+        """Makes the block, as ShardedWriter.apply makes one of the same edits: returns its number,
+        or raises why it is refused, and nothing has changed. It prepares the parts that are not
+        prepared, and waits for one that another thread is just preparing. Then the block has ended:
+        a second commit raises Refused with CLOSED."""
+        number, shard = ctypes.c_uint64(), ctypes.c_size_t(_NO_SHARD)
+        with self._held.lock:
+            if self._is_over:
+                _refuse(CLOSED)
+            while True:
+                code = _lib.mst_sharded_commit(
+                    self._held.hand, ctypes.byref(shard), ctypes.byref(number))
+                # of a part that is just being prepared no shard is told
+                if code != BUSY or shard.value != _NO_SHARD:
+                    break
+                time.sleep(0)
+            self._is_over = True
+        return _block(code, number, shard)
+
+    def cancel(self) -> None:
+        """Takes the block back: nothing has changed. It waits for a part that another thread is
+        just preparing. If the block has ended, it does nothing."""
+        with self._held.lock:
+            while not self._is_over and _lib.mst_sharded_cancel(self._held.hand) == BUSY:
+                time.sleep(0)
+            self._is_over = True
+
+    def __reduce__(self) -> NoReturn:
+        # A copy would not know of its end.
+        raise TypeError("a block is neither copied nor pickled")
+
+
 class ShardedWriter:
     """The writer of a sharded map, from open_sharded, which alone makes its blocks."""
 
@@ -282,15 +353,48 @@ class ShardedWriter:
         a key or a value of a bad length, and RefusedShard, or Overtaken, which shard refused its
         edits.
         """
+        return self._applied(_lib.mst_sharded_apply, edits)
+
+    def apply_in_threads(self, edits: Iterable[Edit], threads: int) -> int:
+        """As apply, but by at most so many threads: this one, and others of the library, which have
+        ended when it returns. Each makes and hashes the edits of other shards. It starts them anew
+        each time, so a block of few edits may take longer than by apply. Where a thread cannot be
+        started, the others do its work."""
+        return self._applied(
+            _lib.mst_sharded_apply_in_threads, edits, _word(max(operator.index(threads), 0)))
+
+    def _applied(self, call: Callable[..., int], edits: Iterable[Edit], *more: int) -> int:
         packed, number = _packed_edits(edits), ctypes.c_uint64()
         place, shard = ctypes.c_size_t(), ctypes.c_size_t()
         with self._held.lock:
-            code = _lib.mst_sharded_apply(
-                self._held.hand, packed, len(packed), ctypes.byref(place), ctypes.byref(shard),
-                ctypes.byref(number))
-        if code in (BAD_KEY, BAD_VALUE):
-            raise RefusedEdit(code, place.value)
-        return _block(code, number, shard)
+            code = call(
+                self._held.hand, packed, len(packed), *more, ctypes.byref(place),
+                ctypes.byref(shard), ctypes.byref(number))
+        return _block_of_edits(code, number, place, shard)
+
+    @contextmanager
+    def begin(self, edits: Iterable[Edit]) -> Iterator[ShardedBlock]:
+        """Begins the next block, of these edits, for the `with`, with its parts, one for each
+        shard, for threads that the caller has. Until the block ends, all other calls of the writer
+        but close raise Refused with WRONG_STATE. If an edit is none, or there is no memory, nothing
+        has changed, and the exception is that of apply.
+
+            with writer.begin(edits) as block:
+                list(pool.map(ShardedPart.prepare, block.parts))
+                number = block.commit()
+        """
+        packed, place, count = _packed_edits(edits), ctypes.c_size_t(), self.shards()
+        hands = (ShardedHand * count)()
+        parts = [ShardedPart(ctypes.pointer(hands[at]), at) for at in range(count)]
+        with self._held.lock:
+            code = _lib.mst_sharded_begin(
+                self._held.hand, packed, len(packed), ctypes.byref(place), hands, count)
+        _block_of_edits(code, ctypes.c_uint64(), place, ctypes.c_size_t(count))
+        block = ShardedBlock(self._held, parts)
+        try:
+            yield block
+        finally:
+            block.cancel()
 
     def get(self, key: Octets) -> Optional[bytes]:
         """Returns the value of the key in the last block, or None if the key is absent: so a block
@@ -327,6 +431,9 @@ class ShardedWriter:
         raise TypeError("a writer is neither copied nor pickled")
 
 
+# What a block that is not made tells of no shard.
+_NO_SHARD = ctypes.c_size_t(-1).value
+
 _REFUSALS_OF_A_SHARD: Dict[int, Type[RefusedShard]] = {
     BUSY: BusyShard,
     MEMORY: RefusedShard,
@@ -342,6 +449,15 @@ def _block(code: int, number: ctypes.c_uint64, shard: ctypes.c_size_t) -> int:
         raise _REFUSALS_OF_A_SHARD[code](code, shard.value)
     _answer(code)
     return int(number.value)
+
+
+def _block_of_edits(
+    code: int, number: ctypes.c_uint64, place: ctypes.c_size_t, shard: ctypes.c_size_t
+) -> int:
+    """The same, of a call that is given the edits."""
+    if code in (BAD_KEY, BAD_VALUE):
+        raise RefusedEdit(code, place.value)
+    return _block(code, number, shard)
 
 
 def open_sharded(

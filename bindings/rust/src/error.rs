@@ -18,7 +18,7 @@ pub enum Error {
     /// first that is refused.
     BadValueAt(usize),
     /// The pass still pins, since a `Pinned` was leaked (`std::mem::forget`). The next pin ends
-    /// that one.
+    /// that one. Of a part of a block: the block has ended.
     WrongState,
     /// A growth of memory was refused.
     Memory,
@@ -33,7 +33,8 @@ pub enum Error {
     /// Splits are at most 1,023 keys that rise strictly, from above that of one zero byte.
     BadSplits,
     /// Of a block: another has the turn of a shard. Only a thread that ended within
-    /// [`Writer::apply`](crate::sharded::Writer::apply) leaves it so.
+    /// [`Writer::apply`](crate::sharded::Writer::apply), or another call that makes edits, leaves
+    /// it so. Of a part of a block: the block is just being ended.
     Busy,
     /// Of a block: another than its writer has written. No call makes it so.
     Overtaken,
@@ -98,9 +99,7 @@ impl fmt::Display for Error {
             Error::BadValue => out.write_str("a value has 0 to 64 bytes"),
             Error::BadKeyAt(place) => write!(out, "edit {place}: a key has 1 to 32 bytes"),
             Error::BadValueAt(place) => write!(out, "edit {place}: a value has 0 to 64 bytes"),
-            Error::WrongState => {
-                out.write_str("a pinned pass neither writes, migrates nor counts rows")
-            }
+            Error::WrongState => out.write_str("the pass is pinned, or the block has ended"),
             Error::Memory => out.write_str("a growth of memory was refused"),
             Error::BadShape => out.write_str("a store has 4 to 65535 rows and 1 to 32 passes"),
             Error::VersionsSpent => {

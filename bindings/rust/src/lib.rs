@@ -2,9 +2,9 @@
 //! stay readable while they are pinned.
 //!
 //! A store is used through its passes alone. [`open`] returns them; a thread works through a pass
-//! of its own. Reads wait for no one. One write runs at a time. The store is freed with its last
-//! pass. A call has room for each answer, so the library's `MST_SHORT_ROOM`, with which a put has
-//! been made all the same, is never returned.
+//! of its own. By their code reads wait for no one (docs/LIMITS.md has how that is known). One
+//! write runs at a time. The store is freed with its last pass. A call has room for each answer, so
+//! the library's `MST_SHORT_ROOM`, with which a put has been made all the same, is never returned.
 //!
 //! ```
 //! use mst_store::Reads;

@@ -1,8 +1,8 @@
 //! The calls of sharded maps as include/mst_store.h declares them.
 use std::fmt;
 
-/// A hand of a sharded map: what holds the writer, a reader or a snapshot, or nothing. It moves as a
-/// hand of a pass does.
+/// A hand of a sharded map: what holds the writer, a reader, a snapshot, a block that was begun, or a
+/// part of one, or nothing. It moves as a hand of a pass does.
 #[repr(C)]
 pub(crate) struct ShardedHand {
     at: *mut u8,
@@ -32,6 +32,7 @@ impl Drop for ShardedHand {
     }
 }
 
+pub(crate) const BUSY: i32 = -21;
 pub(crate) const MOVING: i32 = -30;
 
 extern "C" {
@@ -53,6 +54,30 @@ extern "C" {
         shard: *mut usize,
         number: *mut u64,
     ) -> i32;
+    pub(crate) fn mst_sharded_apply_in_threads(
+        writer: *mut ShardedHand,
+        edits: *const u8,
+        length: usize,
+        threads: usize,
+        place: *mut usize,
+        shard: *mut usize,
+        number: *mut u64,
+    ) -> i32;
+    pub(crate) fn mst_sharded_begin(
+        writer: *mut ShardedHand,
+        edits: *const u8,
+        length: usize,
+        place: *mut usize,
+        parts: *mut ShardedHand,
+        count: usize,
+    ) -> i32;
+    pub(crate) fn mst_sharded_prepare(part: *mut ShardedHand) -> i32;
+    pub(crate) fn mst_sharded_commit(
+        block: *mut ShardedHand,
+        shard: *mut usize,
+        number: *mut u64,
+    ) -> i32;
+    pub(crate) fn mst_sharded_cancel(block: *mut ShardedHand) -> i32;
     pub(crate) fn mst_sharded_number(handle: *mut ShardedHand, number: *mut u64) -> i32;
     pub(crate) fn mst_sharded_try_snapshot(reader: *mut ShardedHand) -> i32;
     pub(crate) fn mst_sharded_snapshot(reader: *mut ShardedHand) -> i32;

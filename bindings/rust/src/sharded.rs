@@ -32,6 +32,7 @@ use crate::raw::SHORT_ROOM;
 use crate::raw_sharded::{self as raw, ShardedHand};
 use crate::{edits, reads, Edit, Error, Format, Pair, KEY_LONGEST, ROOT_LENGTH, VALUE_LONGEST};
 use std::fmt;
+use std::thread;
 
 /// Opens a sharded map of the empty map, which is block 0, and returns its writer and its readers,
 /// as many as are asked for.
@@ -78,6 +79,13 @@ pub struct BlockError {
     pub shard: Option<usize>,
     /// Why the block was refused.
     pub error: Error,
+}
+
+impl BlockError {
+    /// The same, with the place of the edit that was refused, if one was.
+    fn at(self, place: usize) -> BlockError {
+        BlockError { error: self.error.at(place), ..self }
+    }
 }
 
 impl fmt::Display for BlockError {
@@ -140,7 +148,7 @@ pub struct Writer {
 impl Writer {
     /// Returns how many shards there are.
     pub fn shards(&mut self) -> usize {
-        shards_of(&mut self.hand)
+        shards_of(self.ended())
     }
 
     /// Makes the edits of all shards as the next block, and returns its number: one more than that
@@ -155,7 +163,7 @@ impl Writer {
         // Safety: the bytes are valid for their length, and so are the other pointers.
         let code = unsafe {
             raw::mst_sharded_apply(
-                &mut self.hand,
+                self.ended(),
                 packed.as_ptr(),
                 packed.len(),
                 &mut place,
@@ -163,7 +171,83 @@ impl Writer {
                 &mut number,
             )
         };
-        self.made(code, number, shard).map_err(|it| BlockError { error: it.error.at(place), ..it })
+        self.made(code, number, shard).map_err(|it| it.at(place))
+    }
+
+    /// As [`Writer::apply`], but by at most so many threads: this one, and others, which have ended
+    /// when it returns. Each makes and hashes the edits of other shards. It starts them anew each
+    /// time, so a block of few edits may take longer than by [`Writer::apply`]. Where a thread
+    /// cannot be started, the others do its work.
+    pub fn apply_in_threads(
+        &mut self,
+        edits: &[Edit<'_>],
+        threads: usize,
+    ) -> Result<u64, BlockError> {
+        let packed = edits::packed(edits);
+        let (mut place, mut number) = (0, 0);
+        let mut shard = usize::MAX;
+        // Safety: as in apply.
+        let code = unsafe {
+            raw::mst_sharded_apply_in_threads(
+                self.ended(),
+                packed.as_ptr(),
+                packed.len(),
+                threads,
+                &mut place,
+                &mut shard,
+                &mut number,
+            )
+        };
+        self.made(code, number, shard).map_err(|it| it.at(place))
+    }
+
+    /// Begins the next block, of these edits, and returns it with its parts, one for each shard, in
+    /// their order, for threads that the caller has.
+    ///
+    /// If an edit is none, or there is no memory, nothing has changed.
+    ///
+    /// ```
+    /// use mst_store::sharded;
+    /// use mst_store::Edit::Put;
+    /// use mst_store::Format;
+    ///
+    /// let (mut writer, _) = sharded::open(Format::One, 1000, 0, &[b"m"])?;
+    /// let (block, mut parts) = writer.begin(&[Put(b"apple", b"30"), Put(b"pear", b"12")]).unwrap();
+    /// std::thread::scope(|threads| {
+    ///     for part in &mut parts {
+    ///         threads.spawn(|| part.prepare());
+    ///     }
+    /// });
+    /// assert_eq!(block.commit(), Ok(1));
+    /// # Ok::<(), mst_store::Error>(())
+    /// ```
+    pub fn begin(&mut self, edits: &[Edit<'_>]) -> Result<(Block<'_>, Vec<Part>), BlockError> {
+        let packed = edits::packed(edits);
+        let (mut place, hand) = (0, self.ended());
+        let count = shards_of(hand);
+        let mut parts: Vec<_> = (0..count).map(|_| Part { hand: ShardedHand::EMPTY }).collect();
+        // Safety: as in apply; a part is its hand alone, and there are `count` of them.
+        let code = unsafe {
+            raw::mst_sharded_begin(
+                hand,
+                packed.as_ptr(),
+                packed.len(),
+                &mut place,
+                parts.as_mut_ptr().cast(),
+                count,
+            )
+        };
+        match code {
+            0 => Ok((Block { writer: self }, parts)),
+            code => Err(BlockError { shard: None, error: Error::of(code) }.at(place)),
+        }
+    }
+
+    /// The hand with the writer: if a [`Block`] was leaked, the hand still holds that, and it is
+    /// cancelled.
+    fn ended(&mut self) -> &mut ShardedHand {
+        cancel(&mut self.hand);
+        &mut self.hand
     }
 
     /// The number of a block that a call has made, or why it has not: one that it does not tell is
@@ -181,17 +265,90 @@ impl Writer {
     /// Returns the value of the key in the last block, or None if the key is absent: so a block can
     /// depend on what the map has.
     pub fn get(&mut self, key: &[u8]) -> Result<Option<Vec<u8>>, Error> {
-        value_of(&mut self.hand, key)
+        value_of(self.ended(), key)
     }
 
     /// Returns the number of the last block; 0 is that of the empty map.
     pub fn number(&mut self) -> u64 {
-        number_of(&mut self.hand)
+        number_of(self.ended())
     }
 
     /// Returns the root digest of all shards after the last block, as a snapshot of it has it.
     pub fn root(&mut self) -> [u8; ROOT_LENGTH] {
-        root_of(&mut self.hand)
+        root_of(self.ended())
+    }
+}
+
+/// A part of a block that was begun: the edits of one shard. It is one thread's at a time.
+///
+/// If it is dropped before its block ends, the block loses nothing.
+#[derive(Debug)]
+#[repr(transparent)]
+pub struct Part {
+    hand: ShardedHand,
+}
+
+impl Part {
+    /// Makes the edits in free rows, and hashes them: readers see nothing of it. Parts may be
+    /// prepared in any order, each in any thread, or not at all. If nothing is left to do, it does
+    /// nothing.
+    ///
+    /// If the shard refuses its edits, it returns why, and so will [`Block::commit`], unless a shard
+    /// before it refuses its own. While another thread ends the block it returns [`Error::Busy`],
+    /// and then [`Error::WrongState`].
+    pub fn prepare(&mut self) -> Result<(), Error> {
+        // Safety: the hand is valid.
+        match unsafe { raw::mst_sharded_prepare(&mut self.hand) } {
+            0 => Ok(()),
+            code => Err(Error::of(code)),
+        }
+    }
+}
+
+/// A block that was begun, by [`Writer::begin`]. If it is dropped, it is cancelled: nothing has
+/// changed.
+#[derive(Debug)]
+#[must_use = "the block is cancelled when this is dropped"]
+pub struct Block<'a> {
+    writer: &'a mut Writer,
+}
+
+impl Block<'_> {
+    /// Makes the block, as [`Writer::apply`] makes one of the same edits, and returns its number.
+    /// It prepares the parts that are not prepared, and waits for one that another thread is just
+    /// preparing.
+    ///
+    /// If the block is refused, nothing has changed in any shard.
+    pub fn commit(self) -> Result<u64, BlockError> {
+        let (mut shard, mut number) = (usize::MAX, 0);
+        loop {
+            // Safety: the pointers are valid.
+            let code =
+                unsafe { raw::mst_sharded_commit(&mut self.writer.hand, &mut shard, &mut number) };
+            // Of a part that is just being prepared no shard is told.
+            if code != raw::BUSY || shard != usize::MAX {
+                return self.writer.made(code, number, shard);
+            }
+            thread::yield_now();
+        }
+    }
+
+    /// Takes the block back, as a drop does: nothing has changed. It waits for a part that another
+    /// thread is just preparing.
+    pub fn cancel(self) {}
+}
+
+impl Drop for Block<'_> {
+    fn drop(&mut self) {
+        cancel(&mut self.writer.hand);
+    }
+}
+
+/// Takes the block of a hand back, if it holds one. A writer is refused with no effect.
+fn cancel(hand: &mut ShardedHand) {
+    // Safety: the hand is valid.
+    while unsafe { raw::mst_sharded_cancel(hand) } == raw::BUSY {
+        thread::yield_now();
     }
 }
 
@@ -384,7 +541,7 @@ impl Snapshot<'_> {
         let (mut shard, mut number) = (usize::MAX, 0);
         // Safety: both hands are valid, and so are the other pointers.
         let code = unsafe {
-            raw::mst_sharded_copy(&mut self.0.hand, &mut writer.hand, &mut shard, &mut number)
+            raw::mst_sharded_copy(&mut self.0.hand, writer.ended(), &mut shard, &mut number)
         };
         writer.made(code, number, shard)
     }

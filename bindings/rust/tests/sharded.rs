@@ -1,6 +1,6 @@
 //! Sharded maps, compared with BTreeMaps: what a snapshot has is what one block left, and so has a
-//! copy of it.
-use mst_store::sharded::{self, BlockError, Reader, Snapshot, Writer};
+//! copy of it. Blocks by several threads are as those by one.
+use mst_store::sharded::{self, BlockError, Part, Reader, Snapshot, Writer};
 use mst_store::Edit::{Put, Remove};
 use mst_store::{Edit, Error, Format};
 use std::collections::BTreeMap;
@@ -167,6 +167,81 @@ fn bad_edits_are_told_by_their_places() {
     assert_eq!(writer.apply(&[]), Ok(1));
     let root = writer.root();
     assert_eq!((writer.apply(&[]), writer.root()), (Ok(2), root));
+}
+
+/// Prepares the parts in so many threads, some of them twice or not at all.
+fn prepare(parts: &mut [Part], threads: usize) {
+    let share = parts.len().div_ceil(threads);
+    thread::scope(|all| {
+        for share in parts.chunks_mut(share) {
+            all.spawn(|| {
+                for (times, part) in share.iter_mut().enumerate() {
+                    assert!((0..times % 3).all(|_| part.prepare() == Ok(())));
+                }
+            });
+        }
+    });
+}
+
+#[test]
+fn blocks_by_threads_are_those_by_one() {
+    for format in [Format::One, Format::Two] {
+        let [mut once, mut hers, mut writer] = [(); 3].map(|()| opened(format, 256, 0).0);
+        let mut seed = 11;
+        for number in 1..=60u64 {
+            let many: Vec<_> = (0..number % 9).flat_map(|_| changes(&mut seed)).collect();
+            let others = changes(&mut seed);
+            assert_eq!(once.apply(&edits(&many)), Ok(number));
+            assert_eq!(hers.apply_in_threads(&edits(&many), number as usize % 5), Ok(number));
+            // a block that is dropped is not made, nor one that is cancelled, or leaked
+            let (block, mut parts) = writer.begin(&edits(&others)).unwrap();
+            prepare(&mut parts, 3);
+            match number % 3 {
+                0 => drop(block),
+                1 => block.cancel(),
+                _ => std::mem::forget(block),
+            }
+            assert_eq!(writer.number(), number - 1);
+            let (block, mut parts) = writer.begin(&edits(&many)).unwrap();
+            assert_eq!(parts.len(), 16);
+            prepare(&mut parts, 1 + number as usize % 4);
+            assert_eq!(block.commit(), Ok(number));
+            assert_eq!(parts[0].prepare(), Err(Error::WrongState));
+            assert_eq!((once.root(), once.root()), (writer.root(), hers.root()));
+            assert_eq!(writer.number(), number);
+        }
+    }
+}
+
+#[test]
+fn refused_blocks_by_threads() {
+    fn sent<T: Send>(of: T) -> T {
+        of
+    }
+    let (mut writer, _) = sharded::open(Format::Two, 12, 0, &[b"b", b"c", b"d"]).unwrap();
+    let root = writer.root();
+    let keys: Vec<_> = (0..12).map(|last| [b'c', last]).collect();
+    let mut edits = vec![Put(b"d", b"1"), Put(b"a", b"1")];
+    edits.extend(keys.iter().map(|key| Put(key, b"1")));
+    let refused = BlockError { shard: Some(2), error: Error::NoFreeRows };
+    let bad = BlockError { shard: None, error: Error::BadKeyAt(1) };
+    for threads in 0..4 {
+        assert_eq!(writer.apply_in_threads(&edits, threads), Err(refused));
+        assert_eq!(writer.apply_in_threads(&[Put(b"a", b""), Remove(b"")], threads), Err(bad));
+    }
+    assert_eq!(writer.begin(&[Put(b"a", b""), Remove(b"")]).map(|_| ()), Err(bad));
+    let (block, mut parts) = writer.begin(&edits).unwrap();
+    assert_eq!(parts[0].prepare(), Ok(()));
+    assert_eq!(parts[2].prepare(), Err(Error::NoFreeRows));
+    assert_eq!(sent(block).commit(), Err(refused));
+    assert_eq!((writer.number(), writer.root(), writer.get(b"a")), (0, root, Ok(None)));
+    // a part that another thread keeps outlives the writer
+    let (block, mut parts) = writer.begin(&[Put(b"a", b"1")]).unwrap();
+    let mut part = sent(parts.remove(0));
+    drop(parts);
+    assert_eq!(block.commit(), Ok(1));
+    drop(writer);
+    assert_eq!(part.prepare(), Err(Error::WrongState));
 }
 
 #[test]
