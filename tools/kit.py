@@ -11,6 +11,7 @@ import subprocess
 import sys
 
 sys.dont_write_bytecode = True
+from wrong_bodies.sources import owner_of  # noqa: E402
 
 
 def load_rt():
@@ -113,18 +114,3 @@ def enclosing_function(text, at):
     if not found:
         return None
     return owner_of(text[: found[-1].start()]) if found[-1][1] else "", found[-1][2]
-
-
-def owner_of(text):
-    """Returns the name under which proofs/ has the last impl or trait of a text."""
-    heads = re.findall(r"(?m)^(?:pub )?(impl|trait)\b([^{]*)\{", text)
-    if not heads:
-        return ""
-    kind, head = heads[-1]
-    head = re.sub(r"(?s)\bwhere\b.*", "", head)
-    while re.search(r"<[^<>]*>", head):
-        head = re.sub(r"<[^<>]*>", "", head)
-    found = re.match(r"(?:.*?(\w+)\s+for\s+)?&?\s*(?:mut )?([\w:]+)", head.strip())
-    if kind == "trait":
-        return found[2].split(":")[0]
-    return found[2].split("::")[-1] + (found[1] or "")

@@ -4,8 +4,6 @@ import glob
 import os
 import re
 
-from kit import owner_of
-
 HEAD = re.compile(r"( *)(?:pub(?:\([a-z]+\))? )?(?:unsafe )?(?:const )?(?:extern \"C\" )?fn (\w+)")
 CYCLE = re.compile(r"#\[cycle\((\w+)\)\]")
 WORD = re.compile(r"[^\W\d]\w*")
@@ -25,6 +23,21 @@ class Function:
         """What stands for the function among those that cannot share a check: functions that call
         one another have one proof."""
         return (self.path, self.cycle) if self.cycle else (self.path, self.owner, self.name)
+
+
+def owner_of(text):
+    """Returns the name under which proofs/ has the last impl or trait of a text."""
+    heads = re.findall(r"(?m)^(?:pub )?(impl|trait)\b([^{]*)\{", text)
+    if not heads:
+        return ""
+    kind, head = heads[-1]
+    head = re.sub(r"(?s)\bwhere\b.*", "", head)
+    while re.search(r"<[^<>]*>", head):
+        head = re.sub(r"<[^<>]*>", "", head)
+    found = re.match(r"(?:.*?(\w+)\s+for\s+)?&?\s*(?:mut )?([\w:]+)", head.strip())
+    if kind == "trait":
+        return found[2].split(":")[0]
+    return found[2].split("::")[-1] + (found[1] or "")
 
 
 def is_inherent(text):
