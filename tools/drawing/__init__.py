@@ -1,6 +1,6 @@
 """The pictures of docs/pictures, each by the function that draws it."""
-from . import blocks, chosen, crates, engines, place, put, recovery, row, sharded, sizes, threads
-from . import tree, trust, versions
+from . import blocks, chosen, commits, crates, engines, gathering, holders, place, put, recovery
+from . import row, sharded, sizes, threads, tree, trust, versions
 
 PICTURES = {
     "place": place.picture,
@@ -11,6 +11,9 @@ PICTURES = {
     "crates": crates.picture,
     "sharded": sharded.picture,
     "blocks": blocks.picture,
+    "holders": holders.picture,
+    "commits": commits.picture,
+    "gathering": gathering.picture,
     "recovery": recovery.picture,
     "sizes": sizes.picture,
     "engines": engines.picture,

@@ -1,5 +1,5 @@
 """A block of two shards while it is prepared and published, and what snapshots have meanwhile."""
-from .canvas import Canvas, in_lines
+from .canvas import Canvas
 
 LEFT, NAMES, END = 24, 140, 1172
 FIRST, APART, HIGH = 102, 78, 46
@@ -22,13 +22,6 @@ SNAPSHOTS = [
 # How much later a snapshot pins in each lane than in the one above.
 LATER = 18
 LOWER = FIRST + 3 * APART
-SAYS = (
-    "A block is an atomic commit over all shards. Both shards make and hash their parts first, in free rows that nobody sees; then the directory"
-    " lists their root digests. If one of them is refused, all is taken back. Then one step"
-    " publishes each, the directory last. A snapshot pins the directory first, then shard by shard."
-    " If a shard then has another root digest than the directory lists, as shard 0 has here, a try"
-    " gives no snapshot (in C MST_MOVING), and snapshot tries again."
-)
 LEGEND = [
     ("thin", "the version before: what a snapshot pins there until the next one is published"),
     ("dashed", "the part that is being made, in free rows (memory cells)"),
@@ -40,8 +33,13 @@ TRIES = [
     ("warm", "square", "warm", "a try while a block is published: it ends its pins, and gives none"),
 ]
 NOTES = [
-    "Time goes from left to right: the line of a snapshot slants, since it pins one after another."
-    " A snapshot is of exactly one block, unless SHA-256 collides.",
+    "A block is an atomic commit over all shards. Time goes from left to right: the line of a"
+    " snapshot slants, since it pins the directory first, and then shard by shard.",
+    "Both shards make and hash their parts first, then the directory lists their root digests. If one"
+    " of them is refused, all is taken back. Then one step publishes each, the directory last.",
+    "If a shard then has another root digest than the directory lists, as shard 0 has here, a try"
+    " gives no snapshot (in C MST_MOVING), and snapshot tries again. A snapshot is of exactly one"
+    " block, unless SHA-256 collides.",
 ]
 
 
@@ -82,13 +80,11 @@ def draw_legend(canvas, top):
 
 def picture():
     title = "A block of two shards, by apply of the writer, and snapshots that are taken meanwhile"
-    canvas = Canvas("blocks", title, LOWER + 390)
+    canvas = Canvas("blocks", title, LOWER + 384)
     canvas.text(LEFT, 34, "Time", 16)
     canvas.line([(LEFT + 52, 28), (LEFT + 180, 28)], arrow=True)
     for place, lane in enumerate(LANES):
         draw_lane(canvas, FIRST + place * APART, lane)
     draw_snapshots(canvas)
-    for number, line in enumerate(in_lines(SAYS, 16, END - LEFT)):
-        canvas.text(LEFT, LOWER + 34 + 24 * number, line, 16)
-    canvas.lines(LEFT, draw_legend(canvas, LOWER + 144) + 4, NOTES)
+    canvas.lines(LEFT, draw_legend(canvas, LOWER + 40) + 4, NOTES)
     return canvas

@@ -29,7 +29,8 @@ CAPTION = [
     " A kilobyte has 1,000 bytes.",
     "Keys of layer 0 are easy to find: 15 of 16 random keys have it in format 1, 3 of 4 in format 2"
     " (and these 3 in both).",
-    "Keyed hashes in place of the keys were measured too: they lie between the two blue curves.",
+    "Keyed hashes in place of the keys were measured too: they lie between the two blue curves. Where"
+    " these cross, the difference is noise.",
 ]
 
 
@@ -123,7 +124,7 @@ def points_of(kinds, divided):
 def picture():
     found = figures()
     see_that_the_page_tells_them(found)
-    canvas = Canvas("chosen", "Keys that an attacker chooses, and what they cost", 986)
+    canvas = Canvas("chosen", "Keys that an attacker chooses, and what they cost", 1012)
     draw_trees(canvas)
     points = {call: points_of(found[call], divided) for call, _, divided in PANELS}
     for number, (call, title, _) in enumerate(PANELS):

@@ -1,10 +1,8 @@
 """The time of calls of the store and of other engines, by the number of keys, from
-docs/pictures/engines.tsv, of puts by the size of a batch, from the tables of docs/SPEED.md, and of
-the store's get and put as multiples of LMDB's."""
-from .canvas import INK, Canvas
+docs/pictures/engines.tsv, and of puts by the size of a batch, from the tables of docs/SPEED.md."""
+from .canvas import Canvas
 from .curves import Plot, apart, scale
 from .figures import batches, figures, measured, see_that_the_page_tells_them
-from .threads import end_of
 
 LEFT, ACROSS, NEXT, UPPER, HIGH, BELOW = 94, 196, 394, 62, 400, 540
 READS = {"get": "get", "range": "range of 100 pairs", "prove": "prove (the store alone)"}
@@ -14,17 +12,11 @@ LOOKS = {
     "SQLite": ("dotted", "ring"),
     "std::map": ("dashed", "diamond"),
 }
-# The panels of multiples: the call, what it is called, and where the columns begin and end.
-BESIDE = {
-    "get": ("get: the store's time ÷ LMDB's", 94, 560),
-    "put": ("put of a new value: the store's time ÷ LMDB's", 694, 1160),
-}
-BESIDE_UPPER, BESIDE_HIGH, COLUMN = UPPER + 2 * BELOW, 220, 60
 CAPTION = [
-    "ns: nanoseconds of one call, or of one put of a batch; less is better. The scales of the six"
-    " upper panels are logarithmic, and their time axes alike; those of the lower two begin at 0.",
+    "ns: nanoseconds of one call, or of one put of a batch; less is better. All scales are"
+    " logarithmic, and all time axes alike.",
     "Keys of 16 bytes, values of 32, from C; each the mean of the fastest round. A batch of 1 is"
-    " the put alone.",
+    " the put alone, of the other run.",
     "Only the store has root digests and proofs: the hashes for these are most of its put.",
 ]
 # The heads of the tables that are drawn: what the page says above them is said below the picture.
@@ -61,29 +53,6 @@ def draw_panel(canvas, place, times, panel):
         canvas.text(plot.right + 8, high + 6, engine, 16, bold=engine == "store")
 
 
-def draw_beside(canvas, panel, multiples):
-    """A column for each number of keys, as high as the store's time is a multiple of LMDB's."""
-    title, left, right = panel
-    lower = BESIDE_UPPER + BESIDE_HIGH
-    most = end_of(10 * 1.1 * max(1, *multiples.values())) / 10  # of tenths, with its label
-    canvas.text(left - 76, BESIDE_UPPER - 24, title, 17, bold=True)
-    for part in range(5):
-        y = lower - BESIDE_HIGH * part / 4
-        canvas.line([(left, y), (right, y)], "faint" if part else "thin")
-        canvas.text(left - 12, y + 6, f"{most * part / 4:.4g}", 17, "end")
-    for place, (keys, times) in enumerate(sorted(multiples.items())):
-        middle = left + (right - left) * (place + 0.5) / len(multiples)
-        high = BESIDE_HIGH * times / most
-        canvas.box(middle - COLUMN / 2, lower - high, COLUMN, high, "thin", INK)
-        shown = f"{times:.2f}" if times < 10 else f"{times:.0f}"
-        canvas.text(middle, lower - high - 7, shown, 16, "middle", bold=True, halo=True)
-        canvas.text(middle, lower + 30, f"{keys // 1_000}", 17, "middle")
-    y = lower - BESIDE_HIGH / most
-    canvas.line([(left, y), (right, y)], "dashed")
-    canvas.text(right + 8, y + 6, "1", 16)
-    canvas.text((left + right) / 2, lower + 56, "thousands of keys", 16, "middle")
-
-
 def picture():
     see_that_the_page_tells_them()
     rows = panels()
@@ -91,17 +60,13 @@ def picture():
         it for row in rows for _, _, _, engines in row for each in engines.values()
         for it in each.values()
     ])
-    canvas = Canvas("engines", "The time of one call: the store, LMDB, SQLite and std::map", 1660)
+    canvas = Canvas("engines", "The time of one call: the store, LMDB, SQLite and std::map", 1300)
     for down, row in enumerate(rows):
         upper = UPPER + down * BELOW
         for across, panel in enumerate(row):
             left = LEFT + across * NEXT
             draw_panel(canvas, (left, left + ACROSS, upper, upper + HIGH), times, panel)
-    for call, panel in BESIDE.items():
-        each = figures()[call]
-        multiples = {keys: ns / each["LMDB"][keys] for keys, ns in each["store"].items()}
-        draw_beside(canvas, panel, multiples)
-    canvas.lines(20, BESIDE_UPPER + BESIDE_HIGH + 106, CAPTION + [
+    canvas.lines(20, UPPER + BELOW + HIGH + 104, CAPTION + [
         line.replace("Measured", f"Measured, {what}") for head, what in HEADS.items()
         for line in measured("SPEED.md", head)
     ])

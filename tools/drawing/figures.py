@@ -72,7 +72,8 @@ def measured(name, *heads):
             text = "".join(above[: place + 1])
             line = text.rpartition("\n" + MEASURED)[2].partition("\n")[0]
             line = re.sub(r"[;,] \[`\w+`\]\([^)]*\)", "", line)
-            lines.append("Measured: " + re.sub(r"\[([^]]*)\]\([^)]*\)", r"\1", line))
+            line = re.sub(r"\[([^]]*)\]\([^)]*\)", r"\1", line)
+            lines.append("Measured: " + line.replace("`", ""))
     return list(dict.fromkeys(lines))
 
 

@@ -5,14 +5,15 @@ from .canvas import Canvas
 LOG, REPLICA, CLIENT = (20, 160), (310, 370), (916, 268)
 TOPS, HIGH = (30, 138, 246), 84
 LOWER = TOPS[-1] + HIGH
-TITLE = "One log makes equal stores; whoever trusts a root digest can check their answers"
+TITLE = "One log makes equal stores; a client that trusts a root digest can check their answers"
 LOOKS = [
     ("thick", "Jombritafo: an ordered map whose versions can be pinned, and what checks its proofs"),
     ("thin", "yours: log and consensus, network, signatures, the programs around store and verifier"),
 ]
 NOTES = [
     "R: the root digest (Merkle root) of a version, 32 bytes. It depends on the map and its format"
-    " alone, so replicas that have applied the same entries have the same root digest.",
+    " alone, of a sharded map on its splits too. So replicas that have applied the same entries have"
+    " the same root digest. An entry is one batch of a store, or one block of a sharded map.",
 ]
 
 
@@ -36,8 +37,12 @@ def draw_replicas(canvas):
         canvas.text(left + 176, top + 62, "root digest R", 17, within=wide - 200)
         middle = top + HIGH / 2
         canvas.line([(sum(LOG), middle), (left, middle)], arrow=True)
+    x = left + 160 + (wide - 176) / 2
+    for above, below in zip(TOPS, TOPS[1:]):
+        canvas.line([(x, above + HIGH - 10), (x, below + 10)], "dotted")
+        canvas.text(x + 12, below - 7, "equal?", 16)
     x = (sum(LOG) + left) / 2
-    for line, text in enumerate(("a batch or", "a block", "per entry")):
+    for line, text in enumerate(("one batch", "(or block)", "per entry")):
         canvas.text(x, TOPS[0] + HIGH / 2 + 30 + 24 * line, text, 16, "middle", within=150)
 
 
@@ -73,7 +78,7 @@ def draw_client(canvas):
 
 
 def picture():
-    canvas = Canvas("place", TITLE, LOWER + 154)
+    canvas = Canvas("place", TITLE, LOWER + 180)
     draw_log(canvas)
     draw_replicas(canvas)
     draw_answers(canvas)

@@ -15,7 +15,8 @@ CAPTION = [
     " version; it is drained once no pass can read it.",
     f"From its pin to its unpin pass {READER} reads record 0 and the rows of its version, at any"
     " time: no step changes them. Between 7 and 8 no word has the mark of its pin: only the writer"
-    " has it, to whom the publication returned it.",
+    " has it, to whom the publication returned it. A pass pins record 0 if its mark is in just one of"
+    " two: 'done of record 0', and 'current' (after 7 the writer's mask).",
     f"A store of {PASSES} passes has the records 0 to {LAST}. In its third step the write finds that"
     f" no pass pins 1 to {LAST}, and it uses the last one for the new version.",
 ]
@@ -80,9 +81,9 @@ STEPS = [
     (WRITER, "7", 724, "publishes", Table.publish),
     (READER, "2", 790, "reads", None),
     (WRITER, "8", 860, "transfers", Table.transfer),
-    (WRITER, "9", 940, "", sets("desk", "in the slot")),
-    (WRITER, "9", 980, "", sets("turn", "free")),
-    (READER, "3", 1060, "unpins", Table.unpin),
+    (WRITER, "9", 946, "desk", sets("desk", "in the slot")),
+    (WRITER, "9", 1020, "turn", sets("turn", "free")),
+    (READER, "3", 1096, "unpins", Table.unpin),
 ]
 # The steps that every lane shows.
 MARKED = {"publishes", "transfers"}
@@ -138,7 +139,7 @@ def picture():
     tables, names = all_tables(), list(Table().cells())
     words = FIRST + 2 * APART + 20
     lower = words + len(names) * WORDS
-    canvas = Canvas("put", title, lower + 236)
+    canvas = Canvas("put", title, lower + 250)
     for _, _, x, says, _ in STEPS:
         if says in MARKED:
             canvas.line([(x, FIRST + APART + HIGH), (x, lower - 8)], "dashed")

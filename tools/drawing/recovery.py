@@ -5,7 +5,7 @@ from .canvas import Canvas
 LEFT, RIGHT, FIRST, APART, HIGH = 210, 1184, 108, 62, 46
 TITLE = "A writer has died: reads go on, and the map moves to a new store"
 # When the writer dies, and when each step of the page begins.
-DIES, STOP, PIN, LOAD, COMPARE, SWITCH = 330, 452, 566, 666, 806, 936
+DIES, STOP, PIN, LOAD, COMPARE, SWITCH = 330, 452, 566, 666, 804, 936
 STEPS = [
     (DIES, "a writer dies"), (STOP, "1 stop"), (PIN, "2 pin"), (LOAD, "3 load"),
     (COMPARE, "4 compare"), (SWITCH, "5 switch over"),
@@ -16,7 +16,8 @@ LANES = [
         (LEFT, DIES, "thin", "writes"), (DIES, RIGHT, "warm", "has the turn, the write lock, for good"),
     ]),
     ("other writers", [
-        (LEFT, DIES, "thin", "write"), (DIES, SWITCH, "warm", "MST_BUSY, or wait without end"),
+        (LEFT, DIES, "thin", "write"), (DIES, STOP, "warm", "MST_BUSY"),
+        (STOP, SWITCH, "dashed", "stopped; those that wait in mst_put stay"),
         (SWITCH, RIGHT, "thick", "write to the new one"),
     ]),
     ("readers", [
@@ -26,18 +27,24 @@ LANES = [
     ("the spare pass", [
         (PIN, SWITCH, "thin", "pins the last version"),
     ]),
+    ("the old store", [
+        (LEFT, RIGHT, "thin", "keeps its memory until the process ends: one pass is never closed"),
+    ]),
     ("the new store", [
-        (LOAD, COMPARE, "thick", "one batch"), (COMPARE, SWITCH, "thick", "same root?"),
+        (LOAD, COMPARE, "thick", "one batch"), (COMPARE, SWITCH, "thick", "same digest?"),
         (SWITCH, RIGHT, "thick", "in use"),
     ]),
 ]
 LOOKS = [
     ("thin", "the old store"), ("warm", "no more writes to the old store"),
+    ("dashed", "no calls"),
     ("thick", "the new store, with a map of the same root digest"),
 ]
 NOTES = [
-    "Time goes from left to right. The write that was cut off is whole in the map, or not at all."
-    " The pass of the dead thread is never closed, so the old store keeps its memory.",
+    "Time goes from left to right. The write that was cut off is whole in the map, or not at all.",
+    "A sharded map: in step 2 take a snapshot, or keep the newest that is held; if the writer died"
+    " while it published, no newer one may come. In step 3 copy it into a new map"
+    " (mst_sharded_copy).",
 ]
 
 
@@ -50,7 +57,7 @@ def draw_lane(canvas, top, name, parts):
 
 def picture():
     lower = FIRST + len(LANES) * APART
-    canvas = Canvas("recovery", TITLE, lower + 190)
+    canvas = Canvas("recovery", TITLE, lower + 270)
     for place, (x, says) in enumerate(STEPS):
         canvas.line([(x, FIRST - 14), (x, lower - 4)], "dashed")
         canvas.text(x, FIRST - 26 - 26 * (place == 0), says, 16, "middle", bold=place == 0)

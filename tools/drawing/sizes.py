@@ -11,7 +11,7 @@ PAGE = os.path.join(TOP, "docs", "OPERATING.md")
 # The head of the page's table of measurements.
 HEAD = "shards"
 # The rows of the page's table that are drawn, by how they begin.
-MAP, WRITE, ROWS = "M, ", "W = ", "**rows = "
+MAP, WRITE, ROWS, OPEN = "M, ", "W = ", "**rows = ", "rows to open"
 LONG, SHORT = 3, 1  # L and S of the example
 LEFT, RIGHT, UPPER, HIGH, APART = 150, 1130, 60, 54, 104
 MOST, STEP = 65_535, 10_000
@@ -27,29 +27,25 @@ TITLE = "Most rows of a shard are for pinned versions"
 CAPTION = [
     "Rows needed = (1 + L) × M + (1 + S) × W, here with L = 3 and S = 1. A row is a memory cell. A"
     " map of 200,000 random keys in format 1; blocks of 500 edits. Each bar is of the fullest shard,"
-    " which has more keys than the mean. The line behind its right end: the rows with which the shard"
-    " is opened.",
+    " which has more keys than the mean. The line behind its right end: the rows to open it with, a"
+    " ninth more, so that rows are left when an alarm at nine tenths rings.",
 ]
 
 
 def cells_of(page, first):
-    """The numbers of a row of the table: of each cell the first that is written bold, or the only
-    one."""
+    """The numbers of a row of the table: of each cell the first."""
     for line in page.split("\n"):
         name, *cells = [it.strip() for it in line.strip("|").split("|")]
         if line.startswith("|") and name.startswith(first):
-            bold = [re.search(r"\*\*([\d,]+)\*\*, so ([\d,]+)", it) for it in cells]
-            if all(bold):
-                return [(whole(it[1]), whole(it[2])) for it in bold]
-            return [whole(re.match(r"[\d,]+", it)[0]) for it in cells]
+            return [whole(re.match(r"[\d,]+", it.strip("*"))[0]) for it in cells]
     sys.exit(f"docs/OPERATING.md has no row '{first}' in its worked example")
 
 
-def used_at_most(page, shards, opened):
+def used_at_most(page, shards):
     """The rows in use at most, by the table of measurements."""
-    found = re.search(rf"\n\| {shards} \| {opened:,} \| ([\d,]+) \|", page)
+    found = re.search(rf"\n\| {shards} \| [\d,]+ \| ([\d,]+) \|", page)
     if not found:
-        sys.exit(f"docs/OPERATING.md has no measurement of {shards} shards of {opened:,} rows")
+        sys.exit(f"docs/OPERATING.md has no measurement of {shards} shards")
     return whole(found[1])
 
 
@@ -61,12 +57,14 @@ def example():
         sys.exit("docs/OPERATING.md has no worked example")
     heads = re.search(r"\n\| \|((?: \d+ shards \|)+)\n", page)[1]
     shards = [whole(it) for it in re.findall(r"(\d+) shards", heads)]
-    for number, rows, write, (all_rows, opened) in zip(
-        shards, cells_of(page, MAP), cells_of(page, WRITE), cells_of(page, ROWS)
+    for number, rows, write, all_rows, opened in zip(
+        shards, *(cells_of(page, first) for first in (MAP, WRITE, ROWS, OPEN))
     ):
         if (1 + LONG) * rows + (1 + SHORT) * write != all_rows:
             sys.exit(f"docs/OPERATING.md: the rows of {number} shards are not 4 M + 2 W")
-        yield number, rows, write, all_rows, opened, used_at_most(page, number, opened)
+        if 9 * opened < 10 * all_rows:
+            sys.exit(f"docs/OPERATING.md: the alarm of {number} shards rings at once")
+        yield number, rows, write, all_rows, opened, used_at_most(page, number)
 
 
 def across(rows):
@@ -94,7 +92,7 @@ def draw_bar(canvas, y, number, rows, write, all_rows, opened, used):
     if across(opened) + 8 + width_of(says, 16) < RIGHT:
         canvas.text(across(opened) + 8, y + HIGH / 2 + 6, says, 16, halo=True)
     else:
-        canvas.text(across(opened), y + HIGH + 26, says, 16, "middle", halo=True)
+        canvas.text(RIGHT - 8, y + HIGH + 26, says, 16, "end", halo=True)
     canvas.line([(across(used), y - 6), (across(used), y + HIGH + 8)], "warm")
     says = f"{used:,} used at mean size"
     at = "end" if across(used) - width_of(says, 16) > LEFT + 8 else "middle"

@@ -28,8 +28,9 @@ CAPTION = [
     "Readers: a get of the newest version pins it and unpins it, by two atomic steps on words that"
     " all threads share. A get of a pinned version makes no such step.",
     "Writers: one write lock, the turn, serves all, so more writers make no more puts. With the"
-    " queue, as the library has it, calls that have waited 30 ms go first. Each bar is the median of"
-    " five runs.",
+    " queue, as the library has it, calls that have waited 30 ms go first. Each bar of writers is the"
+    " median of five runs. A lone writer never waits: its three bars differ by chance, and so may"
+    " all others, by up to a factor of two.",
     "Time of one get: its processor time; that of a get by one reader alone is 1.",
     "Slowest writer: its puts, as a part of the mean of all writers; the median.",
 ]
@@ -100,6 +101,9 @@ def draw_columns(canvas, left, right, most, unit, ways, found):
             canvas.text(x + column / 2, LOWER + 68, beside, 16, "middle")
             x += column
         canvas.text(left + (place + 0.5) * wide, LOWER + 28, f"{number}", 17, "middle", bold=True)
+        if not any(each[number][1] for each in found.values()):  # nothing beside: a lone writer
+            y = LOWER - (LOWER - UPPER) * max(each[number][0] for each in found.values()) / most
+            canvas.text(left + (place + 0.5) * wide, y - 30, "differ by chance", 16, "middle")
 
 
 def draw_legend(canvas, left, ways, found):
@@ -121,7 +125,7 @@ def picture():
     found, page = figures(), told()
     see_that_the_page_tells_them(found, page)
     below = LOWER + 150 + 30 * max(len(each) for each in found.values())
-    canvas = Canvas("threads", "Calls a second of one store, by the number of threads", below + 340)
+    canvas = Canvas("threads", "Calls a second of one store, by the number of threads", below + 310)
     for who, (left, right, title, unit, beside, ways) in PANELS.items():
         each = {how: found[who][how] for how in ways if how in found[who]}
         most = end_of(max(calls for one in each.values() for calls, _ in one.values()))

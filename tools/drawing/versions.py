@@ -107,8 +107,10 @@ def draw_legend(canvas, counts, old, top):
         "thin": "rows that both versions have",
         "thick": "rows that the put wrote, which were free: one path, with the new entry",
     }
-    top = canvas.legend(20, top, [(it, f"{counts[it]} {text}") for it, text in says.items()])
-    canvas.lines(20, top + 8, NOTES)
+    canvas.lines(20, top - 6, NOTES)
+    canvas.legend(20, top + 26 * len(NOTES) + 18, [
+        (it, f"{counts[it]} {text}") for it, text in says.items()
+    ])
 
 
 def picture():

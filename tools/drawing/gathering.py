@@ -1,0 +1,68 @@
+"""The time of an edit by how many edits a block of a sharded map has, and of a put by how many puts
+a transaction of LMDB has: the table of docs/OPERATING.md."""
+import re
+import sys
+
+from .canvas import DARK_GREY, INK, LIGHT_GREY, TINT, Canvas
+from .figures import measured, whole
+from .sizes import PAGE
+
+LEFT, RIGHT, UPPER, LOWER, MOST = 92, 1180, 76, 396, 80
+# The head of the table, by its first cell.
+HEAD = "Edits"
+# A cell with two times.
+TWO = r"([\d.]+) \(([\d.]+)\)"
+TITLE = "Gathering edits saves time in blocks of a thousand and more, by their median"
+# The columns, from left to right: what each is, and its fill.
+WAYS = [
+    ("an edit of a block: in the fastest block", INK),
+    ("the same: the median of the blocks", TINT),
+    ("a put of LMDB's transaction: in the fastest", DARK_GREY),
+    ("the same: the median", LIGHT_GREY),
+]
+CAPTION = [
+    "A sharded map of 1,000,000 keys in 32 shards, and LMDB in memory, unsynced. The edits of a"
+    " block have random keys: one edit touches one shard, 100 edits nearly all of them.",
+    "LMDB has no root digest and no proofs: a block hashes each node on the way to each edit.",
+]
+
+
+def times():
+    """By the number of edits: the microseconds of one, for each way."""
+    with open(PAGE, encoding="utf-8") as file:
+        _, found, table = file.read().partition(f"\n| {HEAD} |")
+    if not found:
+        sys.exit("docs/OPERATING.md has no table of blocks by their edits")
+    for line in table.split("\n")[2:]:
+        cells = re.fullmatch(rf"\| ([\d,]+) \| {TWO} \| {TWO} \|", line)
+        if not cells:
+            break
+        edits = whole(cells[1])
+        yield edits, [float(it) * 1_000 / edits for it in cells.groups()[1:]]
+
+
+def picture():
+    found = list(times())
+    canvas = Canvas("gathering", TITLE, LOWER + 330)
+    canvas.text(LEFT - 60, 36, "microseconds an edit, or a put", 17, bold=True)
+    for part in range(5):
+        y = LOWER - (LOWER - UPPER) * part / 4
+        canvas.line([(LEFT, y), (RIGHT, y)], "faint" if part else "thin")
+        canvas.text(LEFT - 8, y + 6, f"{MOST * part / 4:.0f}", 16, "end")
+    wide = (RIGHT - LEFT) / len(found)
+    for place, (edits, each) in enumerate(found):
+        x = LEFT + place * wide + (wide - 56 * len(each)) / 2
+        for time, (_, fill) in zip(each, WAYS):
+            y = LOWER - (LOWER - UPPER) * time / MOST
+            canvas.box(x + 2, y, 52, LOWER - y, "thin", fill)
+            says = f"{time:.0f}" if time >= 10 else f"{time:.1f}"
+            canvas.text(x + 28, y - 7, says, 16, "middle", halo=True)
+            x += 56
+        name = f"{edits:,} edits" if edits > 1 else "1 edit"
+        canvas.text(LEFT + (place + 0.5) * wide, LOWER + 28, name, 17, "middle", bold=True)
+    for place, (name, fill) in enumerate(WAYS):
+        x, y = 20 + 560 * (place // 2), LOWER + 68 + 30 * (place % 2)
+        canvas.box(x, y - 15, 26, 18, "thin", fill)
+        canvas.text(x + 38, y, name, 16)
+    canvas.lines(20, LOWER + 140, CAPTION + measured("OPERATING.md", HEAD))
+    return canvas

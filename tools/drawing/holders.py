@@ -1,0 +1,139 @@
+"""Who holds what: threads, hands and passes of one store, with its turn, its versions and its pins;
+and the writer, a group, a reader and a snapshot of a sharded map."""
+from .canvas import LIGHT_GREY, Canvas
+
+THREAD, HAND, OUTER = (20, 120), (180, 250), (490, 694)
+RIGHT = sum(OUTER) - 24
+HIGH, APART, FIRST = 46, 64, 66
+# Where the turn, the versions and the rows of the store stand from left to right.
+TURN, VERSION = (514, 200), 792
+TITLE = "Who holds what: threads, hands and passes, and what these have of a store or a sharded map"
+# Of each thread of the store: its name, and what its hand has.
+THREADS = [
+    ("thread A", ("pass 0", "has the turn")),
+    ("thread B", ("pass 1", "waits in mst_put")),
+    ("thread C", ("pass 2", "reads")),
+    ("thread D", ("pass 3", "pinned")),
+    (None, ("pass 4", "spare: to watch")),
+]
+SECOND = FIRST + len(THREADS) * APART + 96
+# The lanes of the sharded map, and where the versions of two blocks stand.
+LANES, NAMES, OLD, NEW, WIDE = ["directory", "shard 0", "shard 1", "shard 2"], 700, 818, 1010, 140
+LANE, STEP, LANES_FROM = 36, 54, 48
+LOOKS = [
+    ("thick", "the current version, the last block: what a read sees that begins now"),
+    ("thin", "an older version, which a pin keeps"),
+    ("dashed", "what is being made, in free rows that nobody sees"),
+]
+NOTES = [
+    "A hand is a struct of yours that has a pass, or of a sharded map the writer, a reader or a"
+    " snapshot. One thread at a time uses a hand. Writer, reader and snapshot each have a pass of"
+    " the directory and of each shard.",
+    "The turn is the write lock of one store. A pin begins by one step and ends by one, and no"
+    " writer waits for it. A row is a memory cell; versions share most of theirs.",
+]
+
+
+def draw_hand(canvas, top, thread, says):
+    """A thread, its hand, and what the hand has."""
+    if thread:
+        canvas.box(THREAD[0], top, THREAD[1], HIGH, round=8)
+        canvas.text(THREAD[0] + 14, top + 29, thread, 17)
+        canvas.line([(sum(THREAD), top + HIGH / 2), (HAND[0], top + HIGH / 2)], arrow=True)
+    canvas.box(HAND[0], top, HAND[1], HIGH)
+    canvas.text(HAND[0] + 12, top + 29, says[0], 17, bold=True)
+    canvas.text(HAND[0] + 84, top + 29, says[1], 16, within=HAND[1] - 90)
+
+
+def draw_heads(canvas, y, heads):
+    for x, text in heads:
+        canvas.text(x, y, text, 17, bold=True)
+
+
+def draw_store(canvas):
+    tops = [FIRST + place * APART for place in range(len(THREADS))]
+    draw_heads(canvas, FIRST - 22, [(THREAD[0], "threads"), (HAND[0], "hands (mst_pass)"),
+                                    (OUTER[0], "one store, opened with five passes")])
+    canvas.box(OUTER[0], FIRST - 8, OUTER[1], len(THREADS) * APART, round=8)
+    for top, (thread, says) in zip(tops, THREADS):
+        draw_hand(canvas, top, thread, says)
+    left, wide = TURN
+    canvas.box(left, tops[0], wide, APART + HIGH, fill=LIGHT_GREY, round=6)
+    canvas.text(left + 14, tops[0] + 32, "turn", 18, bold=True)
+    for line, text in enumerate(("write lock: one pass", "at a time writes")):
+        canvas.text(left + 14, tops[0] + 62 + 24 * line, text, 16, within=wide - 18)
+    versions = [(tops[0], "dashed", "version 43", "is being made"),
+                (tops[2], "thick", "version 42", "current"),
+                (tops[3], "thin", "version 41", "pinned by pass 3")]
+    for top, style, name, says in versions:
+        canvas.box(VERSION, top, RIGHT - VERSION, HIGH, style)
+        canvas.text(VERSION + 12, top + 29, name, 17, bold=True)
+        canvas.text(VERSION + 128, top + 29, says, 16)
+    canvas.box(left, tops[4], RIGHT - left, HIGH)
+    canvas.text(left + 14, tops[4] + 29,
+                "rows (memory cells): as many as it was opened with", 16, within=RIGHT - left - 20)
+    middle = HIGH / 2
+    hand, after = sum(HAND), left + wide
+    canvas.line([(hand, tops[0] + middle), (left, tops[0] + middle)], arrow=True)
+    canvas.line([(hand, tops[1] + middle), (left, tops[1] + middle)], "dashed", arrow=True)
+    canvas.line([(after, tops[0] + middle), (VERSION, tops[0] + middle)], arrow=True)
+    for row, says in ((2, "a pin for one call"), (3, "a pin until mst_unpin")):
+        canvas.line([(hand, tops[row] + middle), (VERSION, tops[row] + middle)], arrow=True)
+        canvas.text(left + 14, tops[row] + middle - 8, says, 16)
+
+
+def draw_blocks(canvas, top):
+    """The directory and the shards, each with its versions of two blocks."""
+    for x, name, style in ((OLD, "block 7", "thin"), (NEW, "block 8", "thick")):
+        high = (len(LANES) - 1) * STEP + LANE
+        canvas.box(x - 10, top + LANES_FROM - 10, WIDE + 20, high + 20, "faint", round=8)
+        canvas.text(x + 8, top + LANES_FROM - 16, name, 17, bold=True)
+        for place in range(len(LANES)):
+            canvas.box(x, top + LANES_FROM + place * STEP, WIDE, LANE, style)
+    for place, lane in enumerate(LANES):
+        canvas.text(NAMES + 98, top + LANES_FROM + place * STEP + 24, lane, 17, "end")
+
+
+def draw_map(canvas):
+    top = SECOND
+    draw_heads(canvas, top - 22, [(THREAD[0], "threads"), (HAND[0], "hands (mst_handle)"),
+                                  (OUTER[0], "a sharded map, opened with three hands")])
+    rows = [top + place * APART for place in range(5)]
+    canvas.box(OUTER[0], top - 8, OUTER[1], 5 * APART, round=8)
+    for name, y in zip(("thread E", "thread F", "thread G", "thread H", "thread I"), rows):
+        canvas.box(THREAD[0], y, THREAD[1], HIGH, round=8)
+        canvas.text(THREAD[0] + 14, y + 29, name, 17)
+        canvas.line([(sum(THREAD), y + HIGH / 2), (HAND[0], y + HIGH / 2)], arrow=True)
+    canvas.box(HAND[0], rows[0], HAND[1], 2 * APART + HIGH, fill=LIGHT_GREY, round=6)
+    canvas.text(HAND[0] + 12, rows[0] + 32, "the writer, in a group", 17, bold=True)
+    for line, text in enumerate(("taken out of the first", "hand: one of its threads",
+                                 "makes each block, with", "the edits of those that", "wait")):
+        canvas.text(HAND[0] + 12, rows[0] + 62 + 24 * line, text, 16, within=HAND[1] - 16)
+    held = (rows[3], "reader", "get, snapshot"), (rows[4], "snapshot", "of block 7")
+    for y, name, says in held:
+        canvas.box(HAND[0], y, HAND[1], HIGH)
+        canvas.text(HAND[0] + 12, y + 29, name, 17, bold=True)
+        canvas.text(HAND[0] + 112, y + 29, says, 16)
+    draw_blocks(canvas, top)
+    hand, left = sum(HAND), OUTER[0] + 24
+    last = top + LANES_FROM + 3 * STEP
+    y, x = rows[0] + 10, NEW + WIDE - 20
+    canvas.line([(hand, y), (x, y), (x, top + LANES_FROM - 10)], arrow=True)
+    for line, says in enumerate(("publishes block 8 in", "all shards, or in none")):
+        canvas.text(left, y + 26 + 24 * line, says, 16)
+    y = last - 9
+    canvas.line([(hand, y), (NEW - 30, y), (NEW - 2, last + LANE / 2)], arrow=True)
+    for line, says in enumerate(("a get: the current", "version of one shard")):
+        canvas.text(left, y + 20 + 22 * line, says, 16)
+    y, x = rows[4] + HIGH - 12, OLD + WIDE / 2
+    canvas.line([(hand, y), (x, y), (x, last + LANE + 11)], arrow=True)
+    canvas.text(left, y - 9, "pins the directory and each shard", 16)
+
+
+def picture():
+    lower = SECOND + 5 * APART
+    canvas = Canvas("holders", TITLE, lower + 272)
+    draw_store(canvas)
+    draw_map(canvas)
+    canvas.lines(20, canvas.legend(20, lower + 36, LOOKS) + 4, NOTES)
+    return canvas
