@@ -3,6 +3,8 @@
  * All pages are of one version, since the reader pins it; meanwhile another pass takes keys out.
  *
  *     make -C ../bindings && cc -I../include paging.c ../bindings/out/libmst_store.a -o paging
+ *
+ * It needs the library: that of a release (there is none yet), or the kit, by which make makes it.
  */
 #include "mst_store.h"
 #include <stdio.h>

@@ -1,6 +1,8 @@
 """Pages through 10,000 digests of 32 bytes, all of one version, while another pass takes keys out.
 
     make -C bindings && PYTHONPATH=bindings/python python3 examples/paging.py
+
+It needs the library: that of a release (there is none yet), or the kit, by which make makes it.
 """
 import hashlib
 

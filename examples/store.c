@@ -2,6 +2,8 @@
  * The shortest use: two passes of one store, an old version that stays, and a proof of it.
  *
  *     make -C ../bindings && cc -I../include store.c ../bindings/out/libmst_store.a -o store
+ *
+ * It needs the library: that of a release (there is none yet), or the kit, by which make makes it.
  */
 #include "mst_store.h"
 #include <stdio.h>

@@ -2,6 +2,8 @@
 //
 //     make -C ../bindings
 //     c++ -std=c++17 -I../include -I../bindings/cpp store.cpp ../bindings/out/libmst_store.a
+//
+// It needs the library: that of a release (there is none yet), or the kit, by which make makes it.
 #include "mst_store.hpp"
 #include <iostream>
 

@@ -2,7 +2,8 @@
 
     make -C bindings && PYTHONPATH=bindings/python python3 examples/store.py
 
-With the wheel installed it needs no PYTHONPATH.
+With the wheel installed it needs no PYTHONPATH. It needs the library: that of a release (there is
+none yet), or the kit, by which make makes it.
 """
 import threading
 

@@ -59,8 +59,10 @@ static void look(struct watch *watch, mst_pass *spare) {
     struct entry oldest = oldest_pin();
     uint32_t free_rows = 0;
 
-    if (mst_free_rows(spare, &free_rows) != MST_OK)
-        return; /* MST_BUSY: another pass writes, and `put` tells whether it ever ends */
+    if (mst_free_rows(spare, &free_rows) != MST_OK) { /* MST_BUSY: nothing is known of pins */
+        puts("another pass has the turn");            /* `put` tells whether it ever ends */
+        return;
+    }
     watch->falls = free_rows < watch->free_rows ? watch->falls + 1 : 0;
     watch->free_rows = free_rows;
     int is_old = watch->falls >= FALLS && oldest.who != NULL, is_full = free_rows < LEAST_FREE;

@@ -45,8 +45,8 @@ class Watch:
         oldest = self._pins.oldest()
         try:
             free_rows = self._spare.try_free_rows()
-        except Busy:  # another pass writes, and `put` tells whether it ever ends
-            return []
+        except Busy:  # nothing is known of pins then; `put` tells whether it ever ends
+            return ["another pass has the turn"]
         self._falls = self._falls + 1 if free_rows < self._free_rows else 0
         self._free_rows, alarms = free_rows, []
         if self._falls >= FALLS and oldest:

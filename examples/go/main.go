@@ -1,6 +1,8 @@
 // A writer and a reader that pins, in a goroutine each.
 //
 //	make -C bindings && cd examples/go && go run .
+//
+// It needs the library: that of a release (there is none yet), or the kit, by which make makes it.
 package main
 
 import (

@@ -4,7 +4,8 @@
 //!     make -C bindings && cd examples/rust && cargo run
 //!
 //! Where the library of a release is installed, or `MST_STORE_DIR` names the folder that has
-//! `libmst_store.a`, nothing has to be made first.
+//! `libmst_store.a`, nothing has to be made first. No release is published yet, and `make` needs
+//! the kit. Without both, `DOCS_RS=1 cargo check` type-checks this program.
 use mst_store::Edit::{Put, Remove};
 use mst_store::{Edit, Error, Pass, Reads};
 
