@@ -12,7 +12,7 @@ LEFT, RIGHT, UPPER, LOWER, MOST = 92, 1180, 76, 396, 80
 HEAD = "Edits"
 # A cell with two times.
 TWO = r"([\d.]+) \(([\d.]+)\)"
-TITLE = "Gathering edits saves time in blocks of a thousand and more, by their median"
+TITLE = "By medians, an edit takes less time in blocks of a thousand edits and more"
 # The columns, from left to right: what each is, and its fill.
 WAYS = [
     ("an edit of a block: in the fastest block", INK),
@@ -44,7 +44,7 @@ def times():
 def picture():
     found = list(times())
     canvas = Canvas("gathering", TITLE, LOWER + 330)
-    canvas.text(LEFT - 60, 36, "microseconds an edit, or a put", 17, bold=True)
+    canvas.text(20, 36, "microseconds an edit, or a put", 17, bold=True)
     for part in range(5):
         y = LOWER - (LOWER - UPPER) * part / 4
         canvas.line([(LEFT, y), (RIGHT, y)], "faint" if part else "thin")

@@ -119,7 +119,7 @@ def draw_map(canvas):
     last = top + LANES_FROM + 3 * STEP
     y, x = rows[0] + 10, NEW + WIDE - 20
     canvas.line([(hand, y), (x, y), (x, top + LANES_FROM - 10)], arrow=True)
-    for line, says in enumerate(("publishes block 8 in", "all shards, or in none")):
+    for line, says in enumerate(("publishes block 8:", "shards first, then", "the directory")):
         canvas.text(left, y + 26 + 24 * line, says, 16)
     y = last - 9
     canvas.line([(hand, y), (NEW - 30, y), (NEW - 2, last + LANE / 2)], arrow=True)

@@ -14,6 +14,7 @@ NOTES = [
     "R: the root digest (Merkle root) of a version, 32 bytes. It depends on the map and its format"
     " alone, of a sharded map on its splits too. So replicas that have applied the same entries have"
     " the same root digest. An entry is one batch of a store, or one block of a sharded map.",
+    "Its kind: whether R is of one map or of a sharded map, which R itself does not tell.",
 ]
 
 
@@ -51,7 +52,7 @@ def draw_answers(canvas):
     left, right = sum(REPLICA), CLIENT[0]
     middle = (left + right) / 2
     for y, lines in (
-        (TOPS[0] + 52, ("signed by you: R, format", "and version number")),
+        (TOPS[0] + 52, ("you sign R, its kind,", "format, version number")),
         (TOPS[2] + 30, ("the value, or 'absent',", "with its proof")),
     ):
         canvas.line([(left, y), (right, y)], arrow=True)
@@ -78,7 +79,7 @@ def draw_client(canvas):
 
 
 def picture():
-    canvas = Canvas("place", TITLE, LOWER + 180)
+    canvas = Canvas("place", TITLE, LOWER + 206)
     draw_log(canvas)
     draw_replicas(canvas)
     draw_answers(canvas)

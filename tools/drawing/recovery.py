@@ -37,7 +37,7 @@ LANES = [
 ]
 LOOKS = [
     ("thin", "the old store"), ("warm", "no more writes to the old store"),
-    ("dashed", "no calls"),
+    ("dashed", "no new writes are begun"),
     ("thick", "the new store, with a map of the same root digest"),
 ]
 NOTES = [
