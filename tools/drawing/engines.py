@@ -15,8 +15,8 @@ LOOKS = {
 CAPTION = [
     "ns: nanoseconds of one call, or of one put of a batch; less is better. All scales are"
     " logarithmic, and all time axes alike.",
-    "Keys of 16 bytes, values of 32, from C; each the mean of the fastest round. A batch of 1 is"
-    " the put alone, of the other run.",
+    "Keys of 16 bytes, values of 32, from C; each the mean of the fastest round. A batch of 1 is a"
+    " put alone (the other run).",
     "Only the store has root digests and proofs: the hashes for these are most of its put.",
 ]
 # The heads of the tables that are drawn: what the page says above them is said below the picture.
