@@ -7,10 +7,11 @@
  * It needs neither the store nor the map. docs/FORMAT.md has the bytes of a proof and the tests. An
  * answer is the map's if the root digest is, unless two texts are found that have one SHA-256.
  * Whether a root digest is the newest no verifier knows: let its maker sign it together with its
- * format and a rising number, and check both.
+ * format, its kind (of one map or of a sharded map) and a rising number, and check all three.
  *
  * mst_verify_sharded does the same for a sharded map: several trees, each for an interval of the
- * keys, and one root digest.
+ * keys, and one root digest. A root digest does not tell its kind. Take the kind from where you take
+ * the root digest, never from the proof: the wrong call may accept a false answer.
  *
  * The library takes no memory, keeps no state and starts no thread. Its calls may be made from any
  * threads at once, as long as no two of them write to the same room; from a signal handler too.

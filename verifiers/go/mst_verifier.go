@@ -1,5 +1,9 @@
 // Package mstverifier checks proofs against a root digest. It was written from docs/FORMAT.md
 // alone, over the standard library.
+//
+// A root digest tells neither its format nor whether it is of one map or of a sharded map. Take both
+// from where you take the root digest, never from the proof: the wrong call may accept a false
+// answer.
 package mstverifier
 
 import (

@@ -4,6 +4,10 @@
  *
  *     import { verify, verifySharded, Refused } from "./mst_verifier.mjs";
  *
+ * A root digest tells neither its format nor whether it is of one map or of a sharded map. Take both
+ * from where you take the root digest, never from the proof: the wrong call may accept a false
+ * answer.
+ *
  * @module
  */
 import { sha256 } from "./sha256.mjs";

@@ -4,6 +4,9 @@ alone.
     python3 mst_verifier.py FORMAT ROOT KEY < PROOF      1 or 2, and the other three in
                                                          hexadecimal digits
     python3 mst_verifier.py --sharded FORMAT ROOT KEY < PROOF      for a sharded map
+
+A root digest tells neither its format nor whether it is of one map or of a sharded map. Take both
+from where you take the root digest, never from the proof: the wrong call may accept a false answer.
 """
 import sys
 from hashlib import sha256

@@ -25,8 +25,10 @@
 //! ```
 //!
 //! Whether a root digest is the newest no verifier knows: let its maker sign it together with its
-//! format and a rising number, and check both. The time of a call grows with the length of the
-//! proof: refuse longer proofs than you expect.
+//! format, its kind (of one map or of a sharded map) and a rising number, and check all three. A
+//! root digest does not tell its kind: take it from where you take the root digest, never from the
+//! proof, since the wrong call may accept a false answer. The time of a call grows with the length
+//! of the proof: refuse longer proofs than you expect.
 #![no_std]
 #![forbid(unsafe_code)]
 #![deny(missing_debug_implementations, missing_docs)]
