@@ -167,7 +167,7 @@ class Cited:
 
     def __init__(self, crate):
         self.types, self.called, self.defined = ({} for _ in range(3))
-        self.methods, self.modules, self.handed = ({} for _ in range(3))
+        self.methods, self.handed, self.next = ({} for _ in range(3))
         for it in [crate, *crate.below()]:
             parts, handed = parts_of(it, it.name == crate.name)
             self.handed.update({(it.name, module): scope for module, scope in handed.items()})
@@ -218,6 +218,13 @@ class Cited:
                 found += self.called.get((scope.crate, word), ())
         return found
 
+    def behind(self, part):
+        """The parts that a part leads to. It is worked out once: most parts stand behind many
+        wrong bodies."""
+        if id(part) not in self.next:
+            self.next[id(part)] = self.led_to(part.words, part.scope, False)
+        return self.next[id(part)]
+
     def reached(self, texts):
         """The hashes of all parts that texts lead to. With each text comes its scope, and whether
         it has bodies."""
@@ -234,6 +241,6 @@ class Cited:
                     found[id(part)] = part
                     if part.kind == "type":
                         types.add((part.crate, part.own))
-                    left += self.led_to(part.words, part.scope, False)
+                    left += self.behind(part)
             left = [it for it in methods if (it.crate, it.own) in types and id(it) not in found]
         return sorted({it.made for it in found.values()})

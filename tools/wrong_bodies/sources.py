@@ -60,6 +60,14 @@ def opening_of(lines, first, indent):
     return None
 
 
+def above(lines, first):
+    """The attributes and docstrings right above a line."""
+    at = first
+    while at and lines[at - 1].lstrip().startswith(("#[", "///")):
+        at -= 1
+    return "\n".join(lines[at:first])
+
+
 def functions_of(path, text):
     """The functions of a file, in their order."""
     lines, found = text.split("\n"), []
@@ -72,10 +80,8 @@ def functions_of(path, text):
         ends = (at for at in range(opening, len(lines)) if lines[at].rstrip() == closing)
         is_short = lines[opening].rstrip().endswith("}")
         end = opening if is_short else next(ends, len(lines) - 1)
-        before = "\n".join(lines[:first])
-        above = re.search(r"((?:^ *(?:#\[.*|///.*)\n)*)\Z", before + "\n", re.M)
-        cycle = CYCLE.search(above[1]) if above else None
-        owner = owner_of(before) if head[1] else ""
+        cycle = CYCLE.search(above(lines, first))
+        owner = owner_of("\n".join(lines[:first])) if head[1] else ""
         function = (path, owner, head[2], cycle and cycle[1], (first, opening, end))
         found.append(Function(*function))
     return found
