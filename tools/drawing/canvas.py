@@ -134,9 +134,10 @@ class Canvas:
                 raise ValueError(f"{place} runs into '{other}'")
 
     def legend(self, x, y, looks, size=17, space=36):
-        """A box of each style with what it means, one below the other. Returns the next height."""
-        for style, text in looks:
-            self.box(x, y - 19, 52, 26, style)
+        """A box of each style, or of a style and a fill, with what it means, one below the other.
+        Returns the next height."""
+        for style, text, *fill in looks:
+            self.box(x, y - 19, 52, 26, style, *fill)
             self.text(x + 68, y, text, size)
             y += space
         return y

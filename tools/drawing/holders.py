@@ -17,20 +17,15 @@ THREADS = [
     (None, ("pass 4", "spare: to watch")),
 ]
 SECOND = FIRST + len(THREADS) * APART + 96
-# The lanes of the sharded map, and where the versions of two blocks stand.
-LANES, NAMES, OLD, NEW, WIDE = ["directory", "shard 0", "shard 1", "shard 2"], 700, 818, 1010, 140
+# The lanes of the sharded map, and where the versions of three blocks stand.
+LANES, NAMES, WIDE = ["directory", "shard 0", "shard 1", "shard 2"], 696, 90
+OLD, LAST, NEXT = 818, 938, 1058
 LANE, STEP, LANES_FROM = 36, 54, 48
 LOOKS = [
     ("thick", "the current version, the last block: what a read sees that begins now"),
     ("thin", "an older version, which a pin keeps"),
     ("dashed", "what is being made, in free rows that nobody sees"),
-]
-NOTES = [
-    "A hand is a struct of yours that has a pass, or of a sharded map the writer, a reader or a"
-    " snapshot. One thread at a time uses a hand. Writer, reader and snapshot each have a pass of"
-    " the directory and of each shard.",
-    "The turn is the write lock of one store. A pin begins by one step and ends by one, and no"
-    " writer waits for it. A row is a memory cell; versions share most of theirs.",
+    ("thin", "the right to write: one pass or one thread at a time has it", LIGHT_GREY),
 ]
 
 
@@ -83,8 +78,9 @@ def draw_store(canvas):
 
 
 def draw_blocks(canvas, top):
-    """The directory and the shards, each with its versions of two blocks."""
-    for x, name, style in ((OLD, "block 7", "thin"), (NEW, "block 8", "thick")):
+    """The directory and the shards, each with its versions of three blocks."""
+    blocks = (OLD, "block 6", "thin"), (LAST, "block 7", "thick"), (NEXT, "block 8", "dashed")
+    for x, name, style in blocks:
         high = (len(LANES) - 1) * STEP + LANE
         canvas.box(x - 10, top + LANES_FROM - 10, WIDE + 20, high + 20, "faint", round=8)
         canvas.text(x + 8, top + LANES_FROM - 16, name, 17, bold=True)
@@ -109,7 +105,7 @@ def draw_map(canvas):
     for line, text in enumerate(("taken out of the first", "hand: one of its threads",
                                  "makes each block, with", "the edits of those that", "wait")):
         canvas.text(HAND[0] + 12, rows[0] + 62 + 24 * line, text, 16, within=HAND[1] - 16)
-    held = (rows[3], "reader", "get, snapshot"), (rows[4], "snapshot", "of block 7")
+    held = (rows[3], "reader", "get, snapshot"), (rows[4], "snapshot", "of block 6")
     for y, name, says in held:
         canvas.box(HAND[0], y, HAND[1], HIGH)
         canvas.text(HAND[0] + 12, y + 29, name, 17, bold=True)
@@ -117,12 +113,13 @@ def draw_map(canvas):
     draw_blocks(canvas, top)
     hand, left = sum(HAND), OUTER[0] + 24
     last = top + LANES_FROM + 3 * STEP
-    y, x = rows[0] + 10, NEW + WIDE - 20
+    y, x = rows[0] + 6, NEXT + WIDE + 2
     canvas.line([(hand, y), (x, y), (x, top + LANES_FROM - 10)], arrow=True)
-    for line, says in enumerate(("publishes block 8:", "shards first, then", "the directory")):
-        canvas.text(left, y + 26 + 24 * line, says, 16)
+    for line, says in enumerate(("makes block 8, to publish", "the shards first, and then",
+                                 "the directory")):
+        canvas.text(left, y + 22 + 24 * line, says, 16)
     y = last - 9
-    canvas.line([(hand, y), (NEW - 30, y), (NEW - 2, last + LANE / 2)], arrow=True)
+    canvas.line([(hand, y), (LAST - 30, y), (LAST - 2, last + LANE / 2)], arrow=True)
     for line, says in enumerate(("a get: the current", "version of one shard")):
         canvas.text(left, y + 20 + 22 * line, says, 16)
     y, x = rows[4] + HIGH - 12, OLD + WIDE / 2
@@ -132,8 +129,8 @@ def draw_map(canvas):
 
 def picture():
     lower = SECOND + 5 * APART
-    canvas = Canvas("holders", TITLE, lower + 272)
+    canvas = Canvas("holders", TITLE, lower + 36 + 36 * len(LOOKS))
     draw_store(canvas)
     draw_map(canvas)
-    canvas.lines(20, canvas.legend(20, lower + 36, LOOKS) + 4, NOTES)
+    canvas.legend(20, lower + 36, LOOKS)
     return canvas

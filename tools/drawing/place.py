@@ -11,10 +11,8 @@ LOOKS = [
     ("thin", "yours: log and consensus, network, signatures, the programs around store and verifier"),
 ]
 NOTES = [
-    "R: the root digest (Merkle root) of a version, 32 bytes. It depends on the map and its format"
-    " alone, of a sharded map on its splits too. So replicas that have applied the same entries have"
-    " the same root digest. An entry is one batch of a store, or one block of a sharded map.",
-    "Its kind: whether R is of one map or of a sharded map, which R itself does not tell.",
+    "R: the root digest (Merkle root) of a version. Its kind: one map or a sharded map, which R does"
+    " not tell.",
 ]
 
 
@@ -52,12 +50,12 @@ def draw_answers(canvas):
     left, right = sum(REPLICA), CLIENT[0]
     middle = (left + right) / 2
     for y, lines in (
-        (TOPS[0] + 52, ("you sign R, its kind,", "format, version number")),
+        (TOPS[0] + 62, ("your signer signs R,", "its kind, its format,", "its version number")),
         (TOPS[2] + 30, ("the value, or 'absent',", "with its proof")),
     ):
         canvas.line([(left, y), (right, y)], arrow=True)
-        for line, text in enumerate(lines):
-            canvas.text(middle, y - 34 + 24 * line, text, 16, "middle", within=right - left - 8)
+        for line, text in enumerate(reversed(lines)):
+            canvas.text(middle, y - 10 - 24 * line, text, 16, "middle", within=right - left - 8)
     y = TOPS[2] + 64
     canvas.line([(right, y), (left, y)], arrow=True)
     canvas.text(middle, y + 22, "asks for a key", 16, "middle", within=right - left - 8)
@@ -79,7 +77,7 @@ def draw_client(canvas):
 
 
 def picture():
-    canvas = Canvas("place", TITLE, LOWER + 206)
+    canvas = Canvas("place", TITLE, LOWER + 128)
     draw_log(canvas)
     draw_replicas(canvas)
     draw_answers(canvas)

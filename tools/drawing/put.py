@@ -10,15 +10,8 @@ LEFT, RIGHT = 204, WIDTH - 16
 FIRST, HIGH, APART = 50, 40, 66
 WORDS = 46  # from one lane of words to the next
 CAPTION = [
-    f"Time goes from left to right. {{{READER}}}: a mask of passes (per-thread handles) that has pass"
-    f" {READER} alone. The steps have the numbers of 'A read' and 'A write'. A record describes one"
-    " version; it is drained once no pass can read it.",
-    f"From its pin to its unpin pass {READER} reads record 0 and the rows of its version, at any"
-    " time: no step changes them. Between 7 and 8 no word has the mark of its pin: only the writer"
-    " has it, to whom the publication returned it. A pass pins record 0 if its mark is in just one of"
-    " two: 'done of record 0', and 'current' (after 7 the writer's mask).",
-    f"A store of {PASSES} passes has the records 0 to {LAST}. In its third step the write finds that"
-    f" no pass pins 1 to {LAST}, and it uses the last one for the new version.",
+    "Time goes from left to right. In rings: the numbers of the steps of a read and of a write."
+    f" {{{READER}}}: a mask of pass {READER} alone.",
 ]
 
 
@@ -69,21 +62,22 @@ def sets(where, what):
     return lambda it: setattr(it, where, what)
 
 
-# Each step: its pass, its numbers in docs/PROTOCOL.md, where it stands, what it does in a word, and
-# how the table changes.
+# Each step: its pass, its number in docs/PROTOCOL.md, where it stands, its name, and how the table
+# changes.
 STEPS = [
-    (READER, "1", 366, "pins", Table.pin),
-    (WRITER, "1", 424, "", sets("turn", f"of pass {WRITER}")),
-    (WRITER, "2", 464, "", sets("desk", "with the writer")),
-    (WRITER, "3, 4", 516, "", None),
-    (WRITER, "5", 572, "", sets("rows", "stored")),
-    (WRITER, "6", 640, "", sets("record", "stored")),
-    (WRITER, "7", 724, "publishes", Table.publish),
-    (READER, "2", 790, "reads", None),
-    (WRITER, "8", 860, "transfers", Table.transfer),
-    (WRITER, "9", 946, "desk", sets("desk", "in the slot")),
-    (WRITER, "9", 1020, "turn", sets("turn", "free")),
-    (READER, "3", 1096, "unpins", Table.unpin),
+    (READER, 1, 366, "pins", Table.pin),
+    (WRITER, 1, 400, "turn", sets("turn", f"of pass {WRITER}")),
+    (WRITER, 2, 450, "desk", sets("desk", "with the writer")),
+    (WRITER, 3, 516, "records", None),
+    (WRITER, 4, 592, "sweep", None),
+    (WRITER, 5, 654, "rows", sets("rows", "stored")),
+    (WRITER, 6, 716, "record", sets("record", "stored")),
+    (WRITER, 7, 802, "publishes", Table.publish),
+    (READER, 2, 850, "reads", None),
+    (WRITER, 8, 906, "transfers", Table.transfer),
+    (WRITER, 9, 982, "desk", sets("desk", "in the slot")),
+    (WRITER, 9, 1032, "turn", sets("turn", "free")),
+    (READER, 3, 1096, "unpins", Table.unpin),
 ]
 # The steps that every lane shows.
 MARKED = {"publishes", "transfers"}
@@ -113,14 +107,15 @@ def all_tables():
 
 
 def draw_pass(canvas, who, top):
-    """The lane of a pass: from its first step to its last, with a mark for each."""
+    """The lane of a pass: from its first step to its last, each with its name and number."""
     canvas.text(16, top + HIGH / 2 + 6, PASS_LANES[who], 17, bold=True, within=LEFT - 16)
     steps = [(number, x, says) for one, number, x, says, _ in STEPS if one == who]
     begin, end = steps[0][1], steps[-1][1]
     canvas.box(begin, top, end - begin, HIGH)
     for number, x, says in steps:
-        canvas.mark(x, top + HIGH / 2, "disc", 6)
-        canvas.text(x, top - 8, f"{number} {says}".strip(), 16, "middle", bold=says in MARKED)
+        canvas.mark(x, top + HIGH / 2, "ring", 12)
+        canvas.text(x, top + HIGH / 2 + 6, f"{number}", 16, "middle")
+        canvas.text(x, top - 8, says, 16, "middle", bold=says in MARKED)
 
 
 def draw_words(canvas, name, top, tables):
@@ -139,7 +134,7 @@ def picture():
     tables, names = all_tables(), list(Table().cells())
     words = FIRST + 2 * APART + 20
     lower = words + len(names) * WORDS
-    canvas = Canvas("put", title, lower + 250)
+    canvas = Canvas("put", title, lower + 94)
     for _, _, x, says, _ in STEPS:
         if says in MARKED:
             canvas.line([(x, FIRST + APART + HIGH), (x, lower - 8)], "dashed")
