@@ -23,14 +23,8 @@ LOOKS = {
 LAYERS = 3
 CELL, HIGH, TREE = 20, 26, 58
 CAPTION = [
-    "Chosen: all of layer 0, by an attacker. With a tag: the same keys, each with a tag at its end that"
-    " is made by a secret; so they are random again.",
-    "All scales are logarithmic; those of the two times are the same. µs: microseconds."
-    " A kilobyte has 1,000 bytes.",
-    "Keys of layer 0 are easy to find: 15 of 16 random keys have it in format 1, 3 of 4 in format 2"
-    " (and these 3 in both).",
-    "Keyed hashes in place of the keys were measured too: they lie between the two blue curves. Where"
-    " these cross, the difference is noise.",
+    "Chosen: all of layer 0. With a tag: the same keys, each with a tag at its end, made by a secret.",
+    "All scales are logarithmic; those of the two times are the same. A kilobyte has 1,000 bytes.",
 ]
 
 
@@ -89,10 +83,6 @@ def draw_trees(canvas):
     draw_random_tree(canvas, 24, 560)
     canvas.text(640, 34, "chosen keys: one node has all of them", 17, bold=True)
     draw_node(canvas, 904, TREE + 120, 26, "warm")
-    canvas.lines(640, 66, [
-        "A put copies each entry of the nodes on its path, and hashes their texts. A proof has the"
-        " whole texts. A get passes the entries before its key, one after the other.",
-    ], 16, 24)
     for number, line in enumerate((
         "A path: a few short nodes. On average a node has",
         "16 entries in format 1 and 4 in format 2; drawn are fewer.",
@@ -124,7 +114,7 @@ def points_of(kinds, divided):
 def picture():
     found = figures()
     see_that_the_page_tells_them(found)
-    canvas = Canvas("chosen", "Keys that an attacker chooses, and what they cost", 1012)
+    canvas = Canvas("chosen", "Keys that an attacker chooses, and what they cost", LOWER + 170)
     draw_trees(canvas)
     points = {call: points_of(found[call], divided) for call, _, divided in PANELS}
     for number, (call, title, _) in enumerate(PANELS):

@@ -2,7 +2,6 @@
 import math
 
 
-
 class Plot:
     """A place for curves on a canvas. Each scale begins and ends at its two numbers; `inset` is the
     space between the edges and the first and the last number of keys."""
@@ -23,14 +22,15 @@ class Plot:
         low, high = map(math.log10, self.times)
         return self.lower - (math.log10(time) - low) / (high - low) * (self.lower - self.upper)
 
-    def powers(self):
-        """The powers of ten of the upward scale."""
+    def lines(self, steps):
+        """The numbers of the upward scale: these multiples of powers of ten."""
         low, high = (round(math.log10(it)) for it in self.times)
-        return [10 ** power for power in range(low, high + 1)]
+        numbers = [step * 10 ** power for power in range(low, high + 1) for step in steps]
+        return [it for it in numbers if it <= self.times[1]]
 
-    def draw_times(self):
-        """The upward scale, with a line for each power of ten."""
-        for time in self.powers():
+    def draw_times(self, steps=(1,)):
+        """The upward scale, with a line for each of these multiples of each power of ten."""
+        for time in self.lines(steps):
             y = self.up(time)
             style = "thin" if time == self.times[0] else "faint"
             self.canvas.line([(self.left, y), (self.right, y)], style)

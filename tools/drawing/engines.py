@@ -1,11 +1,15 @@
 """The time of calls of the store and of other engines, by the number of keys, from
 docs/pictures/engines.tsv, and of puts by the size of a batch, from the tables of docs/SPEED.md."""
+import sys
+
 from .canvas import Canvas
 from .curves import Plot, apart, scale
 from .figures import batches, figures, measured, see_that_the_page_tells_them
 
-LEFT, ACROSS, NEXT, UPPER, HIGH, BELOW = 94, 196, 394, 62, 400, 540
-READS = {"get": "get", "range": "range of 100 pairs", "prove": "prove (the store alone)"}
+LEFT, ACROSS, NEXT, UPPER, HIGH, BELOW = 94, 196, 394, 62, 370, 512
+TITLE = "A get costs about what LMDB's does, a put {:.0f} to {:.0f} times"
+# The scale of the gets of all engines but the slowest, and the lines on it.
+GETS, FINE = (100, 1_000), (1, 2, 5)
 LOOKS = {
     "store": ("thick", "square"),
     "LMDB": ("thin", "disc"),
@@ -13,11 +17,8 @@ LOOKS = {
     "std::map": ("dashed", "diamond"),
 }
 CAPTION = [
-    "ns: nanoseconds of one call, or of one put of a batch; less is better. All scales are"
-    " logarithmic, and all time axes alike.",
-    "Keys of 16 bytes, values of 32, from C; each the mean of the fastest round. A batch of 1 is a"
-    " put alone (the other run).",
-    "Only the store has root digests and proofs: the hashes for these are most of its put.",
+    "ns: nanoseconds of a call, or of a put of a batch. Less is better. All scales are logarithmic;"
+    f" that of get ends at {GETS[1]:,}.",
 ]
 # The heads of the tables that are drawn: what the page says above them is said below the picture.
 HEADS = {"Nanoseconds of": "times by keys", "nanoseconds, 1,000 keys": "batches"}
@@ -25,23 +26,24 @@ HEADS = {"Nanoseconds of": "times by keys", "nanoseconds, 1,000 keys": "batches"
 JOINED = 12
 
 
-def panels():
-    """What is drawn: for each place its title, its numbers from left to right with their unit and
-    what they count, and the times of each engine at these numbers."""
-    found = figures()
-    upper = [("put of a new value", 1_000, "thousands of keys", found["put"])]
-    for keys, engines in batches().items():
-        upper.append((f"puts in batches, {keys:,} keys", 1, "puts in a batch", engines))
-    lower = [(it, 1_000, "thousands of keys", found[call]) for call, it in READS.items()]
-    return [upper, lower]
+def title_of(found):
+    """The title, with how many times as long as LMDB's a put of the store takes."""
+    gets, puts = (
+        [found[call]["store"][keys] / time for keys, time in found[call]["LMDB"].items()]
+        for call in ("get", "put")
+    )
+    if min(gets) < 0.7 or max(gets) > 1.3:
+        sys.exit(f"a get takes {min(gets):.2f} to {max(gets):.2f} times LMDB's: another title")
+    return TITLE.format(min(puts), max(puts))
 
 
-def draw_panel(canvas, place, times, panel):
-    """The curves of one panel, with their names where they end."""
+def draw_panel(canvas, place, times, panel, steps=(1,)):
+    """The curves of one panel, with their names where they end: its title, its numbers from left to
+    right with their unit and what they count, and the times of each engine at these numbers."""
     title, unit, says, engines = panel
     numbers = sorted({it for each in engines.values() for it in each})
     plot = Plot(canvas, place, (numbers[0], numbers[-1]), times, 20)
-    plot.draw_times()
+    plot.draw_times(steps)
     plot.draw_keys(numbers, unit)
     canvas.text(plot.left - 76, plot.upper - 24, title + ", ns", 17, bold=True)
     canvas.text((plot.left + plot.right) / 2, plot.lower + 56, says, 16, "middle")
@@ -53,20 +55,39 @@ def draw_panel(canvas, place, times, panel):
         canvas.text(plot.right + 8, high + 6, engine, 16, bold=engine == "store")
 
 
+def draw_gets(canvas, found):
+    """The gets, by a wider panel than the others, and in words those that take longer than its
+    scale has."""
+    low, high = GETS
+    fast = {it: times for it, times in found.items() if max(times.values()) <= high}
+    if min(it for times in fast.values() for it in times.values()) < low:
+        sys.exit(f"a get takes less than {low} ns: another scale")
+    place = (LEFT, LEFT + NEXT + ACROSS, UPPER, UPPER + HIGH)
+    draw_panel(canvas, place, GETS, ("get", 1_000, "thousands of keys", fast), FINE)
+    for engine in [it for it in found if it not in fast]:
+        times = found[engine].values()
+        says = f"{engine}, not drawn: {min(times):,} to {max(times):,}"
+        canvas.text(LEFT + 28, UPPER + 28, says, 16, halo=True)
+
+
 def picture():
     see_that_the_page_tells_them()
-    rows = panels()
+    found = figures()
+    ranges = ("range of 100 pairs", 1_000, "thousands of keys", found["range"])
+    puts = [("put of a new value", 1_000, "thousands of keys", found["put"])]
+    for keys, engines in batches().items():
+        puts.append((f"puts in batches, {keys:,} keys", 1, "puts in a batch", engines))
     times = scale([
-        it for row in rows for _, _, _, engines in row for each in engines.values()
-        for it in each.values()
+        it for *_, engines in (ranges, *puts) for each in engines.values() for it in each.values()
     ])
-    canvas = Canvas("engines", "The time of one call: the store, LMDB, SQLite and std::map", 1300)
-    for down, row in enumerate(rows):
-        upper = UPPER + down * BELOW
-        for across, panel in enumerate(row):
-            left = LEFT + across * NEXT
-            draw_panel(canvas, (left, left + ACROSS, upper, upper + HIGH), times, panel)
-    canvas.lines(20, UPPER + BELOW + HIGH + 104, CAPTION + [
+    canvas = Canvas("engines", title_of(found), UPPER + BELOW + HIGH + 168)
+    draw_gets(canvas, found["get"])
+    left = LEFT + 2 * NEXT
+    draw_panel(canvas, (left, left + ACROSS, UPPER, UPPER + HIGH), times, ranges)
+    for across, panel in enumerate(puts):
+        left, upper = LEFT + across * NEXT, UPPER + BELOW
+        draw_panel(canvas, (left, left + ACROSS, upper, upper + HIGH), times, panel)
+    canvas.lines(20, UPPER + BELOW + HIGH + 96, CAPTION + [
         line.replace("Measured", f"Measured, {what}") for head, what in HEADS.items()
         for line in measured("SPEED.md", head)
     ])

@@ -59,8 +59,8 @@ MEASURED = "*Measured*: "
 
 
 def measured(name, *heads):
-    """What this page of docs/ says last, above each table of each of these heads, of when and where
-    it was measured, without the file of bench/results."""
+    """When the figures below each of these heads on this page of docs/ were measured: the day, the
+    commit, and whether the library was an earlier one. The page alone says the rest."""
     lines = []
     with open(os.path.join(TOP, "docs", name), encoding="utf-8") as file:
         page = file.read()
@@ -71,9 +71,12 @@ def measured(name, *heads):
         for place in range(len(above)):
             text = "".join(above[: place + 1])
             line = text.rpartition("\n" + MEASURED)[2].partition("\n")[0]
-            line = re.sub(r"[;,] \[`\w+`\]\([^)]*\)", "", line)
-            line = re.sub(r"\[([^]]*)\]\([^)]*\)", r"\1", line)
-            lines.append("Measured: " + line.replace("`", ""))
+            line = re.sub(r"\[([^]]*)\]\([^)]*\)", r"\1", line).rstrip(".").split("; ")
+            found = re.match(r"\d+ \w+ \d{4}, commit [0-9a-f]{8}", line[0])
+            if not found:
+                sys.exit(f"docs/{name} does not say on which day and of which commit '{head}' is")
+            earlier = any(it.startswith("earlier library") for it in line)
+            lines.append(f"Measured: {found[0]}{', of an earlier library' * earlier}.")
     return list(dict.fromkeys(lines))
 
 

@@ -24,12 +24,7 @@ PARTS = [
 ]
 USED = "the most rows in use that were measured, in a store with the mean keys and edits of a shard"
 TITLE = "Most rows of a shard are for pinned versions"
-CAPTION = [
-    "Rows needed = (1 + L) × M + (1 + S) × W, here with L = 3 and S = 1. A row is a memory cell. A"
-    " map of 200,000 random keys in format 1; blocks of 500 edits. Each bar is of the fullest shard,"
-    " which has more keys than the mean. The line behind its right end: the rows to open it with, a"
-    " ninth more, so that rows are left when an alarm at nine tenths rings.",
-]
+OPENED = "the rows to open it with, a ninth more than it needs"
 
 
 def cells_of(page, first):
@@ -102,7 +97,7 @@ def draw_bar(canvas, y, number, rows, write, all_rows, opened, used):
 def picture():
     bars = list(example())
     lower = UPPER + len(bars) * APART
-    canvas = Canvas("sizes", TITLE, lower + 340)
+    canvas = Canvas("sizes", TITLE, lower + 258)
     draw_scale(canvas, lower)
     for place, bar in enumerate(bars):
         draw_bar(canvas, UPPER + 10 + place * APART, *bar)
@@ -113,7 +108,10 @@ def picture():
         y += 28
     canvas.line([(33, y - 17), (33, y + 5)], "warm")
     canvas.text(58, y, USED, 16)
-    canvas.lines(20, y + 36, CAPTION + [
+    y += 28
+    canvas.line([(33, y - 17), (33, y + 5)], "bold")
+    canvas.text(58, y, OPENED, 16)
+    canvas.lines(20, y + 36, [
         line.replace("Measured", "Measured, rows in use") for line in measured("OPERATING.md", HEAD)
     ])
     return canvas

@@ -1,5 +1,5 @@
-"""Calls a second by the number of threads, of readers and of writers of one store, from
-docs/pictures/threads.tsv, by bench/store/run."""
+"""Gets a second by the number of readers of one store, and how even its writers are, by their
+number, from docs/pictures/threads.tsv, by bench/store/run."""
 import os
 import sys
 
@@ -8,32 +8,23 @@ from .figures import measured, row
 from .maps import TOP
 
 UPPER, LOWER = 76, 450
-# For readers and writers: where their columns begin and end from left to right, what is counted,
-# in which unit, what the second number of a column is called, and for each way of theirs what it is
-# called, in the table of docs/STORE_C.md too. Reads are blue, writes grey.
+# For readers and writers: where their columns begin and end from left to right, what is drawn, and
+# for each way of theirs what it is called, in the table of docs/STORE_C.md too. Reads are blue,
+# writes grey.
 PANELS = {
-    "readers": (112, 560, "gets a second, in millions", 1_000_000, ("time of", "one get,", "alone = 1"), {
+    "readers": (112, 560, "gets a second, in millions", {
         "held": ("of a pinned version", INK),
         "newest": ("of the newest version", TINT),
         "beside": ("of the newest version, while another thread puts", "white"),
     }),
-    "writers": (664, 1184, "puts a second, in thousands", 1_000, ("slowest", "writer, %"), {
+    "writers": (664, 1184, "the slowest writer's puts, % of the mean of all", {
         "before": ("`mst_put`, without the queue", LIGHT_GREY),
         "line": ("`mst_put`, with the queue", DARK_GREY),
         "mutex": ("a mutex around `mst_try_put`", "white"),
     }),
 }
-CAPTION = [
-    "One store of 1,000 keys on four processors; each thread has a pass (handle) of its own.",
-    "Readers: a get of the newest version pins it and unpins it, by two atomic steps on words that"
-    " all threads share. A get of a pinned version makes no such step.",
-    "Writers: one write lock, the turn, serves all, so more writers make no more puts. With the"
-    " queue, as the library has it, calls that have waited 30 ms go first. Each bar of writers is the"
-    " median of five runs. A lone writer never waits: its three bars differ by chance, and so may"
-    " all others, by up to a factor of two.",
-    "Time of one get: its processor time; that of a get by one reader alone is 1.",
-    "Slowest writer: its puts, as a part of the mean of all writers; the median.",
-]
+TITLE = "Gets of a pinned version grow with the readers; the queue keeps writers even"
+LEAST = "the least of the five runs (column: their median)"
 # The heads of the tables that are drawn: what the page says above them is said below the picture.
 HEADS = {"gets a second, by readers": "readers", "puts a second, by writers": "writers"}
 
@@ -67,6 +58,19 @@ def see_that_the_page_tells_them(found, page):
                 sys.exit(f"docs/STORE_C.md has other figures of {who} ({how}) than threads.tsv")
 
 
+def columns(who, each):
+    """By number of threads the height of the column, its text, and the height of its mark, if it
+    has one. A lone writer is no slower than another, so it has no column."""
+    if who == "readers":
+        return {it: (calls / 1e6, f"{calls / 1e6:.1f}", None) for it, (calls, _) in each.items()}
+    found = {}
+    for threads, (_, beside) in each.items():
+        if beside:
+            median, least = (int(it.removesuffix(" %")) for it in beside.split(", "))
+            found[threads] = median, f"{median}", least
+    return found
+
+
 # Where a scale may end: numbers whose quarters are short.
 ENDS = (1, 1.2, 1.6, 2, 2.4, 3.2, 4, 4.8, 6, 8, 10)
 
@@ -77,15 +81,15 @@ def end_of(number):
     return next(it * power for it in ENDS if it * power >= number)
 
 
-def draw_scale(canvas, left, right, most, unit):
+def draw_scale(canvas, left, right, most):
     """Lines across, at four parts of the greatest number."""
     for part in range(5):
         y = LOWER - (LOWER - UPPER) * part / 4
         canvas.line([(left, y), (right, y)], "faint" if part else "thin")
-        canvas.text(left - 8, y + 6, f"{most * part / 4 / unit:,.10g}", 16, "end")
+        canvas.text(left - 8, y + 6, f"{most * part / 4:,.10g}", 16, "end")
 
 
-def draw_columns(canvas, left, right, most, unit, ways, found):
+def draw_columns(canvas, left, right, most, ways, found):
     """For each number of threads a column for each way."""
     numbers = sorted({it for each in found.values() for it in each})
     wide = (right - left) / len(numbers)
@@ -93,49 +97,44 @@ def draw_columns(canvas, left, right, most, unit, ways, found):
     for place, number in enumerate(numbers):
         x = left + place * wide + (wide - column * len(found)) / 2
         for how, each in found.items():
-            calls, beside = each[number]
-            y = LOWER - (LOWER - UPPER) * calls / most
+            high, says, mark = each[number]
+            y = LOWER - (LOWER - UPPER) * high / most
             canvas.box(x + 2, y, column - 4, LOWER - y, "thin", ways[how][1])
-            canvas.text(x + column / 2, y - 7, f"{calls / unit:.1f}", 16, "middle", halo=True)
-            beside = beside.partition(",")[0].replace(" %", "")
-            canvas.text(x + column / 2, LOWER + 68, beside, 16, "middle")
+            canvas.text(x + column / 2, y - 7, says, 16, "middle", halo=True)
+            if mark is not None:
+                y = LOWER - (LOWER - UPPER) * mark / most
+                canvas.mark(x + column / 2, y, "ring", 6)
             x += column
         canvas.text(left + (place + 0.5) * wide, LOWER + 28, f"{number}", 17, "middle", bold=True)
-        if not any(each[number][1] for each in found.values()):  # nothing beside: a lone writer
-            y = LOWER - (LOWER - UPPER) * max(each[number][0] for each in found.values()) / most
-            canvas.text(left + (place + 0.5) * wide, y - 30, "differ by chance", 16, "middle")
 
 
 def draw_legend(canvas, left, ways, found):
     for number, how in enumerate(found):
         name, fill = ways[how]
-        y = LOWER + 124 + 30 * number
+        y = LOWER + 68 + 30 * number
         canvas.box(left, y - 15, 26, 18, "thin", fill)
         canvas.text(left + 36, y, name.replace("`", ""), 16)
-
-
-def draw_names(canvas, left, who, beside):
-    """What the numbers below the columns are, at the left of them."""
-    canvas.text(left - 8, LOWER + 28, who, 16, "end", bold=True, within=left - 10)
-    for place, line in enumerate(beside):
-        canvas.text(left - 8, LOWER + 59 + 20 * place, line, 16, "end")
 
 
 def picture():
     found, page = figures(), told()
     see_that_the_page_tells_them(found, page)
-    below = LOWER + 150 + 30 * max(len(each) for each in found.values())
-    canvas = Canvas("threads", "Calls a second of one store, by the number of threads", below + 310)
-    for who, (left, right, title, unit, beside, ways) in PANELS.items():
-        each = {how: found[who][how] for how in ways if how in found[who]}
-        most = end_of(max(calls for one in each.values() for calls, _ in one.values()))
-        canvas.text(left - 60, 36, title, 17, bold=True)
-        draw_scale(canvas, left, right, most, unit)
-        draw_columns(canvas, left, right, most, unit, ways, each)
-        draw_names(canvas, left, who, beside)
-        draw_legend(canvas, left, ways, each)
-    canvas.lines(20, below, CAPTION + [
+    below = LOWER + 80 + 30 * (1 + max(len(each) for each in found.values()))
+    lines = [
         line.replace("Measured", f"Measured, {what}") for head, what in HEADS.items()
         for line in measured("STORE_C.md", head)
-    ])
+    ]
+    canvas = Canvas("threads", TITLE, below + 26 * len(lines))
+    for who, (left, right, title, ways) in PANELS.items():
+        each = {how: columns(who, found[who][how]) for how in ways if how in found[who]}
+        most = end_of(max(high for one in each.values() for high, *_ in one.values()))
+        canvas.text(left - 60, 36, title, 17, bold=True)
+        draw_scale(canvas, left, right, most)
+        draw_columns(canvas, left, right, most, ways, each)
+        canvas.text(left - 8, LOWER + 28, who, 16, "end", bold=True, within=left - 10)
+        draw_legend(canvas, left, ways, each)
+    left, y = PANELS["writers"][0], LOWER + 68 + 30 * len(found["writers"])
+    canvas.mark(left + 13, y - 6, "ring", 6)
+    canvas.text(left + 36, y, LEAST, 16)
+    canvas.lines(20, below + 6, lines)
     return canvas
