@@ -29,17 +29,10 @@ LEGEND = [
 ]
 # The looks of snapshots: the style of the line, its marks and theirs, and what it is.
 TRIES = [
-    ("dashed", "disc", "thin", "a snapshot of one block: where it pins directory and shards"),
-    ("warm", "square", "warm", "a try while a block is published: it ends its pins, and gives none"),
-]
-NOTES = [
-    "A block is an atomic commit over all shards. Time goes from left to right: the line of a"
-    " snapshot slants, since it pins the directory first, and then shard by shard.",
-    "Both shards make and hash their parts first, then the directory lists their root digests. If one"
-    " of them is refused, all is taken back. Then one step publishes each, the directory last.",
-    "If a shard then has another root digest than the directory lists, as shard 0 has here, a try"
-    " gives no snapshot (in C MST_MOVING), and snapshot tries again. A snapshot is of exactly one"
-    " block, unless SHA-256 collides.",
+    ("dashed", "disc", "thin",
+     "a snapshot of one block: it pins the directory first, and then shard by shard"),
+    ("warm", "square", "warm",
+     "a try while a block is published: a shard has another root digest than the directory lists"),
 ]
 
 
@@ -68,23 +61,22 @@ def draw_snapshots(canvas):
 
 
 def draw_legend(canvas, top):
-    """What boxes and lines mean, one below the other. Returns the next height."""
+    """What boxes and lines mean, one below the other."""
     y = canvas.legend(LEFT, top, LEGEND)
     for line, mark, style, text in TRIES:
         canvas.line([(LEFT, y - 6), (LEFT + 52, y - 6)], line)
         canvas.mark(LEFT + 26, y - 6, mark, 6, style)
         canvas.text(LEFT + 68, y, text, 17)
         y += 36
-    return y
 
 
 def picture():
     title = "A block of two shards, by apply of the writer, and snapshots that are taken meanwhile"
-    canvas = Canvas("blocks", title, LOWER + 384)
+    canvas = Canvas("blocks", title, LOWER + 44 + 36 * (len(LEGEND) + len(TRIES)))
     canvas.text(LEFT, 34, "Time", 16)
     canvas.line([(LEFT + 52, 28), (LEFT + 180, 28)], arrow=True)
     for place, lane in enumerate(LANES):
         draw_lane(canvas, FIRST + place * APART, lane)
     draw_snapshots(canvas)
-    canvas.lines(LEFT, draw_legend(canvas, LOWER + 40) + 4, NOTES)
+    draw_legend(canvas, LOWER + 40)
     return canvas

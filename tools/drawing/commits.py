@@ -39,20 +39,11 @@ LOOKS = [
     ("dashed", "in mst_sharded_group_apply, and sleeps until it leads or its edits are made"),
     ("thin", "what a snapshot shows that is taken now"),
 ]
-NOTES = [
-    "Time goes from left to right. At a dotted line a block is published; after that an arrow"
-    " wakes a thread. B and C come while block 7 is made, so they wait. Then B, which came"
-    " first, makes one block of all that waits. A thread that comes before B is awake would make it"
-    " instead.",
-    "Each call is whole in one block, behind the calls that came before it, and is told the block's"
-    " number. If block 8 is refused, B's and C's edits get a block each, so nobody is refused for"
-    " the edits of another.",
-    "No call reads and writes at once: what B has read before may be changed by block 7.",
-]
+NOTES = ["At a dotted line a block is published; after that an arrow wakes a thread."]
 
 
 def picture():
-    canvas = Canvas("commits", TITLE, LOWER + 326)
+    canvas = Canvas("commits", TITLE, LOWER + 162)
     canvas.text(LEFT, 34, "Time", 16)
     canvas.line([(LEFT + 52, 28), (LEFT + 180, 28)], arrow=True)
     for at, _ in PUBLISHED:

@@ -43,9 +43,7 @@ FIRST, APART, LINE, SIZE, SPACE = 16, 46, 26, 16, 24
 LOOKS = [("thick", "all that a user needs, to read or to build, who only verifies proofs")]
 NOTES = [
     "An arrow leads to a group on which a group depends; it is left out where others lead the same"
-    " way. Bold: the two crates from which the libraries for C are built, with all that each"
-    " depends on.",
-    "Not drawn: crates of tests and mst_cookbook, which stand at the top.",
+    " way. Bold: the two crates from which the libraries for C are built. Not drawn: what stands at the top.",
 ]
 
 
@@ -140,7 +138,7 @@ def draw_arrow(canvas, pair, high, tops):
 def picture():
     table = crates_of()
     high, tops, low = heights(table)
-    canvas = Canvas("crates", TITLE, low + 164)
+    canvas = Canvas("crates", TITLE, low + 138)
     found = set(arrows(depends_on(table)))
     if found != set(ARROWS):
         sys.exit(f"the picture of crates has other arrows than {sorted(found)}")

@@ -40,12 +40,7 @@ LOOKS = [
     ("dashed", "no new writes are begun"),
     ("thick", "the new store, with a map of the same root digest"),
 ]
-NOTES = [
-    "Time goes from left to right. The write that was cut off is whole in the map, or not at all.",
-    "A sharded map: in step 2 take a snapshot, or keep the newest that is held; if the writer died"
-    " while it published, no newer one may come. In step 3 copy it into a new map"
-    " (mst_sharded_copy).",
-]
+NOTES = ["Time goes from left to right."]
 
 
 def draw_lane(canvas, top, name, parts):
@@ -57,7 +52,7 @@ def draw_lane(canvas, top, name, parts):
 
 def picture():
     lower = FIRST + len(LANES) * APART
-    canvas = Canvas("recovery", TITLE, lower + 270)
+    canvas = Canvas("recovery", TITLE, lower + 198)
     for place, (x, says) in enumerate(STEPS):
         canvas.line([(x, FIRST - 14), (x, lower - 4)], "dashed")
         canvas.text(x, FIRST - 26 - 26 * (place == 0), says, 16, "middle", bold=place == 0)

@@ -19,11 +19,6 @@ LEGEND = [
     ("thin", "is of the newest version"),
     ("dashed", "is only of versions before the new one"),
 ]
-NOTES = [
-    "Version v reaches a row (has it in its tree) exactly when birth ≤ v < death. While the"
-    " current version or a pinned one reaches it, no word of it changes. Between a kill and the"
-    " publication the current version still reaches the dead row.",
-]
 BOX, HIGH, FIRST, APART, TOP_EDGE = 150, 56, 105, 292, 104
 
 
@@ -79,7 +74,7 @@ def draw_sweep(canvas):
 def picture():
     see_that_calls_exist([*CALLS, "sweep", "undo"])
     title = "The life of a row (memory cell), by the calls of the desk (allocator)"
-    canvas = Canvas("row", title, 492)
+    canvas = Canvas("row", title, 410)
     draw_states(canvas)
     for state in range(len(CALLS)):
         draw_onward(canvas, state)
@@ -88,5 +83,4 @@ def picture():
     draw_sweep(canvas)
     for number, look in enumerate(LEGEND):
         canvas.legend(24 + 580 * (number % 2), 350 + 40 * (number // 2), [look])
-    canvas.lines(24, 448, NOTES)
     return canvas

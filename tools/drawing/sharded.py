@@ -11,17 +11,8 @@ ASKED = b"lima"
 EDGE, GAP, HIGH = 24, 24, 60
 DIRECTORY, KEYS, PROOF, LEGEND = 82, 290, 470, 610
 CAPTION = [
-    "A shard has the keys from its lower bound on and below its upper bound, which is the lower"
-    " bound of the next shard.",
-    "The first part of the proof shows what the directory lists for the bound, and the second part"
-    " what that shard has for the key. The verifier also tests that the key lies within the"
-    " bounds.",
-    "The proof has the whole node of the directory, so it also shows the bounds and digests of the"
-    f" other shards. Of the shard it has the node of {ASKED.decode()}, with the digest of the node"
-    " below it.",
-    "In format 1. Digests, bounds and the first four fields are hexadecimal, with a bound as text in"
-    " brackets."
-    " Only the beginning of each digest is shown.",
+    "In format 1, in hexadecimal; a bound stands as text in brackets. Of a digest the beginning is"
+    " shown.",
 ]
 
 
@@ -132,7 +123,7 @@ def picture():
     where = columns(len(it.shards))
     count = len(dict(puts()))
     title = f"A map of {count} keys in {len(it.shards)} shards, and the proof of {name(ASKED)}"
-    canvas = Canvas("sharded", title, LEGEND + 236)
+    canvas = Canvas("sharded", title, LEGEND + 56)
     draw_directory(canvas, it, where)
     draw_shards(canvas, it, where)
     draw_proof(canvas, it)

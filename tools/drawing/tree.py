@@ -10,14 +10,9 @@ NODES = 168
 # The key whose proof is shown.
 PROVED = b"hanoi"
 CAPTION = [
-    f"Blue: the nodes of the proof of {PROVED.decode()}, from the top down. The proof is their"
-    " texts, with all their entries; the verifier already has the root digest.",
-    "A box is an entry: its key, its value, and how the key's SHA-256 begins, which gives the"
-    " layer.",
-    "Boxes that touch are one node, with entries of one layer.",
-    "Above a node is the beginning of its digest: the SHA-256 of its text, which holds the digests"
-    " of its children.",
-    "An arrow leads to the child with the keys of a gap: before the first entry, between two, or"
+    f"Blue: the nodes whose texts are the proof of {PROVED.decode()}. A box is an entry; boxes that"
+    " touch are one node.",
+    "Above a node: how its digest begins. An arrow leads to the child in a gap: before an entry, or"
     " after the last.",
 ]
 
@@ -90,7 +85,7 @@ def picture():
     where = places(version)
     highest = version.nodes[version.root].layer
     title = f"The tree of a map of {len(version.pairs)} keys in format 1"
-    canvas = Canvas("tree", title, FIRST + highest * APART + 280)
+    canvas = Canvas("tree", title, FIRST + highest * APART + 180)
     way = on_the_way(version, version.root)
     for layer in range(highest + 1):
         top = FIRST + (highest - layer) * APART
@@ -102,5 +97,5 @@ def picture():
         style = "thick" if digest in way else "thin"
         is_root = digest == version.root
         draw_node(canvas, version.nodes[digest], digest, left, top, is_root, style)
-    canvas.lines(24, canvas.height - 148, CAPTION)
+    canvas.lines(24, canvas.height - 48, CAPTION)
     return canvas

@@ -28,11 +28,7 @@ LEGEND = [
     ("dashed", "tested"),
 ]
 NOTES = [
-    "Each arrow means 'rests on'. Lines: those that the contracts reach, without comments, as BELIEVE"
-    " lists them.",
-    "The three things: how many steps depend on other passes; that Memory is returned only if"
-    " memory was refused; that the linearization point of a call, except of a write, lies within"
-    " the call. Two tools of the gate look at most of that code.",
+    "Each arrow means 'rests on'. Lines: those that the contracts reach, without comments.",
 ]
 
 
@@ -100,7 +96,7 @@ def draw_arrows(canvas):
 
 
 def picture():
-    canvas = Canvas("trust", TITLE, ROWS[3] + HIGH + 250)
+    canvas = Canvas("trust", TITLE, ROWS[3] + HIGH + 176)
     canvas.text(LEFT, 42, "what a proof rests on (top: what callers read)", 17, bold=True)
     canvas.text(RIGHT, 42, "what stands beside the proofs", 17, bold=True)
     draw_arrows(canvas)
