@@ -11,8 +11,8 @@ from wrong_bodies.sources import HEAD, owner_of, read
 
 ROOT = os.path.normpath(os.path.join(os.path.dirname(os.path.abspath(__file__)), "..", ".."))
 # The crates whose calls users make.
-USED = ["mst_store", "mst_shards", "mst_blocks", "mst_snapshots", "mst_proof", "mst_sharded_proof",
-        "mst_exports", "mst_verifier"]
+USED = ["mst_store", "mst_shards", "mst_blocks", "mst_parts", "mst_snapshots", "mst_proof",
+        "mst_sharded_proof", "mst_exports", "mst_verifier"]
 # Crates that promise nothing: they call the others.
 CALLERS = re.compile(r"mst|mst_cookbook|mst_\w+_tests")
 CLAUSE = re.compile(r"\s*(requires|ensures)\b(?: (\w+))? \{")

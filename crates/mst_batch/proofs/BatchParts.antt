@@ -11,9 +11,9 @@ use Rattle.mst_key.proofs.HistoryLaws.{batched-append}
 use Rattle.mst_key.proofs.KeyOrder.{equal_from_same, less_chain, other_from_less}
 use Rattle.mst_key.proofs.MapLaws.{AllBelow-less}
 use Rattle.mst_key.proofs.Splits.{put-left, put-right, put-first, remove-left, remove-right, remove-first, IsAscending-back, IsAscending-below}
-use Rattle.mst_batch.specs.Listed.{put_of}
+use Rattle.mst_edits.specs.Listed.{put_of}
 use Rattle.mst_batch.specs.Opening.{AreBelow, AreOf}
-use Rattle.mst_batch.proofs.Joins.{above-first}
+use Rattle.mst_edits.proofs.Joins.{above-first}
 
 -- ---- an edit of a key below all of the last pairs, or above all of the first ones
 

@@ -16,7 +16,7 @@ use Rattle.mst_arena.specs.declared.row.Root.{Root}
 use Rattle.mst_arena.specs.Ages.{placed_nodes, chain_nodes}
 use Rattle.mst_path.proofs.lemmas.versions.Changes.{mst_of, rises}
 use Rattle.mst_batch.specs.Items.{items_pairs, IsItem, AreItems}
-use Rattle.mst_batch.specs.Listed.{listed}
+use Rattle.mst_edits.specs.Listed.{listed}
 use Rattle.mst_batch.specs.Opening.{PartOf}
 use Rattle.mst_batch.specs.declared.items.Item.{Item}
 

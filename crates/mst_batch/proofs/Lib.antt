@@ -2,13 +2,6 @@ pub mod Fellings
 pub mod PlanShapes
 pub mod Sowings
 pub mod Replaced
-pub mod Rising
-pub mod Merges
-pub mod Joins
-pub mod Parts
-pub mod MergeSteps
-pub mod JoinSteps
-pub mod Halves
 pub mod SmallPlans
 pub mod RowKeys
 pub mod Besides

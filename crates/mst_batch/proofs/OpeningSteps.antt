@@ -32,7 +32,7 @@ use Rattle.mst_path.proofs.lemmas.steps.Felling.{lower}
 use Rattle.mst_batch.proofs.Besides.{node_rows}
 use Rattle.mst_batch.proofs.Homes.{node_below}
 use Rattle.mst_batch.proofs.Openings.{adds_none, adds_then, adds_as, node_rises, IsNode, node, links, layer_is}
-use Rattle.mst_batch.proofs.Rising.{rising-back}
+use Rattle.mst_edits.proofs.Rising.{rising-back}
 use Rattle.mst_batch.proofs.Tops.{node_mst}
 
 -- What is left of a node after so many entries: the rest of the chain and of the edits. Its pairs

@@ -25,7 +25,7 @@ use Rattle.mst_arena.specs.Ages.{placed_nodes, chain_nodes}
 use Rattle.mst_read.specs.Search.{Lies}
 use Rattle.mst_batch.specs.Items.{item_pairs, items_pairs, pair_among, IsItem, IsTold}
 use Rattle.mst_batch.specs.Known.{IsEntryOf}
-use Rattle.mst_batch.specs.Listed.{listed, put_of}
+use Rattle.mst_edits.specs.Listed.{listed, put_of}
 use Rattle.mst_batch.specs.Opening.{PartOf, Adds, AreOf}
 use Rattle.mst_batch.specs.Tops.{IsStanding, tree_items}
 use Rattle.mst_batch.specs.declared.items.Item.{Item}
@@ -34,7 +34,7 @@ use Rattle.mst_batch.specs.declared.plan.Origin.{Origin}
 use Rattle.mst_batch.proofs.BatchParts.{edited_own, one_of_key}
 use Rattle.mst_batch.proofs.Besides.{node_rows}
 use Rattle.mst_batch.proofs.Homes.{node_below}
-use Rattle.mst_batch.proofs.Parts.{rest_of, first_and_rest, none_left}
+use Rattle.mst_edits.proofs.Parts.{rest_of, first_and_rest, none_left}
 use Rattle.mst_batch.proofs.Tops.{items_pairs-append, tree_pairs, tree_each}
 
 -- ---- lists of items

@@ -7,10 +7,10 @@ use Rattle.mst_key.specs.History.{batched, key_of}
 use Rattle.mst_key.specs.Layer.{layer_in}
 use Rattle.mst_key.specs.Map.{Pair}
 use Rattle.mst_arena.specs.Standing.{Placed}
-use Rattle.mst_batch.specs.Listed.{listed, put_of}
+use Rattle.mst_edits.specs.Listed.{listed, put_of}
 use Rattle.mst_batch.specs.Opening.{Adds}
 use Rattle.mst_batch.specs.declared.items.Item.{Item}
-use Rattle.mst_batch.proofs.Joins.{Joins, make_edit}
+use Rattle.mst_edits.proofs.Joins.{Joins, make_edit}
 use Rattle.mst_batch.proofs.Openings.{adds_then, adds_as}
 
 -- the pairs that so many of the edits put were added

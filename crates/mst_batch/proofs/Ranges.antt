@@ -9,10 +9,10 @@ use Rattle.mst_key.specs.Edits.{AreAbove, AreRising}
 use Rattle.mst_key.specs.History.{key_of}
 use Rattle.mst_key.specs.Map.{key_cmp}
 use Rattle.mst_key.proofs.KeyOrder.{less_chain, less_from_test, less_from_greater, same_from_equal}
-use Rattle.mst_batch.specs.Listed.{listed}
+use Rattle.mst_edits.specs.Listed.{listed}
 use Rattle.mst_batch.specs.Opening.{AreBelow, AreOf}
-use Rattle.mst_batch.proofs.Parts.{listed-append}
-use Rattle.mst_batch.proofs.Rising.{above-less, rising-front, rising-back}
+use Rattle.mst_edits.proofs.Parts.{listed-append}
+use Rattle.mst_edits.proofs.Rising.{above-less, rising-front, rising-back}
 
 -- ---- tests of keys
 

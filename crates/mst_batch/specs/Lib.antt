@@ -3,7 +3,6 @@ pub mod Plans
 pub mod Sowing
 pub mod Replacing
 pub mod Carrying
-pub mod Listed
 pub mod Beside
 pub mod Known
 pub mod Items

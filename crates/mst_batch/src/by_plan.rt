@@ -9,11 +9,11 @@ ghost use Rattle.mst_batch.specs.declared.faults.NotApplied.TheVariants as lacki
 
 use crate::carrying::carry_out_by_plan;
 use crate::faults::NotApplied;
-use crate::limits::are_within_limits;
 use crate::marking::marks_of;
 use crate::planning::find_plan;
 use crate::releasing::release;
 use mst_arena::{Desk, Root, Rows};
+use mst_edits::are_within_limits;
 use mst_key::{Edit, Format};
 use mst_path::NoRoom;
 use std::alloc::Allocator;

@@ -15,7 +15,7 @@
 //! From the top down:
 //!
 //! - `applying` leads to `single`, for one edit; `loading`, in the empty map; and `by_plan`.
-//! - `planning` finds the plan. `merging` sorts the edits and keeps the last one of each key;
+//! - `planning` finds the plan. `mst_edits` sorts the edits and keeps the last one of each key;
 //!   `opening` lists what the tree after them is built of (`items`, `standing`); `building` plans
 //!   it from the greatest layer down (`top`), and keeps what stands already (`sharing`).
 //! - `marking` marks the nodes that a plan keeps.
@@ -26,12 +26,12 @@
 //! [`plans_beside`] says which plan makes only what does not stand yet, and [`plans_can_be_met`]
 //! shows plans that can be carried out.
 //!
-//! In `specs/`: `Applying`, why a batch is not made; `Listed`, edits that a list points at; `Items`
-//! and `Opening`, what the tree after a batch is built of; `Known`, which of its pairs have a row
-//! already; `Tops`, which of it is opened; `Beside`, the plan of a tree next to the one that
-//! stands; `Plans`, which tree a plan is, what it keeps and what it takes; `Carrying` and
-//! `Replacing`, a plan of a change of the map, and in place of the tree that stands; `Sowing`,
-//! what is written; `Kept`, which nodes are kept and which rows fall.
+//! In `specs/`: `Applying`, why a batch is not made; `Items` and `Opening`, what the tree after a
+//! batch is built of; `Known`, which of its pairs have a row already; `Tops`, which of it is
+//! opened; `Beside`, the plan of a tree next to the one that stands; `Plans`, which tree a plan is,
+//! what it keeps and what it takes; `Carrying` and `Replacing`, a plan of a change of the map, and
+//! in place of the tree that stands; `Sowing`, what is written; `Kept`, which nodes are kept and
+//! which rows fall.
 #![tactic(auto)]
 
 mod applying;
@@ -42,10 +42,8 @@ mod faults;
 mod felling;
 mod items;
 mod laws;
-mod limits;
 mod loading;
 mod marking;
-mod merging;
 mod opening;
 mod plan;
 mod planning;
@@ -62,7 +60,6 @@ pub use carrying::carry_out;
 pub use faults::NotApplied;
 pub use felling::fell_beside;
 pub use laws::{plans_beside, plans_can_be_met};
-pub use merging::{edited_pairs, normal_edits};
 pub use plan::{Origin, Plan, PlanEntry, PlanNode};
 pub use replacing::replace;
 pub use sowing::{rows_of, sow};

@@ -10,9 +10,8 @@ ghost use Rattle.mst_path.specs.AfterChange.{AfterChange};
 ghost use Rattle.mst_batch.specs.Applying.{LacksBatch, LacksPairs};
 
 use crate::faults::NotApplied;
-use crate::limits::are_within_limits;
-use crate::merging::edited_pairs;
 use mst_arena::{Desk, Root, Rows};
+use mst_edits::{are_within_limits, edited_pairs};
 use mst_key::{Edit, Format};
 use mst_node::{Node, build_in, release};
 use mst_path::{NoRoom, plant};

@@ -10,7 +10,7 @@ ghost use Rattle.mst_node.specs.Tree.{pairs};
 ghost use Rattle.mst_arena.specs.Standing.{Placed, rows_of, tree_of};
 ghost use Rattle.mst_batch.specs.Items.{items_pairs, pair_among, IsItem, IsTold};
 ghost use Rattle.mst_batch.specs.Known.{IsEntryOf};
-ghost use Rattle.mst_batch.specs.Listed.{listed, put_of};
+ghost use Rattle.mst_edits.specs.Listed.{listed, put_of};
 ghost use Rattle.mst_batch.specs.Opening.{PartOf, Adds, AreBelow, AreOf};
 
 use crate::items::Item;

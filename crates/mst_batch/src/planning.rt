@@ -9,10 +9,10 @@ ghost use Rattle.mst_batch.specs.Known.{AreKnown, known_of};
 ghost use Rattle.mst_batch.specs.Plans.{plan_of};
 
 use crate::building::build;
-use crate::merging::normal_edits;
 use crate::opening::open;
 use crate::plan::{Plan, PlanNode};
 use mst_arena::{Root, Rows};
+use mst_edits::normal_edits;
 use mst_key::{Edit, Format, Memory};
 use std::alloc::Allocator;
 

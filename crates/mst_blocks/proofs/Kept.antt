@@ -1,6 +1,6 @@
 -- The passes of a writer stay those of its map's stores, and it stays a writer.
 use Rattle.std.proofs.Common.{◌≡◌, ◌≤◌, ℕ, length, arith, List, [], ◌∷◌, ◌++◌, map, refl, sym, ap, ◌∙◌, subst}
-use Rattle.std.specs.Prelude.{OnOk, OnErr, IfErr}
+use Rattle.std.specs.Prelude.{OnOk, OnErr, IfOk, IfErr}
 use Rattle.std.specs.declared.result.Result.{Result}
 use Rattle.std.specs.declared.result.Result.TheVariants.{Ok, Err}
 use Rattle.mst_key.specs.declared.history.Edit.{Edit}
@@ -65,6 +65,14 @@ pub if_err : {T Q : Type 0} (P R : BlockFault → Type 0) (r : Result T BlockFau
 if_err P R (Ok u) left why f = tt
 if_err P R (Err fault) left why f = f left fault why
 
+-- a digest that is the new one, or if nothing was made the one before
+pub either_root : (R : List ℕ → Type 0) (r : Result (List ℕ) BlockFault) (digest before : List ℕ)
+    → IfOk r (λ x. digest ≡ x) → OnErr r (digest ≡ before)
+    → ((x : List ℕ) → r ≡ Ok x → R x) → ((fault : BlockFault) → r ≡ Err fault → R before)
+    → R digest
+either_root R (Ok x) digest before made same ok err = subst R (sym made) (ok x refl)
+either_root R (Err fault) digest before made same ok err = subst R (sym same) (err fault refl)
+
 -- ---- a writer that is lifted, and laid down
 
 pub lifted_as : (splits sp : List (List ℕ)) (ps lifted : List Known) (d listing : Known)
@@ -105,19 +113,30 @@ module _ (edits : List Edit) (splits sp : List (List ℕ)) (ps lifted qs laid : 
       (subst (HasMade blocks) (sym (was ∙ as_self)) h))
 
   -- the root digest goes with it
-  pub made_rooted : (digest : List ℕ) → AddsBlock edits (whole sp lifted listing) (whole sp qs e)
+  made_rooted : (digest : List ℕ) → AddsBlock edits (whole sp lifted listing) (whole sp qs e)
       → digest ≡ root_of (format_seen e) (after e.seen) → IsLastRoot digest down
   made_rooted digest adds is =
       subst (IsLastRoot digest) (sym as_e)
       (rooted_now edits (whole sp lifted listing) (whole sp qs e) digest writes adds is)
 
-  pub left_rooted : (digest : List ℕ) (fault : BlockFault)
+  left_rooted : (digest : List ℕ) (fault : BlockFault)
       → RefusesBlock fault edits (whole sp lifted listing) (whole sp qs e) → IsLastRoot digest d
       → IsLastRoot digest down
   left_rooted digest fault refuses is =
       subst (IsLastRoot digest) (sym as_e)
       (rooted_still fault edits (whole sp lifted listing) (whole sp qs e) digest writes refuses
       (subst (IsLastRoot digest) (sym as_d) is))
+
+  pub last_rooted : (r : Result (List ℕ) BlockFault) (digest before : List ℕ)
+      → IfOk r (λ x. digest ≡ x) → OnErr r (digest ≡ before)
+      → OnOk r (AddsBlock edits (whole sp lifted listing) (whole sp qs e))
+      → IfOk r (λ x. x ≡ root_of (format_seen e) (after e.seen))
+      → IfErr r (λ fault. RefusesBlock fault edits (whole sp lifted listing) (whole sp qs e))
+      → IsLastRoot before d → IsLastRoot digest down
+  last_rooted (Ok x) digest before made same adds rooted refuses before_is =
+      made_rooted digest adds (made ∙ rooted)
+  last_rooted (Err fault) digest before made same adds rooted refuses before_is =
+      left_rooted digest fault refuses (same ∙ before_is)
 
 -- what is laid down is the writer's
 pub writer_of : (s : Shards) (sp : List (List ℕ)) (ps lifted qs laid : List Known)

@@ -1,14 +1,10 @@
 pub mod Begun
 pub mod Blocked
 pub mod Chained
-pub mod Coming
 pub mod Committing
-pub mod Concluded
 pub mod Growing
 pub mod Kept
 pub mod Ordered
-pub mod PartsCommitted
 pub mod PartsDealt
 pub mod Reading
 pub mod Relisted
-pub mod Sent

@@ -1,4 +1,3 @@
 pub mod Blocks
-pub mod Origins
 pub mod Staging
 pub mod Writing

@@ -24,7 +24,7 @@ use std::marker::Model;
 
 /// A shard while a block is made.
 #[derive(Drop)]
-pub(crate) enum Stage<'a, A: Allocator + Copy, B: Allocator> {
+pub enum Stage<'a, A: Allocator + Copy, B: Allocator> {
     /// Nothing is prepared.
     Idle(Pass<'a, A>),
     /// Its part is prepared.
@@ -33,8 +33,9 @@ pub(crate) enum Stage<'a, A: Allocator + Copy, B: Allocator> {
 
 /// The edits of one shard.
 #[derive(Drop)]
-pub(crate) struct Part<B: Allocator> {
-    pub(crate) edits: Vec<Edit, B>,
+pub struct Part<B: Allocator> {
+    /// In their order.
+    pub edits: Vec<Edit, B>,
 }
 
 /// Contracts see the edits.
@@ -74,8 +75,8 @@ fn keep_on<'a, A: Allocator + Copy, B: Allocator>(
     }
 }
 
-// Prepares edits on the version that the pass made last. If another is found, it takes them back.
-pub(crate) fn prepare_next<'a, A: Allocator + Copy, B: Allocator, C: Allocator + Copy>(
+/// Prepares edits on the version that the pass made last. If another is found, it takes them back.
+pub fn prepare_next<'a, A: Allocator + Copy, B: Allocator, C: Allocator + Copy>(
     alloc: C,
     pass: Pass<'a, A>,
     edits: Vec<Edit, B>,
@@ -115,8 +116,8 @@ fn stage_one<'a, A: Allocator + Copy, B: Allocator, C: Allocator + Copy>(
     }
 }
 
-// Prepares the part of the next shard, unless one before it was refused.
-pub(crate) fn stage_next<'a, A: Allocator + Copy, B: Allocator, C: Allocator + Copy>(
+/// Prepares the part of the next shard, unless one before it was refused.
+pub fn stage_next<'a, A: Allocator + Copy, B: Allocator, C: Allocator + Copy>(
     alloc: C,
     pass: Pass<'a, A>,
     part: Part<B>,
@@ -272,10 +273,10 @@ fn list_stages<'a, A: Allocator + Copy, B: Allocator, C: Allocator>(
     Ok(edits)
 }
 
-// Makes a block of what its shards have prepared: the directory lists their new root digests, and
-// all are published, the directory last. If a shard was refused its part, or the directory is
-// refused these edits, all is taken back. Returns the directory's new root digest.
-pub(crate) fn conclude<'a, A: Allocator + Copy, B: Allocator, C: Allocator, D: Allocator + Copy>(
+/// Makes a block of what its shards have prepared: the directory lists their new root digests, and
+/// all are published, the directory last. If a shard was refused its part, or the directory is
+/// refused these edits, all is taken back. Returns the directory's new root digest.
+pub fn conclude<'a, A: Allocator + Copy, B: Allocator, C: Allocator, D: Allocator + Copy>(
     alloc: D,
     splits: &[Key],
     stages: Vec<Stage<'a, A, B>, C>,

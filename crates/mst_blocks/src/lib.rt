@@ -10,36 +10,29 @@
 //! let (writer, made) = writer.apply(rt.alloc(), &edits);  // Ok(1): made whole, in both shards
 //! ```
 //!
-//! A block may be made in parts, by several threads:
-//!
-//! ```
-//! let (block, mut parts) = writer.begin(rt.alloc(), &edits)?;      // a part for each shard
-//! prepare_in_threads(&rt, rt.alloc(), parts.as_mut_slice(), 4);    // or any, BlockPart::prepare
-//! let (writer, made) = block.commit(rt.alloc(), parts);            // as by apply
-//! ```
-//!
 //! Each shard makes its part in free rows and hashes it. If one of them, or the directory, is
 //! refused, all is taken back, and nothing has changed. Otherwise all are published, one swap after
 //! the other, and the directory last: so a reader that pins the directory first, and then finds
 //! each shard with the root digest that is listed, has one block.
+//!
+//! Several threads can make a block in parts: `mst_parts` has them. For it stands here what both
+//! ways of making a block share ([`deal_edits`], [`stage_next`], [`prepare_next`], [`conclude`]),
+//! and what takes a writer apart and puts it together ([`Writer::into_held`],
+//! [`Writer::from_held`], [`last_root`]).
 #![tactic(auto)]
 
 mod beginning;
-mod block;
 mod blocks;
 mod chains;
-mod dealing;
 mod faults;
-mod finishing;
+mod held;
 mod making;
-mod part;
 mod parting;
-mod threads;
 mod writer;
 
-pub use block::Block;
+pub use blocks::{Part, Stage, conclude, prepare_next, stage_next};
 pub use chains::{block_laws, snapshot_laws, writer_laws};
 pub use faults::{BlockFault, Overtaken, PartFault};
-pub use part::BlockPart;
-pub use threads::prepare_in_threads;
+pub use held::{Held, last_root};
+pub use parting::deal_edits;
 pub use writer::Writer;

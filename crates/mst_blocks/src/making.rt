@@ -10,7 +10,8 @@ ghost use Rattle.mst_blocks.specs.Writing.{IsWriter, AddsBlock, RefusesBlock, Ke
 
 use crate::blocks::{Part, Stage, commit};
 use crate::faults::BlockFault;
-use crate::parting::{are_within_limits, deal_edits};
+use crate::parting::deal_edits;
+use mst_edits::are_within_limits;
 use mst_key::{Edit, Key, Memory};
 use mst_shards::list_with_room;
 use mst_store::Pass;

@@ -1,7 +1,5 @@
 //! The edits of a block, dealt to the shards.
 ghost use Rattle.std.specs.Prelude.{◌≡◌, ◌==◌, ◌≤◌, ◌<◌, ◌+◌, ◌++◌, suc, if◌then◌else◌, [], ◌∷◌, map, length, vec_len, vec_capacity, IfOk, OnOk};
-ghost use Rattle.std.specs.List.{AllByRecursion};
-ghost use Rattle.mst_key.specs.History.{key_of, IsSmall};
 ghost use Rattle.mst_sharded_proof.specs.Shards.{least, AreSplits};
 ghost use Rattle.mst_shards.specs.Sharding.{place as place_in};
 ghost use Rattle.mst_shards.specs.Parts.{picked};
@@ -11,31 +9,6 @@ use crate::blocks::Part;
 use mst_key::{Edit, Key, Memory};
 use mst_shards::{copied, list_with_room, places_of};
 use std::alloc::Allocator;
-
-// Says that the key of an edit is within the limits, and so is the value.
-fn is_within_limits(edit: &Edit)
-    ensures small { IsSmall edit.now }
-{
-    match edit {
-        Edit::Put(key, value) => {
-            let _key = key.bytes();
-            let _value = value.bytes();
-        }
-        Edit::Remove(key) => {
-            let _key = key.bytes();
-        }
-    }
-}
-
-// Says that the keys of edits are within the limits, and so are the values, as all are by their
-// types.
-pub(crate) fn are_within_limits(edits: &[Edit])
-    ensures small { AllByRecursion IsSmall edits.now }
-{
-    for edit in edits {
-        is_within_limits(edit);
-    }
-}
 
 // Adds a copy of an edit to those of a shard, if the edit's place is that of the shard.
 fn take_one<C: Allocator>(
@@ -71,8 +44,8 @@ fn edits_of<C: Allocator>(
     Ok(part)
 }
 
-// The edits of each shard, in their order.
-pub(crate) fn deal_edits<C: Allocator + Copy>(
+/// The edits of each shard, in their order.
+pub fn deal_edits<C: Allocator + Copy>(
     alloc: C,
     splits: &[Key],
     edits: &[Edit],

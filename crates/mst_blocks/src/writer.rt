@@ -16,6 +16,7 @@ ghost use Rattle.mst_blocks.specs.Writing.{last_block, block_map, IsWriter, IsWr
 use crate::beginning::list_all_empty;
 use crate::blocks::{last_version, prepare_next};
 use crate::faults::{BlockFault, Overtaken};
+use crate::held::last_root;
 use crate::making::make_block;
 use mst_key::{Edit, Key, Memory, Value};
 use mst_shards::{
@@ -232,26 +233,19 @@ impl<A: Allocator + Copy> Writer<A> {
         let (done, listed, made) = make_block(alloc, map.splits(), lifted, listing, edits);
         let passes = lay_all(done, space);
         let directory = listed.lay();
+        let root = last_root(&made, last);
+        let writer = Writer {
+            map,
+            passes,
+            directory,
+            root,
+        };
         match made {
-            Ok(root) => {
-                let writer = Writer {
-                    map,
-                    passes,
-                    directory,
-                    root,
-                };
+            Ok(_root) => {
                 let number = writer.number();
                 (writer, Ok(number))
             }
-            Err(fault) => {
-                let writer = Writer {
-                    map,
-                    passes,
-                    directory,
-                    root: last,
-                };
-                (writer, Err(fault))
-            }
+            Err(fault) => (writer, Err(fault)),
         }
     }
 }

@@ -2,7 +2,7 @@
 use Rattle.std.proofs.Common.{◌≡◌, ◌⊎◌, inl, inr, ℕ, ◌<◌, ◌≤◌, List, Result, Ok, Err, IfOk, arith}
 use denote.Ref.{Bor}
 use Rattle.mst_arguments.specs.Commanding.{AsksFor, status_at, status_of}
-use Rattle.mst_command.specs.Programs.{Did}
+use Rattle.mst_program.specs.Tasks.{Did}
 use Rattle.mst_arguments.specs.declared.task.Task.{Task}
 use Rattle.mst_arguments.specs.declared.task.Ending.{Ending}
 use Rattle.mst_arguments.specs.declared.task.Ending.TheVariants.{Done, ProofRefused}

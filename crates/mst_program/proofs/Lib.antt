@@ -1,1 +1,4 @@
+mod Asked
 mod Endings
+mod Ends
+mod Opening

@@ -9,7 +9,7 @@ use Rattle.mst_arguments.specs.declared.task.Ending.{Ending}
 use Rattle.mst_arguments.specs.declared.task.Refusal.{Refusal}
 use Rattle.mst_arguments.specs.declared.task.Refusal.TheVariants.{Device, Memory}
 use Rattle.mst_arguments.specs.Commanding.{AsksFor, asks_verify, status_at, status_of, told as told_text}
-use Rattle.mst_command.specs.Programs.{Broke, Comes, Did, EndedEarly}
+use Rattle.mst_program.specs.Tasks.{Broke, Comes, Did, EndedEarly}
 
 -- the task that the words ask for was done, and ended so
 abbrev pub Performed : {S O : Type 0} → Flow S → (S → ℕ) → Flow O → List (Bor (List ℕ))

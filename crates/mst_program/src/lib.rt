@@ -1,5 +1,5 @@
-//! The program over a source and two sinks: its words, how far a load is, and how it ends, with
-//! contracts that say what was read and written.
+//! The program over a source and two sinks: its words, the task that they ask for, how far a load
+//! is, and how it ends, with contracts that say what was read and written.
 //!
 //! ```
 //! let words = ["mst", "run", "--rows", "16"];
@@ -10,15 +10,19 @@
 //! ```
 //!
 //! [`run_program`] is the whole program as a call, which `mst` makes over the words and the streams
-//! of the process; [`command`] is the same over words that are read, which tests make over bytes.
-//! The exit statuses are 0 to 4. [`Watch`] says whether a user is told how far a load is, and
-//! [`Progress`] writes how many of its calls have returned.
+//! of the process; [`command`] is the same over words that are read, which tests make over bytes,
+//! and [`execute`] does a task that `mst_arguments` reads from words. `specs/Tasks.antt` says what
+//! each task reads and writes. The exit statuses are 0 to 4. [`Watch`] says whether a user is told
+//! how far a load is, and [`Progress`] writes how many of its calls have returned.
 #![tactic(auto)]
 
 mod program;
 mod progress;
+mod sharded;
 mod starting;
+mod tasks;
 
 pub use program::command;
 pub use progress::{Progress, Watch};
 pub use starting::run_program;
+pub use tasks::execute;

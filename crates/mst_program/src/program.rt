@@ -1,14 +1,15 @@
 //! The program, over a source and two sinks.
 ghost use Rattle.std.specs.Prelude.{◌≡◌, ◌<◌, ◌-◌, ◌+◌, ◌^◌, ◌⊎◌, OnOk, IfOk, IfErr, IsErrOf, Some, None, true, false};
-ghost use Rattle.mst_command.specs.Programs.{RanScript, RanSharded, RanReplay, RanVerify, Helped, Broke, Comes};
+ghost use Rattle.mst_command.specs.Programs.{RanScript, RanReplay, RanVerify};
+ghost use Rattle.mst_program.specs.Tasks.{RanSharded, Helped, Broke, Comes};
 ghost use Rattle.mst_arguments.specs.Loads.{IsLoadOf, asks_load};
 ghost use Rattle.mst_command.specs.Loading.{RanLoad};
 ghost use Rattle.mst_arguments.specs.Commanding.{AsksFor, IsDevice, NamesShape, Untouched, Unread, asks_replay, asks_verify, splits_in};
 ghost use Rattle.mst_arguments.specs.declared.task.Ending.TheVariants.{Done, ProofRefused};
 ghost use Rattle.mst_program.specs.Commanded.{Commanded, Performed};
 
+use crate::tasks::execute;
 use mst_arguments::{DONE, Ending, PROOF_REFUSED, Refusal, complain, task_of};
-use mst_command::execute;
 use mst_devices::{Sink, Source};
 use mst_load::Gate;
 use std::alloc::{AllocGlobal, Global};

@@ -3,7 +3,7 @@
 use crate::cases::{Case, Edits, Pairs, ask};
 use crate::heaps::{heap_of, is_made};
 use crate::pairs::{key_of, spelt, value_of};
-use mst_batch::edited_pairs;
+use mst_edits::edited_pairs;
 use mst_key::{Edit, Key, Value};
 use mst_node::is_map;
 use std::alloc::{Allocator, Global};

@@ -10,7 +10,7 @@ use Rattle.mst_arena.specs.Row.{keyed_links}
 use Rattle.mst_arena.specs.Standing.{Placed, tree_of}
 use Rattle.mst_path.specs.Joining.{height_at}
 use Rattle.mst_path.proofs.lemmas.steps.Felling.{height_read}
-use Rattle.mst_batch.specs.Listed.{listed}
+use Rattle.mst_edits.specs.Listed.{listed}
 use Rattle.mst_batch.specs.Opening.{PartOf, Adds}
 use Rattle.mst_batch.specs.declared.items.Item.{Item}
 use Rattle.mst_batch.proofs.Openings.{head_there, part_lies, tree_stays}

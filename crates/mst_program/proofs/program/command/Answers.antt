@@ -2,9 +2,9 @@ use Rattle.std.proofs.Common.{rules}
 use Rattle.std.proofs.Common.{Err, ap, subst, ◌∙◌, ◌≡◌}
 use Rattle.std.proofs.lemmas.Result.{IfErr-at_err, IfOk-at_ok}
 use Rattle.mst_arguments.specs.Commanding.{Untouched}
-use Rattle.mst_command.specs.Programs.{EndedEarly}
+use Rattle.mst_program.specs.Tasks.{EndedEarly}
 use Rattle.mst_arguments.specs.declared.task.Refusal.TheVariants.{Device}
-use Rattle.mst_command.proofs.Asked.{told_early, stopped_early}
+use Rattle.mst_program.proofs.Asked.{told_early, stopped_early}
 use Rattle.mst_arguments.specs.declared.task.Ending.{Ending}
 use Rattle.mst_program.specs.Commanded.{Performed}
 use Rattle.mst_program.proofs.Endings.{at_done, at_refused, no_ending}

@@ -1,6 +1,6 @@
 use Rattle.std.proofs.Common.{rules}
 use Rattle.std.proofs.Common.{◌+◌}
-use Rattle.mst_command.proofs.Asked.{asked_script, asked_sharded, asked_replay, asked_verify, asked_load, asked_others, not_verified, words_device, still_unread, still_untouched, task_comes, words_come, no_device}
+use Rattle.mst_program.proofs.Asked.{asked_script, asked_sharded, asked_replay, asked_verify, asked_load, asked_others, not_verified, words_device, still_unread, still_untouched, task_comes, words_come, no_device}
 use Rattle.mst_program.proofs.Endings.{performed}
 use Rattle.mst_program.proofs.program.perform.Goals as goal
 

@@ -1,14 +1,11 @@
-use Rattle.std.proofs.Common.{◌≡◌, ℕ, List, vec_items, rules, subst}
+use Rattle.std.proofs.Common.{vec_items, rules, subst}
 use Rattle.std.specs.Arc.{arc_value}
-use Rattle.mst_key.specs.History.{after}
-use Rattle.mst_node.specs.Text.{root as root_of}
-use Rattle.mst_store.specs.Passes.{format_seen}
 use Rattle.mst_shards.specs.BlockHistory.{Whole, whole}
 use Rattle.mst_blocks.specs.Writing.{RefusesBlock}
 use Rattle.mst_blocks.specs.declared.faults.BlockFault.{BlockFault}
 use Rattle.mst_blocks.specs.declared.faults.BlockFault.TheVariants as variant
-use Rattle.mst_blocks.proofs.Blocked.{refused_before, from_ok, from_ok_of, from_err_of}
-use Rattle.mst_blocks.proofs.Kept.{made_laid, left_laid, made_rooted, left_rooted, writer_of}
+use Rattle.mst_blocks.proofs.Blocked.{refused_before, from_ok, from_err_of}
+use Rattle.mst_blocks.proofs.Kept.{made_laid, left_laid, last_rooted, writer_of}
 use Rattle.mst_blocks.proofs.writer.Writer.apply.Goals as goal
 
 pub returns-in-Err-clause-err : goal.returns-in-Err-clause-err
@@ -27,7 +24,7 @@ returns-in-Ok-made-clause-more g c blocks h =
     c.lay-directory.result c.args.self (search rules) c.lift_all-lifted.ensures.same
     c.lift-listing.ensures.same c.lay_all-passes.ensures.same c.lay-directory.ensures.same
     c.self.view_is c.self.invariant.0.writer blocks c.make_block-done.ensures.writer
-    (from_ok c.make_block-done.result.2 c.in-Ok-made.root c.in-Ok-made.is
+    (from_ok c.make_block-done.result.2 c.in-Ok-made._root c.in-Ok-made.is
     c.make_block-done.ensures.ok) h
 
 pub returns-in-Err-made-clause-same : goal.returns-in-Err-made-clause-same
@@ -53,39 +50,14 @@ invariant_of-writer g c = (
       c.lift_all-lifted.ensures.same c.lift-listing.ensures.same c.lay_all-passes.ensures.same
       c.lay-directory.ensures.same c.self.invariant.0 c.make_block-done.ensures.writer
       c.make_block-done.ensures.own,
-  made_rooted c.args.edits.now (arc_value c.self.inside.map).splits c.splits.result.now
+  last_rooted c.args.edits.now (arc_value c.self.inside.map).splits c.splits.result.now
       (vec_items c.self.inside.passes) (vec_items c.lift_all-lifted.result.0)
       (vec_items c.make_block-done.result.0) (vec_items c.lay_all-passes.result)
       c.self.inside.directory c.lift-listing.result c.make_block-done.result.1
       c.lay-directory.result c.args.self (search rules) c.lift_all-lifted.ensures.same
       c.lift-listing.ensures.same c.lay_all-passes.ensures.same c.lay-directory.ensures.same
-      c.self.view_is c.self.invariant.0.writer c.in-Ok-made.root
-      (from_ok c.make_block-done.result.2 c.in-Ok-made.root c.in-Ok-made.is
-      c.make_block-done.ensures.ok)
-      (from_ok_of (λ (digest : List ℕ). digest
-      ≡ root_of (format_seen c.make_block-done.result.1) (after c.make_block-done.result.1.seen))
-      c.make_block-done.result.2 c.in-Ok-made.root c.in-Ok-made.is c.make_block-done.ensures.root),
-)
-
-pub invariant_of-writer-in-Err-made : goal.invariant_of-writer-in-Err-made
-invariant_of-writer-in-Err-made g c = (
-  writer_of (arc_value c.self.inside.map) c.splits.result.now (vec_items c.self.inside.passes)
-      (vec_items c.lift_all-lifted.result.0) (vec_items c.make_block-done.result.0)
-      (vec_items c.lay_all-passes.result) c.self.inside.directory c.lift-listing.result
-      c.make_block-done.result.1 c.lay-directory.result (search rules)
-      c.lift_all-lifted.ensures.same c.lift-listing.ensures.same c.lay_all-passes.ensures.same
-      c.lay-directory.ensures.same c.self.invariant.0 c.make_block-done.ensures.writer
-      c.make_block-done.ensures.own,
-  left_rooted c.args.edits.now (arc_value c.self.inside.map).splits c.splits.result.now
-      (vec_items c.self.inside.passes) (vec_items c.lift_all-lifted.result.0)
-      (vec_items c.make_block-done.result.0) (vec_items c.lay_all-passes.result)
-      c.self.inside.directory c.lift-listing.result c.make_block-done.result.1
-      c.lay-directory.result c.args.self (search rules) c.lift_all-lifted.ensures.same
-      c.lift-listing.ensures.same c.lay_all-passes.ensures.same c.lay-directory.ensures.same
-      c.self.view_is c.self.invariant.0.writer c.self.inside.root c.in-Err-made.fault
-      (from_err_of (λ (fault : BlockFault). RefusesBlock fault c.args.edits.now
-      (whole c.splits.result.now (vec_items c.lift_all-lifted.result.0) c.lift-listing.result)
-      (whole c.splits.result.now (vec_items c.make_block-done.result.0)
-      c.make_block-done.result.1)) c.make_block-done.result.2 c.in-Err-made.fault
-      c.in-Err-made.is c.make_block-done.ensures.err) c.self.invariant.1,
+      c.self.view_is c.self.invariant.0.writer c.make_block-done.result.2
+      c.last_root-root.result c.self.inside.root c.last_root-root.ensures.made
+      c.last_root-root.ensures.same c.make_block-done.ensures.ok c.make_block-done.ensures.root
+      c.make_block-done.ensures.err c.self.invariant.1,
 )

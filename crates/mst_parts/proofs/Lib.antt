@@ -1,0 +1,5 @@
+pub mod Canceled
+pub mod Coming
+pub mod Concluded
+pub mod PartsCommitted
+pub mod Sent
