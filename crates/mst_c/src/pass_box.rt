@@ -103,6 +103,7 @@ pub(crate) fn hand_out(
     ensures held { result ≡ true → hand.new.held ≡ Some (state.Free pass.entry) }
 {
     let Ok(store) = Arc::try_clone(store) else {
+        drop(pass);
         return false;
     };
     let state = State::Free(pass.lay());
@@ -116,7 +117,10 @@ pub(crate) fn hand_out(
             give(hand, Taken::of(held));
             true
         }
-        Err(_) => false,
+        Err(refused) => {
+            drop(refused);
+            false
+        }
     }
 }
 
@@ -134,6 +138,14 @@ pub(crate) fn hand_out_padded(
     hand_out(alloc, store, pass, &mut hand.hand)
 }
 
+/// Puts a state where none is. What was there is dropped by a generic function: an assignment would
+/// unfold in its proof all that a state may own.
+fn put_back(place: &mut State, state: State)
+    ensures put { place.new ≡ state }
+{
+    drop(replace(place, state));
+}
+
 impl PassBox {
     /// Returns the code of the key's value. It is made where the value was read, so that the value
     /// is not moved.
@@ -144,12 +156,12 @@ impl PassBox {
             State::Away => unreachable!(),
             State::Free(laid) => {
                 let (laid, code) = tell_now(&self.store, laid, key, room);
-                self.state = State::Free(laid);
+                put_back(&mut self.state, State::Free(laid));
                 code
             }
             State::Pinned(laid) => {
                 let (laid, code) = tell_pinned(&self.store, laid, key, room);
-                self.state = State::Pinned(laid);
+                put_back(&mut self.state, State::Pinned(laid));
                 code
             }
         }
@@ -165,13 +177,13 @@ impl PassBox {
             State::Free(laid) => {
                 let mut pass = self.store.lift(laid);
                 let pair = pass.next(after);
-                self.state = State::Free(pass.lay());
+                put_back(&mut self.state, State::Free(pass.lay()));
                 pair
             }
             State::Pinned(laid) => {
                 let mut pinned = self.store.lift_pinned(laid);
                 let pair = pinned.next(after);
-                self.state = State::Pinned(pinned.lay());
+                put_back(&mut self.state, State::Pinned(pinned.lay()));
                 pair
             }
         }
@@ -197,13 +209,13 @@ impl PassBox {
             State::Free(laid) => {
                 let mut pass = self.store.lift(laid);
                 let found = pass.range(alloc, from, to, limit);
-                self.state = State::Free(pass.lay());
+                put_back(&mut self.state, State::Free(pass.lay()));
                 found
             }
             State::Pinned(laid) => {
                 let mut pinned = self.store.lift_pinned(laid);
                 let found = pinned.range(alloc, from, to, limit);
-                self.state = State::Pinned(pinned.lay());
+                put_back(&mut self.state, State::Pinned(pinned.lay()));
                 found
             }
         }
@@ -218,13 +230,13 @@ impl PassBox {
             State::Free(laid) => {
                 let mut pass = self.store.lift(laid);
                 let root = pass.root();
-                self.state = State::Free(pass.lay());
+                put_back(&mut self.state, State::Free(pass.lay()));
                 root
             }
             State::Pinned(laid) => {
                 let mut pinned = self.store.lift_pinned(laid);
                 let root = pinned.root();
-                self.state = State::Pinned(pinned.lay());
+                put_back(&mut self.state, State::Pinned(pinned.lay()));
                 root
             }
         }
@@ -241,13 +253,13 @@ impl PassBox {
             State::Free(laid) => {
                 let mut pass = self.store.lift(laid);
                 let proof = pass.prove(alloc, key);
-                self.state = State::Free(pass.lay());
+                put_back(&mut self.state, State::Free(pass.lay()));
                 proof
             }
             State::Pinned(laid) => {
                 let mut pinned = self.store.lift_pinned(laid);
                 let proof = pinned.prove(alloc, key);
-                self.state = State::Pinned(pinned.lay());
+                put_back(&mut self.state, State::Pinned(pinned.lay()));
                 proof
             }
         }
@@ -258,14 +270,13 @@ impl PassBox {
         ensures pins { PinsNow self.old result self.new }
     {
         match replace(&mut self.state, State::Away) {
-            State::Away => unreachable!(),
             State::Free(laid) => {
                 let pass = self.store.lift(laid);
-                self.state = State::Pinned(pass.pin().lay());
+                put_back(&mut self.state, State::Pinned(pass.pin().lay()));
                 true
             }
-            State::Pinned(laid) => {
-                self.state = State::Pinned(laid);
+            other => {
+                put_back(&mut self.state, other);
                 false
             }
         }
@@ -277,15 +288,14 @@ impl PassBox {
         ensures free { PinsNone self.new }
     {
         match replace(&mut self.state, State::Away) {
-            State::Away => unreachable!(),
-            State::Free(laid) => {
-                self.state = State::Free(laid);
-                false
-            }
             State::Pinned(laid) => {
                 let pinned = self.store.lift_pinned(laid);
-                self.state = State::Free(pinned.unpin().lay());
+                put_back(&mut self.state, State::Free(pinned.unpin().lay()));
                 true
+            }
+            other => {
+                put_back(&mut self.state, other);
+                false
             }
         }
     }
@@ -299,13 +309,13 @@ impl PassBox {
             State::Free(laid) => {
                 let mut pass = self.store.lift(laid);
                 let version = pass.version();
-                self.state = State::Free(pass.lay());
+                put_back(&mut self.state, State::Free(pass.lay()));
                 version
             }
             State::Pinned(laid) => {
                 let pinned = self.store.lift_pinned(laid);
                 let version = pinned.version();
-                self.state = State::Pinned(pinned.lay());
+                put_back(&mut self.state, State::Pinned(pinned.lay()));
                 version
             }
         }
@@ -316,18 +326,17 @@ impl PassBox {
         ensures counts { Counts self.old result self.new }
     {
         match replace(&mut self.state, State::Away) {
-            State::Away => unreachable!(),
             State::Free(laid) => {
                 let mut pass = self.store.lift(laid);
                 let rows = pass.rows();
-                self.state = State::Free(pass.lay());
+                put_back(&mut self.state, State::Free(pass.lay()));
                 match rows {
                     Ok(found) => Ok(found),
                     Err(Busy) => Err(Uncounted::Busy),
                 }
             }
-            State::Pinned(laid) => {
-                self.state = State::Pinned(laid);
+            other => {
+                put_back(&mut self.state, other);
                 Err(Uncounted::Pins)
             }
         }
@@ -342,13 +351,13 @@ impl PassBox {
             State::Free(laid) => {
                 let mut pass = self.store.lift(laid);
                 let format = pass.format();
-                self.state = State::Free(pass.lay());
+                put_back(&mut self.state, State::Free(pass.lay()));
                 format
             }
             State::Pinned(laid) => {
                 let mut pinned = self.store.lift_pinned(laid);
                 let format = pinned.format();
-                self.state = State::Pinned(pinned.lay());
+                put_back(&mut self.state, State::Pinned(pinned.lay()));
                 format
             }
         }

@@ -7,10 +7,10 @@ use Rattle.std.proofs.Crossing as heap
 use Rattle.std_heap.specs.contracts.Global as Heap
 use Rattle.std_heap.specs.contracts.GlobalAllocator.TheImpl.{ghosts}
 use Rattle.std_heap.proofs.Global.TheSendSync as handle
-use Rattle.mst_blocks.specs.contracts.block.Block as Block
-use Rattle.mst_blocks.specs.contracts.part.BlockPart as BlockPart
+use Rattle.mst_parts.specs.contracts.block.Block as Block
+use Rattle.mst_parts.specs.contracts.part.BlockPart as BlockPart
 use Rattle.mst_blocks.specs.contracts.writer.Writer as Writer
-use Rattle.mst_blocks.proofs.Sent.{part_send, block_send}
+use Rattle.mst_parts.proofs.Sent.{part_send, block_send}
 use Rattle.mst_blocks.proofs.writer.Writer.TheSendSync as writer
 use Rattle.mst_snapshots.specs.contracts.reader.Reader as Reader
 use Rattle.mst_snapshots.proofs.reader.Reader.TheSendSync as reader

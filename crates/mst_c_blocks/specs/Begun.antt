@@ -4,7 +4,7 @@ use Rattle.mst_key.specs.declared.history.Edit.{Edit}
 use Rattle.mst_store.specs.Passes.{Known}
 use Rattle.mst_shards.specs.BlockHistory.{Blocks, Whole}
 use Rattle.mst_blocks.specs.Blocks.{LeavesAll, RefusesPart}
-use Rattle.mst_blocks.specs.Origins.{Origin, Begun, IsOf}
+use Rattle.mst_parts.specs.Origins.{Origin, Begun, IsOf}
 use Rattle.mst_blocks.specs.declared.faults.BlockFault.{BlockFault}
 use Rattle.mst_blocks.specs.Writing.{block_map, RefusesBlock, HasMade}
 use Rattle.mst_c_blocks.specs.declared.begun.Unprepared.{Unprepared}

@@ -1,7 +1,7 @@
 -- What C is told of blocks that are made in parts.
 use Rattle.std.specs.Prelude.{◌≡◌, ◌≢◌, ◌<◌, ℕ, ℤ, pos, List, length, get_or, Bool, true, false, Option, Some, None, Result, Ok, Err}
 use Rattle.mst_key.specs.declared.history.Edit.{Edit}
-use Rattle.mst_blocks.specs.Origins.{Origin}
+use Rattle.mst_parts.specs.Origins.{Origin}
 use Rattle.mst_c.specs.Codes.{closed, wrong_state, memory, bad_shape, busy}
 use Rattle.mst_c.specs.Batches.{fault_code}
 use Rattle.mst_c.specs.declared.packing.BadEdit.{BadEdit}

@@ -6,8 +6,9 @@ ghost use Rattle.mst_c_blocks.specs.States.{IsThere};
 ghost use Rattle.mst_c_blocks.specs.declared.role_box.Role.TheVariants as role;
 
 use crate::role_box::Role;
-use mst_blocks::{Block, BlockFault, BlockPart, PartFault, Writer};
+use mst_blocks::{BlockFault, PartFault, Writer};
 use mst_c::packing::Packed;
+use mst_parts::{Block, BlockPart};
 use mst_slot::{Places, Share, Shares, Unavailable};
 use std::alloc::Global;
 use std::marker::Model;
@@ -25,7 +26,7 @@ pub struct BegunBlock {
 /// Contracts see the block. The shares are of its own parts, in their order.
 impl Model for BegunBlock {
     ghost use Rattle.std.specs.Prelude.{◌≡◌};
-    ghost use Rattle.mst_blocks.specs.Origins.{Begun};
+    ghost use Rattle.mst_parts.specs.Origins.{Begun};
 
     ghost Value = { Begun };
 
@@ -76,12 +77,15 @@ fn begin_block(
     };
     // its contract says that the writer has a pass for each shard
     let _last = writer.number();
-    match writer.begin(alloc, edits.as_slice()) {
+    match Block::begin(writer, alloc, edits.as_slice()) {
         Ok((block, parts)) => {
             let (shares, others) = places.fill(parts);
             Ok((BegunBlock { block, shares }, others))
         }
-        Err((writer, _)) => Err(writer),
+        Err((writer, _)) => {
+            drop(places);
+            Err(writer)
+        }
     }
 }
 
@@ -135,16 +139,11 @@ pub(crate) fn prepare(held: Role, alloc: Global) -> (Role, Result<(), Unprepared
     ensures there { IsThere result.0 }
 {
     match held {
-        Role::Away => unreachable!(),
-        Role::Writer(writer) => (Role::Writer(writer), Err(Unprepared::NoPart)),
-        Role::Reader(reader) => (Role::Reader(reader), Err(Unprepared::NoPart)),
-        Role::Snapshot(snapshot) => (Role::Snapshot(snapshot), Err(Unprepared::NoPart)),
-        Role::Block(begun) => (Role::Block(begun), Err(Unprepared::NoPart)),
-        Role::Part(None) => (Role::Part(None), Err(Unprepared::NoPart)),
         Role::Part(Some(share)) => {
             let (share, prepared) = prepare_share(share, alloc);
             (Role::Part(Some(share)), prepared)
         }
+        other => (other, Err(Unprepared::NoPart)),
     }
 }
 
@@ -178,12 +177,8 @@ pub(crate) fn commit(held: Role, alloc: Global) -> (Role, Result<u64, Uncommitte
     ensures there { IsThere result.0 }
 {
     match held {
-        Role::Away => unreachable!(),
-        Role::Writer(writer) => (Role::Writer(writer), Err(Uncommitted::NoBlock)),
-        Role::Reader(reader) => (Role::Reader(reader), Err(Uncommitted::NoBlock)),
-        Role::Snapshot(snapshot) => (Role::Snapshot(snapshot), Err(Uncommitted::NoBlock)),
         Role::Block(begun) => commit_block(begun, alloc),
-        Role::Part(part) => (Role::Part(part), Err(Uncommitted::NoBlock)),
+        other => (other, Err(Uncommitted::NoBlock)),
     }
 }
 
@@ -206,11 +201,7 @@ pub(crate) fn cancel(held: Role) -> (Role, Option<bool>)
     ensures there { IsThere result.0 }
 {
     match held {
-        Role::Away => unreachable!(),
-        Role::Writer(writer) => (Role::Writer(writer), None),
-        Role::Reader(reader) => (Role::Reader(reader), None),
-        Role::Snapshot(snapshot) => (Role::Snapshot(snapshot), None),
         Role::Block(begun) => cancel_block(begun),
-        Role::Part(part) => (Role::Part(part), None),
+        other => (other, None),
     }
 }

@@ -50,15 +50,11 @@ pub(crate) fn apply(held: Role, alloc: Global, packed: &Packed<'_>) -> (Role, Re
     ensures there { IsThere result.0 }
 {
     match held {
-        Role::Away => unreachable!(),
         Role::Writer(writer) => {
             let (writer, made) = make_block(writer, alloc, packed);
             (Role::Writer(writer), made)
         }
-        Role::Reader(reader) => (Role::Reader(reader), Err(Unmade::NoWriter)),
-        Role::Snapshot(snapshot) => (Role::Snapshot(snapshot), Err(Unmade::NoWriter)),
-        Role::Block(begun) => (Role::Block(begun), Err(Unmade::NoWriter)),
-        Role::Part(part) => (Role::Part(part), Err(Unmade::NoWriter)),
+        other => (other, Err(Unmade::NoWriter)),
     }
 }
 

@@ -11,10 +11,7 @@ ghost use Rattle.mst_c_blocks.specs.Proving.{HasProof, HasDirectory};
 ghost use Rattle.mst_c_blocks.specs.Reading.{OfMap, HasFormat};
 ghost use Rattle.mst_c_blocks.specs.States.{IsThere, PinsNone};
 
-use crate::asking::{
-    Unfound, Unread, directory_of, format_of, next_of, proof_of, range_of, root_of, try_of,
-    value_of,
-};
+use crate::asking::{Unfound, Unread, last_value, try_of};
 use crate::begun::{
     BegunBlock, PartShare, Uncommitted, Unprepared, begin, cancel, commit, prepare,
 };
@@ -44,8 +41,8 @@ pub enum Role {
 /// What no call writes at the end of a box.
 const PADDING: [u64; 16] = [0; 16];
 
-/// What a hand holds, with its share of the map. Each call moves it out and back, so the box ends
-/// with padding, as that of a pass.
+/// What a hand holds, with its share of the map. Calls write it, so the box ends with padding, as
+/// that of a pass.
 #[derive(Drop)]
 pub struct RoleBox {
     role: Role,
@@ -80,7 +77,10 @@ pub(crate) fn hand_out(alloc: Global, role: Role, hand: &mut BlocksHand) -> bool
             give(hand, BlocksTaken::of(held));
             true
         }
-        Err(_) => false,
+        Err(refused) => {
+            drop(refused);
+            false
+        }
     }
 }
 
@@ -93,6 +93,14 @@ pub(crate) fn hand_out_padded(alloc: Global, role: Role, hand: &mut PaddedBlocks
     hand_out(alloc, role, &mut hand.hand)
 }
 
+/// Puts a role where none is. What was there is dropped by a generic function: an assignment would
+/// unfold in its proof all that a role may own.
+fn put(place: &mut Role, role: Role)
+    ensures put { place.new ≡ role }
+{
+    drop(replace(place, role));
+}
+
 impl RoleBox {
     /// How many shards there are.
     pub(crate) fn shards(&self) -> usize
@@ -100,12 +108,10 @@ impl RoleBox {
         ensures most { result ≤ 1024 }
     {
         match &self.role {
-            Role::Away => unreachable!(),
             Role::Writer(writer) => writer.shards(),
             Role::Reader(reader) => reader.shards(),
             Role::Snapshot(snapshot) => snapshot.shards(),
-            Role::Block(_) => 0,
-            Role::Part(_) => 0,
+            _ => 0,
         }
     }
 
@@ -114,12 +120,9 @@ impl RoleBox {
         ensures number { Numbers self.now result }
     {
         match &self.role {
-            Role::Away => unreachable!(),
             Role::Writer(writer) => Some(writer.number()),
-            Role::Reader(_) => None,
             Role::Snapshot(snapshot) => Some(snapshot.number()),
-            Role::Block(_) => None,
-            Role::Part(_) => None,
+            _ => None,
         }
     }
 
@@ -127,9 +130,11 @@ impl RoleBox {
     pub(crate) fn root(&mut self) -> Option<[u8; 32]>
         ensures root { HasRoot self.old result self.new }
     {
-        let (role, root) = root_of(replace(&mut self.role, Role::Away));
-        self.role = role;
-        root
+        match &mut self.role {
+            Role::Writer(writer) => Some(writer.root()),
+            Role::Snapshot(snapshot) => Some(snapshot.root()),
+            _ => None,
+        }
     }
 
     /// Makes the edits of a buffer as the next block, if this is the writer.
@@ -137,7 +142,7 @@ impl RoleBox {
         ensures makes { Makes packed.now self.old result self.new }
     {
         let (role, made) = apply(replace(&mut self.role, Role::Away), alloc, packed);
-        self.role = role;
+        put(&mut self.role, role);
         made
     }
 
@@ -146,12 +151,8 @@ impl RoleBox {
         ensures count { result ≡ shards_to_begin self.now }
     {
         match &self.role {
-            Role::Away => None,
             Role::Writer(writer) => Some(writer.shards()),
-            Role::Reader(_) => None,
-            Role::Snapshot(_) => None,
-            Role::Block(_) => None,
-            Role::Part(_) => None,
+            _ => None,
         }
     }
 
@@ -169,7 +170,7 @@ impl RoleBox {
         ensures same { IsNone result → self.new ≡ self.old }
     {
         let (role, begun) = begin(replace(&mut self.role, Role::Away), alloc, packed);
-        self.role = role;
+        put(&mut self.role, role);
         begun
     }
 
@@ -178,7 +179,7 @@ impl RoleBox {
         requires waits { self.old ≡ role.Part None }
         ensures part { self.new ≡ role.Part (Some part) }
     {
-        self.role = Role::Part(Some(part));
+        put(&mut self.role, Role::Part(Some(part)));
     }
 
     /// Prepares the part, if this is one.
@@ -186,7 +187,7 @@ impl RoleBox {
         ensures prepares { Prepares self.old result self.new }
     {
         let (role, prepared) = prepare(replace(&mut self.role, Role::Away), alloc);
-        self.role = role;
+        put(&mut self.role, role);
         prepared
     }
 
@@ -195,7 +196,7 @@ impl RoleBox {
         ensures commits { Commits self.old result self.new }
     {
         let (role, made) = commit(replace(&mut self.role, Role::Away), alloc);
-        self.role = role;
+        put(&mut self.role, role);
         made
     }
 
@@ -204,7 +205,7 @@ impl RoleBox {
         ensures cancels { Cancels self.old result self.new }
     {
         let (role, done) = cancel(replace(&mut self.role, Role::Away));
-        self.role = role;
+        put(&mut self.role, role);
         done
     }
 
@@ -213,7 +214,7 @@ impl RoleBox {
         ensures tries { Tries self.old result self.new }
     {
         let (role, taken) = try_of(replace(&mut self.role, Role::Away));
-        self.role = role;
+        put(&mut self.role, role);
         taken
     }
 
@@ -223,25 +224,12 @@ impl RoleBox {
         ensures free { PinsNone self.new }
     {
         match replace(&mut self.role, Role::Away) {
-            Role::Away => unreachable!(),
-            Role::Writer(writer) => {
-                self.role = Role::Writer(writer);
-                false
-            }
-            Role::Reader(reader) => {
-                self.role = Role::Reader(reader);
-                false
-            }
             Role::Snapshot(snapshot) => {
-                self.role = Role::Reader(snapshot.release());
+                put(&mut self.role, Role::Reader(snapshot.release()));
                 true
             }
-            Role::Block(begun) => {
-                self.role = Role::Block(begun);
-                false
-            }
-            Role::Part(part) => {
-                self.role = Role::Part(part);
+            other => {
+                put(&mut self.role, other);
                 false
             }
         }
@@ -251,9 +239,12 @@ impl RoleBox {
     pub(crate) fn get(&mut self, key: &Key) -> Result<Option<Value>, Unfound>
         ensures gets { Gets key.now self.old result self.new }
     {
-        let (role, found) = value_of(replace(&mut self.role, Role::Away), key);
-        self.role = role;
-        found
+        match &mut self.role {
+            Role::Writer(writer) => last_value(writer, key),
+            Role::Reader(reader) => Ok(reader.get(key)),
+            Role::Snapshot(snapshot) => Ok(snapshot.get(key)),
+            _ => Err(Unfound::NoMap),
+        }
     }
 
     /// The pair of the least key above the bound, of a snapshot.
@@ -261,22 +252,25 @@ impl RoleBox {
         ensures reads { Reads (OfMap (λ m. map_next m (option_copied after.entry))) self.old result
             self.new }
     {
-        let (role, found) = next_of(replace(&mut self.role, Role::Away), after);
-        self.role = role;
-        found
+        match &mut self.role {
+            Role::Snapshot(snapshot) => Some(snapshot.next(after)),
+            _ => None,
+        }
     }
 
     /// The format of all shards, of a snapshot.
     pub(crate) fn format(&mut self) -> Option<Format>
         ensures reads { Reads HasFormat self.old result self.new }
     {
-        let (role, found) = format_of(replace(&mut self.role, Role::Away));
-        self.role = role;
-        found
+        match &mut self.role {
+            Role::Snapshot(snapshot) => Some(snapshot.format()),
+            _ => None,
+        }
     }
 
     /// The first pairs, at most `limit`, of the keys that are at least `from` and below `to`, of a
     /// snapshot.
+    #[tactic(auto, using(mst_c::proofs::Listing::range_few))]
     pub(crate) fn range(
         &mut self,
         alloc: Global,
@@ -292,10 +286,13 @@ impl RoleBox {
             (OfMap (λ m. map_range m (option_copied from.entry) (option_copied to.entry) limit))
             self.old (Err fault) self.new) }
     {
-        let role = replace(&mut self.role, Role::Away);
-        let (role, found) = range_of(role, alloc, from, to, limit);
-        self.role = role;
-        found
+        match &mut self.role {
+            Role::Snapshot(snapshot) => match snapshot.range(alloc, from, to, limit) {
+                Ok(pairs) => Ok(pairs),
+                Err(refused) => Err(Unread::Memory(refused)),
+            },
+            _ => Err(Unread::NoSnapshot),
+        }
     }
 
     /// The proof of the key's answer, of a snapshot.
@@ -305,19 +302,28 @@ impl RoleBox {
         ensures err { IfErr result
             (λ fault. Lists (HasProof key.now) self.old (Err fault) self.new) }
     {
-        let (role, found) = proof_of(replace(&mut self.role, Role::Away), alloc, key);
-        self.role = role;
-        found
+        match &mut self.role {
+            Role::Snapshot(snapshot) => match snapshot.prove(alloc, key) {
+                Ok(proof) => Ok(proof),
+                Err(refused) => Err(Unread::Memory(refused)),
+            },
+            _ => Err(Unread::NoSnapshot),
+        }
     }
 
-    /// The directory, of a snapshot.
+    /// The directory: of each shard its lower bound with the root digest and the upper bound, of a
+    /// snapshot.
     pub(crate) fn directory(&mut self, alloc: Global) -> Result<Vec<(Key, Value), Global>, Unread>
         ensures ok { IfOk result (λ pairs. Lists HasDirectory self.old (Ok pairs.items) self.new) }
         ensures few { IfOk result (λ pairs. length pairs.items ≤ 1024) }
         ensures err { IfErr result (λ fault. Lists HasDirectory self.old (Err fault) self.new) }
     {
-        let (role, found) = directory_of(replace(&mut self.role, Role::Away), alloc);
-        self.role = role;
-        found
+        match &mut self.role {
+            Role::Snapshot(snapshot) => match snapshot.directory(alloc) {
+                Ok(pairs) => Ok(pairs),
+                Err(refused) => Err(Unread::Memory(refused)),
+            },
+            _ => Err(Unread::NoSnapshot),
+        }
     }
 }

@@ -2,7 +2,7 @@
 //! write.
 ghost use Rattle.mst_c.specs.Knowing.{CountsFree, Knows};
 
-use crate::pass_box::{PassBox, State, Uncounted};
+use crate::pass_box::{PassBox, State, Uncounted, put_back};
 use mst_store::Busy;
 use std::mem::replace;
 
@@ -12,18 +12,17 @@ impl PassBox {
         ensures counts { CountsFree self.old result self.new }
     {
         match replace(&mut self.state, State::Away) {
-            State::Away => unreachable!(),
             State::Free(laid) => {
                 let mut pass = self.store.lift(laid);
                 let free = pass.free_rows();
-                self.state = State::Free(pass.lay());
+                put_back(&mut self.state, State::Free(pass.lay()));
                 match free {
                     Ok(free) => Ok(free),
                     Err(Busy) => Err(Uncounted::Busy),
                 }
             }
-            State::Pinned(laid) => {
-                self.state = State::Pinned(laid);
+            other => {
+                put_back(&mut self.state, other);
                 Err(Uncounted::Pins)
             }
         }
@@ -38,13 +37,13 @@ impl PassBox {
             State::Free(laid) => {
                 let pass = self.store.lift(laid);
                 let made = pass.made();
-                self.state = State::Free(pass.lay());
+                put_back(&mut self.state, State::Free(pass.lay()));
                 made
             }
             State::Pinned(laid) => {
                 let pinned = self.store.lift_pinned(laid);
                 let made = pinned.made();
-                self.state = State::Pinned(pinned.lay());
+                put_back(&mut self.state, State::Pinned(pinned.lay()));
                 made
             }
         }

@@ -6,7 +6,7 @@ ghost use Rattle.mst_c.specs.Formats.{Moves};
 ghost use Rattle.mst_c.specs.Holding.{Writes};
 
 use crate::packing::Packed;
-use crate::pass_box::{PassBox, State, Unapplied, Unmoved, Unwritten};
+use crate::pass_box::{PassBox, State, Unapplied, Unmoved, Unwritten, put_back};
 use mst_key::{Format, Key, Value};
 use mst_store::Pass;
 use std::alloc::Global;
@@ -32,18 +32,17 @@ impl PassBox {
         ensures writes { Writes (Put key.now value.now) self.old result self.new }
     {
         match replace(&mut self.state, State::Away) {
-            State::Away => unreachable!(),
             State::Free(laid) => {
                 let mut pass = self.store.lift(laid);
                 let put = pass.try_put(key, value);
-                self.state = State::Free(pass.lay());
+                put_back(&mut self.state, State::Free(pass.lay()));
                 match put {
                     Ok(old) => Ok(old),
                     Err(fault) => Err(Unwritten::Store(fault)),
                 }
             }
-            State::Pinned(laid) => {
-                self.state = State::Pinned(laid);
+            other => {
+                put_back(&mut self.state, other);
                 Err(Unwritten::Pins)
             }
         }
@@ -54,18 +53,17 @@ impl PassBox {
         ensures writes { Writes (Remove key.now) self.old result self.new }
     {
         match replace(&mut self.state, State::Away) {
-            State::Away => unreachable!(),
             State::Free(laid) => {
                 let mut pass = self.store.lift(laid);
                 let removed = pass.try_remove(key);
-                self.state = State::Free(pass.lay());
+                put_back(&mut self.state, State::Free(pass.lay()));
                 match removed {
                     Ok(old) => Ok(old),
                     Err(fault) => Err(Unwritten::Store(fault)),
                 }
             }
-            State::Pinned(laid) => {
-                self.state = State::Pinned(laid);
+            other => {
+                put_back(&mut self.state, other);
                 Err(Unwritten::Pins)
             }
         }
@@ -76,18 +74,17 @@ impl PassBox {
         ensures moves { Moves to self.old result self.new }
     {
         match replace(&mut self.state, State::Away) {
-            State::Away => unreachable!(),
             State::Free(laid) => {
                 let mut pass = self.store.lift(laid);
                 let moved = pass.try_migrate(alloc, to);
-                self.state = State::Free(pass.lay());
+                put_back(&mut self.state, State::Free(pass.lay()));
                 match moved {
                     Ok(was) => Ok(was),
                     Err(fault) => Err(Unmoved::Store(fault)),
                 }
             }
-            State::Pinned(laid) => {
-                self.state = State::Pinned(laid);
+            other => {
+                put_back(&mut self.state, other);
                 Err(Unmoved::Pins)
             }
         }
@@ -98,15 +95,14 @@ impl PassBox {
         ensures applies { Applies packed.now self.old result self.new }
     {
         match replace(&mut self.state, State::Away) {
-            State::Away => unreachable!(),
             State::Free(laid) => {
                 let mut pass = self.store.lift(laid);
                 let applied = apply(&mut pass, alloc, packed);
-                self.state = State::Free(pass.lay());
+                put_back(&mut self.state, State::Free(pass.lay()));
                 applied
             }
-            State::Pinned(laid) => {
-                self.state = State::Pinned(laid);
+            other => {
+                put_back(&mut self.state, other);
                 Err(Unapplied::Pins)
             }
         }

@@ -1,5 +1,5 @@
 use Rattle.std.proofs.Common.{refl, subst}
-use Rattle.mst_blocks.specs.Origins.{Begun}
+use Rattle.mst_parts.specs.Origins.{Begun}
 use Rattle.mst_c_blocks.specs.Begun.{CommitsBlock}
 use Rattle.mst_c_blocks.proofs.BlocksMade.{made_ok}
 use Rattle.mst_c_blocks.proofs.begun.commit_block.Goals as goal

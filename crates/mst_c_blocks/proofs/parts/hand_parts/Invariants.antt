@@ -1,6 +1,6 @@
 use Rattle.std.specs.Prelude.{◌≡◌, ℕ, ◌+◌, ◌<◌, ◌≤◌, length, Some, get_or, vec_len}
 use Rattle.std.specs.Vec.Iter.{into_iter_items, into_iter_len}
-use Rattle.mst_blocks.specs.Origins.{Origin}
+use Rattle.mst_parts.specs.Origins.{Origin}
 use Rattle.mst_c_blocks.specs.declared.hand.PaddedBlocksHand.{PaddedBlocksHand}
 use Rattle.mst_c_blocks.specs.declared.role_box.Role.TheVariants.{Part}
 use Rattle.mst_c_blocks.specs.Parts.{WaitsIn}
