@@ -1,5 +1,5 @@
 //! A script: the lines of a source, asked of the passes of a store, and answered into a sink.
-ghost use Rattle.std.specs.Prelude.{◌≡◌, ◌<◌, ◌-◌, ◌+◌, ◌^◌, [], IfErr, OnOk, OnErr};
+ghost use Rattle.std.specs.Prelude.{◌≡◌, ◌<◌, ◌≤◌, ◌-◌, ◌+◌, ◌^◌, [], vec_capacity, IfOk, IfErr, OnOk, OnErr};
 ghost use Rattle.mst_lines.specs.Runs.{Ran, Stopped};
 ghost use Rattle.mst_lines.specs.Driving.{Answered, Lost, Closed, NotClosed};
 ghost use Rattle.mst_script.specs.Serving.{AreAllOf, everyone, Serves};
@@ -10,7 +10,7 @@ use crate::serve::serve;
 use mst_devices::{Device, Pending, Sink, Source};
 use mst_lines::{LineBuffer, Reader};
 use mst_requests::put_answer;
-use mst_store::{Memory, Pass, Store};
+use mst_store::{Memory, Pass, Pinned, Store};
 use std::alloc::Allocator;
 use std::mem;
 use thiserror::Error;
@@ -142,6 +142,25 @@ fn settle_and_drive<S: Source, W: Sink, A: Allocator + Copy, B: Allocator + Copy
     driven
 }
 
+// What waits to be written, what is read into, and room for this many pins: each of them empty.
+type Buffers<'a, A, B> = (Pending<A>, Reader<A>, Vec<Pinned<'a, B>, A>);
+
+// Takes all the memory of a run.
+fn buffers<'a, A: Allocator + Copy, B: Allocator + Copy>(
+    alloc: A,
+    count: usize,
+) -> Result<Buffers<'a, A, B>, Memory>
+    ensures pending { IfOk result (λ all. all.0 ≡ []) }
+    ensures reader { IfOk result (λ all. all.1 ≡ []) }
+    ensures pinned { IfOk result (λ all. all.2.items ≡ []) }
+    ensures room { IfOk result (λ all. count ≤ vec_capacity all.2) }
+{
+    let pending = Pending::new(alloc)?;
+    let reader = Reader::new(alloc)?;
+    let pinned = Vec::with_capacity(alloc, count)?;
+    Ok((pending, reader, pinned))
+}
+
 /// Answers the lines of the source into the sink, up to the end of the source or to the first
 /// failure of a device. The passes settle before the first line and after each; at the end pins are
 /// ended, and they settle once more.
@@ -177,17 +196,9 @@ pub fn run<S: Source, W: Sink, A: Allocator + Copy, B: Allocator + Copy>(
     ensures memory { IfErr result (λ fault. OnMemory fault
         ((source.new ≡ source.old) × (sink.new ≡ sink.old) × (passes.new ≡ passes.old))) }
 {
-    let mut pending = match Pending::new(alloc) {
-        Ok(pending) => pending,
-        Err(refused) => return Err(RunFault::Memory(Memory::from(refused))),
-    };
-    let mut reader = match Reader::new(alloc) {
-        Ok(reader) => reader,
-        Err(refused) => return Err(RunFault::Memory(Memory::from(refused))),
-    };
-    let pinned = match Vec::with_capacity(alloc, passes.len()) {
-        Ok(pinned) => pinned,
-        Err(refused) => return Err(RunFault::Memory(Memory::from(refused))),
+    let (mut pending, mut reader, pinned) = match buffers(alloc, passes.len()) {
+        Ok(all) => all,
+        Err(refused) => return Err(RunFault::Memory(refused)),
     };
     let none = Vec::new(*passes.allocator());
     let mut all = Passes::new(mem::replace(passes, none), pinned);

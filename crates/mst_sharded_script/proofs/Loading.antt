@@ -1,6 +1,6 @@
 -- All pairs of a snapshot, and the edits that put them.
 use Rattle.std.proofs.Common.{◌≡◌, ℕ, zero, suc, ◌<◌, List, [], ◌∷◌, length, filter, take, None, Vec, true, refl, ap, ◌∙◌, subst, arith}
-use Rattle.std.specs.Prelude.{Result, Ok, Err, IfOk}
+use Rattle.std.specs.Prelude.{Result, Ok, Err, IfOk, IfErr}
 use Rattle.mst_key.specs.Map.{Pair, map_range}
 
 -- no bound binds
@@ -35,3 +35,14 @@ if_all m (Ok found) is =
     let small = found.small in
     all_found m found.items 18446744073709551615 is (omega (arith, long.0, long.1, small))
 if_all m (Err refused) is = tt
+
+-- what follows of a value follows of one that was returned, and so of an error
+pub each_ok : {T E : Type 0} (P Q : T → Type 0) (r : Result T E) → ((v : T) → P v → Q v)
+    → IfOk r P → IfOk r Q
+each_ok P Q (Ok v) follows p = follows v p
+each_ok P Q (Err e) follows p = tt
+
+pub each_err : {T E : Type 0} (P Q : E → Type 0) (r : Result T E) → ((e : E) → P e → Q e)
+    → IfErr r P → IfErr r Q
+each_err P Q (Ok v) follows p = tt
+each_err P Q (Err e) follows p = follows e p

@@ -24,13 +24,12 @@ count_readers splits shape w readers o =
     let passes = o.shaped.directory_shaped.1 in
     omega (arith, long, mapped, lots, passes)
 
--- what was dealt of a map, where the map has two names
-pub new_of : (s m : Shards) (w : Whole) (lots : List Dealt) (readers : List Whole) → m ≡ s
+-- what was dealt of a map
+pub new_of : (m : Shards) (w : Whole) (lots : List Dealt) (readers : List Whole)
     → IsWriterOf m w → HasMade [] w → readers ≡ map (reader_of m.splits) lots
-    → lots ≡ first_lots m.stores m.directory (m.directory.passes - 1) → AreNewOf s w readers
-new_of s m w lots readers same own none made dealt =
-    subst (λ (x : Shards). AreNewOf x w readers) same (record {
-      own = own;
-      none = none;
-      readers_are = made ∙ ap (λ (l : List Dealt). map (reader_of m.splits) l) dealt;
-    })
+    → lots ≡ first_lots m.stores m.directory (m.directory.passes - 1) → AreNewOf m w readers
+new_of m w lots readers own none made dealt = record {
+  own = own;
+  none = none;
+  readers_are = made ∙ ap (λ (l : List Dealt). map (reader_of m.splits) l) dealt;
+}

@@ -5,6 +5,7 @@ use Rattle.std.specs.List.{swap_remove, SwappedAt}
 use Rattle.std.proofs.lemmas.Bool.{false≢true}
 use Rattle.std.proofs.lemmas.Option.{none-some, same_Some}
 use Rattle.mst_key.specs.declared.format.Format.{Format}
+use Rattle.mst_key.specs.declared.history.Edit.{Edit}
 use Rattle.mst_requests.specs.declared.request.Command.{Command}
 use Rattle.mst_requests.specs.declared.request.Command.TheVariants.{Put, Remove, Migrate, Batch, Get, Next, Range, Root, Node, Prove, Pin, Unpin, Rows}
 use Rattle.mst_requests.specs.declared.request.Command.TheVariants as ask
@@ -56,6 +57,52 @@ looks_on ask.Format is = refl
 looks_on Rows is = refl
 looks_on Pin is = refl
 looks_on Unpin is = not_true is
+
+-- a command that is none of these is one for a snapshot
+pub other_looks : (command : Command) → ((k v : List ℕ) → command ≡ Put k v → ⊥)
+    → ((k : List ℕ) → command ≡ Remove k → ⊥) → ((es : List Edit) → command ≡ Batch es → ⊥)
+    → migration_of command ≡ None → ((k : List ℕ) → command ≡ Get k → ⊥)
+    → (command ≡ Pin → ⊥) → (command ≡ Node → ⊥) → (command ≡ Rows → ⊥)
+    → (command ≡ Unpin → ⊥) → is_look command ≡ true
+other_looks (Put k v) put remove batch other get pin node rows unpin = absurd (put k v refl)
+other_looks (Remove k) put remove batch other get pin node rows unpin = absurd (remove k refl)
+other_looks (Migrate to) put remove batch other get pin node rows unpin =
+    absurd (none-some to (sym other))
+other_looks (Batch es) put remove batch other get pin node rows unpin = absurd (batch es refl)
+other_looks (Get k) put remove batch other get pin node rows unpin = absurd (get k refl)
+other_looks (Next bound) put remove batch other get pin node rows unpin = refl
+other_looks (Range from to n) put remove batch other get pin node rows unpin = refl
+other_looks Root put remove batch other get pin node rows unpin = refl
+other_looks Node put remove batch other get pin node rows unpin = absurd (node refl)
+other_looks (Prove k) put remove batch other get pin node rows unpin = refl
+other_looks ask.Format put remove batch other get pin node rows unpin = refl
+other_looks Rows put remove batch other get pin node rows unpin = absurd (rows refl)
+other_looks Pin put remove batch other get pin node rows unpin = absurd (pin refl)
+other_looks Unpin put remove batch other get pin node rows unpin = absurd (unpin refl)
+
+-- the step of a command is that of the one that it is
+pub acts_as : (command z : Command) (before : ℕ) (w r : Whole) (text : List ℕ) (x : Whole)
+    (p : PassState) → command ≡ z → Acts z before w r text x p → Acts command before w r text x p
+acts_as command z before w r text x p is acts =
+    subst (λ (y : Command). Acts y before w r text x p) (sym is) acts
+
+-- the step of a pass that looks, while the writer waits
+pub acts_look : (command : Command) (before : ℕ) (w r : Whole) (text : List ℕ) (p : PassState)
+    → is_look command ≡ true → LooksAt command r text p → Acts command before w r text w p
+acts_look (Put k v) before w r text p is looks = not_true is
+acts_look (Remove k) before w r text p is looks = not_true is
+acts_look (Migrate to) before w r text p is looks = not_true is
+acts_look (Batch es) before w r text p is looks = not_true is
+acts_look (Get k) before w r text p is looks = not_true is
+acts_look (Next bound) before w r text p is looks = (looks, refl)
+acts_look (Range from to n) before w r text p is looks = (looks, refl)
+acts_look Root before w r text p is looks = (looks, refl)
+acts_look Node before w r text p is looks = not_true is
+acts_look (Prove k) before w r text p is looks = (looks, refl)
+acts_look ask.Format before w r text p is looks = (looks, refl)
+acts_look Rows before w r text p is looks = not_true is
+acts_look Pin before w r text p is looks = not_true is
+acts_look Unpin before w r text p is looks = not_true is
 
 -- it was released as that what it found is said of
 pub looked : (command : Command) (r y z : Whole) (text : List ℕ) (p : PassState) → Takes r y

@@ -1,5 +1,7 @@
 //! What a pass is asked for that has pinned nothing, but to migrate.
-ghost use Rattle.std.specs.Prelude.{◌≡◌, true, None};
+ghost use Rattle.std.specs.Prelude.{◌≡◌, ◌≢◌, ℕ, List, true, None};
+ghost use Rattle.mst_key.specs.declared.history.Edit.{Edit};
+ghost use Rattle.mst_requests.specs.declared.request.Command.TheVariants.{Put, Remove, Batch};
 ghost use Rattle.mst_script.specs.Machine.{IsMispinned};
 ghost use Rattle.mst_shards.specs.BlockHistory.{Whole};
 ghost use Rattle.mst_sharded_script.specs.Answers.{text_of};
@@ -53,37 +55,16 @@ fn pin<R: Wait, A: Allocator + Copy>(
     }
 }
 
-/// What a line is answered, and the writer and the pass then.
-pub type Acted<A> = (ShardedAnswer<A>, Writer<A>, ScriptPass<A>);
-
 // Asks a reader for a look-up.
-fn get<A: Allocator + Copy>(writer: Writer<A>, reader: Reader<A>, key: &Key) -> Acted<A>
-    ensures gets { (q : Whole) × Gets key.now reader (text_of result.0) q × (result.2 ≡ Free q) }
-    ensures same { result.1 ≡ writer }
+fn get<A: Allocator + Copy>(reader: Reader<A>, key: &Key) -> (ShardedAnswer<A>, ScriptPass<A>)
+    ensures gets { (q : Whole) × Gets key.now reader (text_of result.0) q × (result.1 ≡ Free q) }
 {
     let mut reader = reader;
     let found = reader.get(key);
     (
         ShardedAnswer::Store(Answer::Value(found)),
-        writer,
         ScriptPass::free(reader),
     )
-}
-
-// Reads by a snapshot, while the writer waits.
-fn read<R: Wait, A: Allocator + Copy>(
-    rt: &R,
-    alloc: A,
-    writer: Writer<A>,
-    reader: Reader<A>,
-    command: &Command<'_>,
-) -> Acted<A>
-    requires look { is_look command.now ≡ true }
-    ensures looks { LooksAt command.now reader (text_of result.0) result.2 }
-    ensures same { result.1 ≡ writer }
-{
-    let (answer, pass) = look(rt, alloc, reader, command);
-    (answer, writer, pass)
 }
 
 // The answer of a pass that has pinned nothing and is to end a pin.
@@ -93,18 +74,32 @@ fn mispinned<A: Allocator>() -> ShardedAnswer<A>
     ShardedAnswer::Store(Answer::Refused(Fault::Pinning))
 }
 
-// Tells what a pass may not be asked for.
-fn refuse<A: Allocator + Copy>(
-    writer: Writer<A>,
+// Asks a reader for what makes no block. The writer waits meanwhile.
+fn read<R: Wait, A: Allocator + Copy>(
+    rt: &R,
+    alloc: A,
     reader: Reader<A>,
-    why: ShardedAnswer<A>,
-) -> Acted<A>
-    ensures told { text_of result.0 ≡ text_of why }
-    ensures free { result.2 ≡ Free reader }
-    ensures same { result.1 ≡ writer }
+    command: &Command<'_>,
+    before: u64,
+) -> (ShardedAnswer<A>, ScriptPass<A>)
+    requires put { (k v : List ℕ) → command.now ≢ Put k v }
+    requires remove { (k : List ℕ) → command.now ≢ Remove k }
+    requires batch { (es : List Edit) → command.now ≢ Batch es }
+    requires other { migration_of command.now ≡ None }
+    ensures { (w : Whole) → Acts command.now before w reader (text_of result.0) w result.1 }
 {
-    (why, writer, ScriptPass::free(reader))
+    match command {
+        Command::Get(key) => get(reader, key),
+        Command::Pin => pin(rt, reader, before),
+        Command::Node => (ShardedAnswer::NoSuch, ScriptPass::free(reader)),
+        Command::Rows => (ShardedAnswer::NoSuch, ScriptPass::free(reader)),
+        Command::Unpin => (mispinned(), ScriptPass::free(reader)),
+        _ => look(rt, alloc, reader, command),
+    }
 }
+
+/// What a line is answered, and the writer and the pass then.
+pub type Acted<A> = (ShardedAnswer<A>, Writer<A>, ScriptPass<A>);
 
 /// Lets a pass do what it is asked for that has pinned nothing.
 pub fn act<R: Wait, A: Allocator + Copy>(
@@ -131,19 +126,9 @@ pub fn act<R: Wait, A: Allocator + Copy>(
             let (answer, writer) = apply(alloc, writer, edits);
             (answer, writer, ScriptPass::free(reader))
         }
-        Command::Get(key) => get(writer, reader, key),
-        Command::Next(_) => read(rt, alloc, writer, reader, command),
-        Command::Range(..) => read(rt, alloc, writer, reader, command),
-        Command::Root => read(rt, alloc, writer, reader, command),
-        Command::Prove(_) => read(rt, alloc, writer, reader, command),
-        Command::Format => read(rt, alloc, writer, reader, command),
-        Command::Pin => {
-            let (answer, pass) = pin(rt, reader, before);
+        _ => {
+            let (answer, pass) = read(rt, alloc, reader, command, before);
             (answer, writer, pass)
         }
-        Command::Node => refuse(writer, reader, ShardedAnswer::NoSuch),
-        Command::Rows => refuse(writer, reader, ShardedAnswer::NoSuch),
-        Command::Unpin => refuse(writer, reader, mispinned()),
-        Command::Migrate(_) => unreachable!(),
     }
 }

@@ -1,5 +1,6 @@
 //! Migrations: a map in the other format is opened, and takes the place of the old one.
 ghost use Rattle.std.specs.Prelude.{◌≡◌, ◌≢◌, true, false, length, IfOk, IfErr, IfSome};
+ghost use Rattle.mst_shards.specs.BlockHistory.{Whole};
 ghost use Rattle.mst_shards.specs.Sharding.{map_of};
 ghost use Rattle.mst_sharded_script.specs.Answers.{text_of};
 ghost use Rattle.mst_sharded_script.specs.Serving.{puts_of, Loads, LacksMap, MovesTo, Moves, Migrates};
@@ -50,6 +51,31 @@ fn puts_in<A: Allocator + Copy>(
     puts(alloc, pairs)
 }
 
+// Opens a map in a format, and makes these edits in it, as its block 1.
+fn open_with<R: Wait, A: Allocator + Copy>(
+    rt: &R,
+    alloc: A,
+    layout: &Layout<A>,
+    to: Format,
+    edits: &[Edit],
+) -> Result<Roles<A>, ShardedAnswer<A>>
+    ensures ok { IfOk result (λ roles. (y : Whole) → edits.now ≡ puts_of (map_of y.sharding)
+        → Loads to layout.now y roles.0 roles.1.items) }
+    ensures count { IfOk result (λ roles. length roles.1.items ≡ layout.now.shape.passes) }
+    ensures err { IfErr result (λ answer. (y : Whole) → edits.now ≡ puts_of (map_of y.sharding)
+        → LacksMap to layout.now y (text_of answer)) }
+{
+    let (begun, readers) = match open_map(rt, alloc, layout.splits(), layout.shape_in(to)) {
+        Ok(roles) => roles,
+        Err(refused) => return Err(ShardedAnswer::Store(Answer::Memory(refused))),
+    };
+    let (writer, made) = begun.apply(alloc, edits);
+    match made {
+        Ok(_) => Ok((writer, readers)),
+        Err(fault) => Err(block_answer(fault)),
+    }
+}
+
 // Opens a map in a format, and puts all pairs of a snapshot into it, as its block 1.
 fn load<R: Wait, A: Allocator + Copy>(
     rt: &R,
@@ -65,18 +91,9 @@ fn load<R: Wait, A: Allocator + Copy>(
         (λ answer. LacksMap to layout.now snapshot.old (text_of answer)) }
     ensures same { snapshot.new ≡ snapshot.old }
 {
-    let edits = match puts_in(alloc, snapshot) {
-        Ok(edits) => edits,
-        Err(refused) => return Err(ShardedAnswer::Store(Answer::Memory(refused))),
-    };
-    let (begun, readers) = match open_map(rt, alloc, layout.splits(), layout.shape_in(to)) {
-        Ok(roles) => roles,
-        Err(refused) => return Err(ShardedAnswer::Store(Answer::Memory(refused))),
-    };
-    let (writer, made) = begun.apply(alloc, edits.as_slice());
-    match made {
-        Ok(_) => Ok((writer, readers)),
-        Err(fault) => Err(block_answer(fault)),
+    match puts_in(alloc, snapshot) {
+        Ok(edits) => open_with(rt, alloc, layout, to, edits.as_slice()),
+        Err(refused) => Err(ShardedAnswer::Store(Answer::Memory(refused))),
     }
 }
 

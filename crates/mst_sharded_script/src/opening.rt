@@ -1,15 +1,16 @@
 //! The opening of a map for a script: its writer, and a reader for each pass.
-ghost use Rattle.std.specs.Prelude.{◌≡◌, ◌↔◌, true, length, map, IfOk, IfSome};
+ghost use Rattle.std.specs.Prelude.{◌≡◌, ◌↔◌, true, [], length, map, IfOk, IfSome};
 ghost use Rattle.std.specs.Arc.{arc_value};
 ghost use Rattle.std.specs.List.{AllByRecursion};
 ghost use Rattle.mst_store.specs.Passes.{IsShape};
 ghost use Rattle.mst_shards.specs.Opening.{IsLot, seats_of};
 ghost use Rattle.mst_shards.specs.Sharding.{IsSplits};
+ghost use Rattle.mst_blocks.specs.Writing.{IsWriterOf, HasMade};
 ghost use Rattle.mst_sharded_script.specs.Opening.{IsScriptShape, with_writer as shape_with_writer, reader_of, AreNewOf, Opens};
 
 use mst_blocks::{BlockFault, PartFault, Writer};
 use mst_key::{Key, Memory};
-use mst_shards::{AllSeats, Lot, Sharded, ShardsFault};
+use mst_shards::{AllSeats, Lot, Sharded, ShardsFault, WriterLot};
 use mst_snapshots::Reader;
 use mst_store::{ApplyFault, Shape, is_shape};
 use mst_words::layout::MOST_PASSES;
@@ -66,8 +67,46 @@ fn readers_of<A: Allocator + Copy>(
     Ok(readers)
 }
 
+// The writer of a map, of what was dealt to it. Returns `None` if the directory refused the edits
+// that list the empty map, but for memory.
+fn writer_of<A: Allocator + Copy>(
+    alloc: A,
+    map: &Arc<Sharded<A>, A>,
+    lot: WriterLot<A>,
+) -> Result<Option<Writer<A>>, Memory>
+    requires lot { IsLot (arc_value map.now) lot }
+    ensures own { IfOk result (λ made. IfSome made (λ w. IsWriterOf (arc_value map.now) w)) }
+    ensures none { IfOk result (λ made. IfSome made (λ w. HasMade [] w)) }
+{
+    match Writer::new(map, alloc, lot) {
+        Ok(writer) => Ok(Some(writer)),
+        Err(BlockFault::Memory(refused)) => Err(refused),
+        Err(BlockFault::Directory(PartFault::Refused(ApplyFault::Memory(refused)))) => Err(refused),
+        Err(_) => Ok(None),
+    }
+}
+
 /// The writer and the readers of a map.
 pub type Roles<A> = (Writer<A>, Vec<Reader<A>, A>);
+
+// The writer and the readers of a map, of its seats. Returns `None` if there is no writer.
+fn roles_of<A: Allocator + Copy>(
+    alloc: A,
+    map: &Arc<Sharded<A>, A>,
+    seats: AllSeats<A>,
+) -> Result<Option<Roles<A>>, Memory>
+    requires own { seats ≡ seats_of (arc_value map.now) }
+    ensures new { IfOk result
+        (λ dealt. IfSome dealt (λ roles. AreNewOf (arc_value map.now) roles.0 roles.1.items)) }
+{
+    let (lot, lots) = map.deal(alloc, seats)?;
+    let readers = readers_of(alloc, map, lots)?;
+    let made = writer_of(alloc, map, lot)?;
+    match made {
+        Some(writer) => Ok(Some((writer, readers))),
+        None => Ok(None),
+    }
+}
 
 // Deals a map. Returns `None` if its directory refused the edits that list the empty map, but for
 // memory.
@@ -81,14 +120,7 @@ fn deal_map<A: Allocator + Copy>(
         (λ dealt. IfSome dealt (λ roles. AreNewOf map roles.0 roles.1.items)) }
 {
     let map = Arc::new(alloc, map)?;
-    let (lot, lots) = map.deal(alloc, seats)?;
-    let readers = readers_of(alloc, &map, lots)?;
-    match Writer::new(&map, alloc, lot) {
-        Ok(writer) => Ok(Some((writer, readers))),
-        Err(BlockFault::Memory(refused)) => Err(refused),
-        Err(BlockFault::Directory(PartFault::Refused(ApplyFault::Memory(refused)))) => Err(refused),
-        Err(_) => Ok(None),
-    }
+    roles_of(alloc, &map, seats)
 }
 
 // Opens a map once.

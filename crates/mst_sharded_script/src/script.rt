@@ -57,10 +57,16 @@ fn finish<R: Wait, W: Sink, A: Allocator + Copy>(
     ensures failed { OnErr result (W.failures sink.old < W.failures sink.new) }
 {
     if line.is_empty() {
+        drop(script);
         return pending.flush(sink);
     }
-    let _last = answer_line(rt, alloc, sink, pending, line, script)?;
-    pending.flush(sink)
+    match answer_line(rt, alloc, sink, pending, line, script) {
+        Ok(last) => {
+            drop(last);
+            pending.flush(sink)
+        }
+        Err(device) => Err(device),
+    }
 }
 
 // Answers all lines.
@@ -96,6 +102,16 @@ fn drive<R: Wait, S: Source, W: Sink, A: Allocator + Copy>(
     finish(rt, alloc, sink, pending, &line, script)
 }
 
+// Takes the memory for what waits to be written and for what is read into.
+fn buffers<A: Allocator + Copy>(alloc: A) -> Result<(Pending<A>, Reader<A>), Memory>
+    ensures pending { IfOk result (λ both. both.0 ≡ []) }
+    ensures reader { IfOk result (λ both. both.1 ≡ []) }
+{
+    let pending = Pending::new(alloc)?;
+    let reader = Reader::new(alloc)?;
+    Ok((pending, reader))
+}
+
 /// Answers the lines of the source into the sink, up to the end of the source or to the first
 /// failure of a device. The number in front of a line is that of a pass, from 1. A read of the
 /// whole map waits while a block is just being published, which no script does.
@@ -127,13 +143,9 @@ pub fn run<R: Wait, S: Source, W: Sink, A: Allocator + Copy>(
     ensures memory { IfErr result (λ fault. OnMemory fault
         ((source.new ≡ source.old) × (sink.new ≡ sink.old))) }
 {
-    let mut pending = match Pending::new(alloc) {
-        Ok(pending) => pending,
-        Err(refused) => return Err(RunFault::Memory(Memory::from(refused))),
-    };
-    let mut reader = match Reader::new(alloc) {
-        Ok(reader) => reader,
-        Err(refused) => return Err(RunFault::Memory(Memory::from(refused))),
+    let (mut pending, mut reader) = match buffers(alloc) {
+        Ok(both) => both,
+        Err(refused) => return Err(RunFault::Memory(refused)),
     };
     match drive(rt, alloc, source, sink, &mut pending, &mut reader, script) {
         Ok(()) => Ok(()),

@@ -25,67 +25,11 @@ returns-in-Err-clause-device g c = search rules
 pub returns-in-Err-clause-memory : goal.returns-in-Err-clause-memory
 returns-in-Err-clause-memory g c = search rules
 
-pub returns-in-Err-new-clause-whole : goal.returns-in-Err-new-clause-whole
-returns-in-Err-new-clause-whole g c = search rules
-
-pub returns-in-Err-new-clause-ok : goal.returns-in-Err-new-clause-ok
-returns-in-Err-new-clause-ok g c = search rules
-
-pub returns-in-Err-new-clause-ended : goal.returns-in-Err-new-clause-ended
-returns-in-Err-new-clause-ended g c = search rules
-
-pub returns-in-Err-new-clause-steady_source : goal.returns-in-Err-new-clause-steady_source
-returns-in-Err-new-clause-steady_source g c = search rules
-
-pub returns-in-Err-new-clause-steady_sink : goal.returns-in-Err-new-clause-steady_sink
-returns-in-Err-new-clause-steady_sink g c = search rules
-
-pub returns-in-Err-new-clause-stopped : goal.returns-in-Err-new-clause-stopped
-returns-in-Err-new-clause-stopped g c = search rules
-
-pub returns-in-Err-new-clause-device : goal.returns-in-Err-new-clause-device
-returns-in-Err-new-clause-device g c = search rules
-
-pub returns-in-Err-new-clause-memory : goal.returns-in-Err-new-clause-memory
-returns-in-Err-new-clause-memory g c = search rules
-
-pub same-pending : goal.same-pending
-same-pending g c = search rules
-
-pub returns-in-Err-with_capacity-clause-whole : goal.returns-in-Err-with_capacity-clause-whole
-returns-in-Err-with_capacity-clause-whole g c = search rules
-
-pub returns-in-Err-with_capacity-clause-ok : goal.returns-in-Err-with_capacity-clause-ok
-returns-in-Err-with_capacity-clause-ok g c = search rules
-
-pub returns-in-Err-with_capacity-clause-ended : goal.returns-in-Err-with_capacity-clause-ended
-returns-in-Err-with_capacity-clause-ended g c = search rules
-
-pub returns-in-Err-with_capacity-clause-steady_source :
-    goal.returns-in-Err-with_capacity-clause-steady_source
-returns-in-Err-with_capacity-clause-steady_source g c = search rules
-
-pub returns-in-Err-with_capacity-clause-steady_sink :
-    goal.returns-in-Err-with_capacity-clause-steady_sink
-returns-in-Err-with_capacity-clause-steady_sink g c = search rules
-
-pub returns-in-Err-with_capacity-clause-stopped : goal.returns-in-Err-with_capacity-clause-stopped
-returns-in-Err-with_capacity-clause-stopped g c = search rules
-
-pub returns-in-Err-with_capacity-clause-device : goal.returns-in-Err-with_capacity-clause-device
-returns-in-Err-with_capacity-clause-device g c = search rules
-
-pub returns-in-Err-with_capacity-clause-memory : goal.returns-in-Err-with_capacity-clause-memory
-returns-in-Err-with_capacity-clause-memory g c = search rules
-
 pub new-all-requires-clause-empty : goal.new-all-requires-clause-empty
 new-all-requires-clause-empty g c = search rules
 
 pub new-all-requires-clause-room : goal.new-all-requires-clause-room
 new-all-requires-clause-room g c = search rules
-
-pub same-reader : goal.same-reader
-same-reader g c = search rules
 
 pub settle_and_drive-driven-requires-clause-source :
     goal.settle_and_drive-driven-requires-clause-source

@@ -1,6 +1,6 @@
 use Rattle.std.proofs.Common.{ℕ, List, [], refl, sym, subst}
 use Rattle.mst_sharded_script.specs.Serving.{Serves}
-use Rattle.mst_devices.proofs.Putting.{on_err, map_ok, map_err}
+use Rattle.mst_devices.proofs.Putting.{map_ok, map_err}
 use Rattle.mst_lines.proofs.Driving.{not_both, nothing_closed, answered_not_closed}
 use Rattle.mst_sharded_script.proofs.script.finish.Goals as goal
 
@@ -11,10 +11,10 @@ returns-then-is_empty-clause-ok g c = map_ok c.flush.result c.flush.ensures.ok (
       c.args.pending.now c.args.script (c.is_empty.ensures.0 c.if-is_empty.true) taken,
 ))
 
-pub returns-clause-ok : goal.returns-clause-ok
-returns-clause-ok g c = map_ok c.flush-2.result c.flush-2.ensures.ok (λ taken.
-    let an = c.in_ok-_last.ensures.ok in (
-      c.in_ok-_last._last,
+pub returns-in-Ok-clause-ok : goal.returns-in-Ok-clause-ok
+returns-in-Ok-clause-ok g c = map_ok c.flush-in-Ok.result c.flush-in-Ok.ensures.ok (λ taken.
+    let an = c.in-Ok.ensures.ok in (
+      c.in-Ok.last,
       record {
         text = an.text;
         rests = record {
@@ -23,21 +23,21 @@ returns-clause-ok g c = map_ok c.flush-2.result c.flush-2.ensures.ok (λ taken.
           reply = λ _. an.reply;
         };
         taken =
-            subst (λ (l : List ℕ). g.W.Sink.takes c.args.sink.now l c.flush-2.new.sink)
+            subst (λ (l : List ℕ). g.W.Sink.takes c.args.sink.now l c.flush-in-Ok.new.sink)
             (sym an.puts.rest)
-            (g.met.W.Sink.takes_more c.args.sink.now c.answer_line.new.sink c.flush-2.new.sink
+            (g.met.W.Sink.takes_more c.args.sink.now c.answer_line.new.sink c.flush-in-Ok.new.sink
             an.puts.taken c.answer_line.new.pending an.puts.takes_them taken);
       },
     ))
 
-pub returns-clause-err : goal.returns-clause-err
-returns-clause-err g c = map_err c.flush-2.result c.flush-2.ensures.err (λ broke. (
-  c.in_ok-_last._last,
+pub returns-in-Ok-clause-err : goal.returns-in-Ok-clause-err
+returns-in-Ok-clause-err g c = map_err c.flush-in-Ok.result c.flush-in-Ok.ensures.err (λ broke. (
+  c.in-Ok.last,
   answered_not_closed g.W.Sink.takes g.met.W.Sink.takes_more Serves c.args.line.now
-      c.args.sink.now c.answer_line.new.sink c.flush-2.new.sink c.args.pending.now
-      c.answer_line.new.pending c.args.script c.in_ok-_last._last
+      c.args.sink.now c.answer_line.new.sink c.flush-in-Ok.new.sink c.args.pending.now
+      c.answer_line.new.pending c.args.script c.in-Ok.last
       (λ e. not_both c.is_empty.result (c.is_empty.ensures.1 e) c.if-is_empty.false)
-      c.in_ok-_last.ensures.ok broke,
+      c.in-Ok.ensures.ok broke,
 ))
 
 pub returns-then-is_empty-clause-err : goal.returns-then-is_empty-clause-err
@@ -53,10 +53,9 @@ returns-then-is_empty-clause-err g c = map_err c.flush.result c.flush.ensures.er
   },
 ))
 
-pub returns-in_err-_last-clause-err : goal.returns-in_err-_last-clause-err
-returns-in_err-_last-clause-err g c =
-    let lost = c.in_err-_last.ensures.err in
-    on_err c.from_residual.result (
+pub returns-in-Err-clause-err : goal.returns-in-Err-clause-err
+returns-in-Err-clause-err g c =
+    let lost = c.in-Err.ensures.err in (
       lost.0,
       record {
         text = lost.1.text;
