@@ -1,4 +1,4 @@
-use Rattle.std.proofs.Common.{ℕ, ◌+◌, List, [], ◌∷◌, ◌++◌, ◌∙◌, ap}
+use Rattle.std.proofs.Common.{◌≡◌, ℕ, ◌+◌, List, [], ◌∷◌, ◌++◌, ◌∙◌, ap, arith, replicate}
 use Rattle.std.proofs.lemmas.List.{replicate_more}
 use Rattle.mst_arena.proofs.desk.copies.Goals as goal
 
@@ -10,3 +10,13 @@ loop-preserved g c = record {
   len = c.push_reserved.ensures.len ∙ ap (λ (n : ℕ). n + 1) c.loop.invariant.len;
   room = c.push_reserved.ensures.capacity ∙ c.loop.invariant.room;
 }
+
+pub returns : goal.returns
+returns g c =
+    let all : c.loop.counter ≡ c.args.count = omega arith in
+    record {
+      ok = (
+        c.loop.invariant.items ∙ ap (λ (n : ℕ). replicate n c.args.value) all,
+        c.loop.invariant.room,
+      );
+    }

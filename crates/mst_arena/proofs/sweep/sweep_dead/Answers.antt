@@ -70,3 +70,8 @@ returns-else-free_unreached-clause-lists g c =
       c.free_unreached.ensures.dead_room,
       c.free_unreached.ensures.room,
     )
+
+pub free_unreached-requires-clause-rising : goal.free_unreached-requires-clause-rising
+free_unreached-requires-clause-rising g c =
+    λ _. subst (λ (l : List ℕ). IsNonDecreasing l) (sym c.deref.ensures.value)
+    c.if-remember.ensures.remembered.1

@@ -1,10 +1,10 @@
-use Rattle.std.proofs.Common.{◌≡◌, ◌<◌, ◌≤◌, ◌+◌, ◌++◌, List, ℕ, Bool, length, get_or, sym, ◌∙◌, subst, arith, Some}
+use Rattle.std.proofs.Common.{◌≡◌, ◌<◌, ◌≤◌, ◌+◌, ◌++◌, List, ℕ, Bool, length, get_or, sym, ◌∙◌, subst, arith, Some, ap}
 use Rattle.std.specs.Prelude.{slice_get, slice_set}
 use Rattle.std.proofs.lemmas.Option.{slice_get-get_or}
 use Rattle.mst_arena.specs.declared.life.Life.{Life}
 use Rattle.mst_arena.specs.declared.life.Life.TheVariants.{Free}
 use Rattle.mst_arena.specs.Lives.{is_free}
-use Rattle.mst_arena.proofs.UndoLemmas.{Undoing, added, undo_step, undo_end, undo_lists}
+use Rattle.mst_arena.proofs.UndoLemmas.{Undoing, added, undo_step, undo_end, undo_lists, was_free, stays_free}
 use Rattle.mst_arena.proofs.undo.undo_all.Goals as goal
 
 pub loop-row-preserved : goal.loop-row-preserved
@@ -50,3 +50,26 @@ returns-clause-dead g c =
     let test = c.loop-row-test.false in
     undo_lists c.args.next c.loop-row.row c.args.lives.now c.loop-row.lives c.loop-row.free
     c.loop-row.dead.items c.loop-row.invariant.undoing (omega (arith, len, test))
+
+pub note_free-requires-clause-was : goal.note_free-requires-clause-was
+note_free-requires-clause-was g c =
+    let k = c.loop-row.row in
+    let lives = c.loop-row.lives in
+    let len = c.loop-row.auto.lives in
+    let test = c.loop-row-test.true in
+    let low : k < length lives = omega (arith, len, test) in
+    was_free c.args.next k c.args.lives.now lives c.loop-row.free c.loop-row.dead.items
+    c.loop-row.invariant.undoing (get_or lives k Free) (slice_get-get_or lives k Free low)
+
+pub note_free-requires-clause-more : goal.note_free-requires-clause-more
+note_free-requires-clause-more g c =
+    λ free. ap is_free c.undone-now.ensures.undone
+    ∙ stays_free c.args.next (get_or c.loop-row.lives c.loop-row.row Free) free
+
+pub returns-clause-free : goal.returns-clause-free
+returns-clause-free g c =
+    c.loop-row.invariant.undoing.free_is
+
+pub returns-clause-room : goal.returns-clause-room
+returns-clause-room g c =
+    c.loop-row.invariant.room

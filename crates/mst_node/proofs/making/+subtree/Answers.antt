@@ -1,7 +1,7 @@
-use Rattle.std.proofs.Common.{◌≡◌, ◌≢◌, ◌≤◌, ◌+◌, [], length, ℕ, ◌<◌, ◌∙◌, sym, ap, subst, arith, map, rules}
+use Rattle.std.proofs.Common.{◌≡◌, ◌≢◌, ◌≤◌, ◌+◌, [], length, ℕ, zero, suc, false, ◌<◌, ◌∙◌, sym, ap, subst, arith, map, rules}
 use Rattle.std.proofs.lemmas.List.{map-append}
 use Rattle.std.proofs.lemmas.Bool.Decides.{nat_tests}
-use Rattle.std.specs.Prelude.{slice_range}
+use Rattle.std.specs.Prelude.{◌==◌, slice_range}
 use Rattle.mst_node.specs.Tree.{Tree, tree, greatest, node, entries_of, last}
 use Rattle.mst_node.specs.Shape.{TreeEntry, tree_entry, with_entries}
 use Rattle.mst_key.specs.Layer.{layer_in}
@@ -10,6 +10,20 @@ use Rattle.mst_node.proofs.Heights.{height_of, height_some, low_none, low_more}
 use Rattle.mst_node.proofs.LayersByPlace.{layers-part, layers-length, layer-at}
 use Rattle.mst_node.proofs.making.+subtree.Goals as goal
 use Rattle.mst_node.proofs.making.+subtree.Goals.{then-layers-i+in_ok-child+in_ok-push, else-layers-i}
+
+-- what numbers say by themselves, so that nothing else in reach is read
+some_pairs : (n : ℕ) → false ≡ (n == 0) → 0 < n
+some_pairs zero is = cc
+some_pairs (suc n) is = omega arith
+
+gap_behind : (start i : ℕ) → start ≡ i + 1 → start ≤ i + 1
+gap_behind start i is = omega (arith, is)
+
+gap_kept : (now start i : ℕ) → now ≡ start → start ≤ i → now ≤ i + 1
+gap_kept now start i is gap = omega (arith, is, gap)
+
+none_first : (start i : ℕ) → start ≡ i + 1 → start ≡ 0 → ⊥
+none_first start i is first = omega (arith, is, first)
 
 pub returns-then-is_empty : goal.returns-then-is_empty
 returns-then-is_empty g t c =
@@ -21,7 +35,7 @@ returns-then-is_empty g t c =
 
 pub loop-i-init : goal.loop-i-init
 loop-i-init g t c =
-    let some : 0 < length c.args.pairs.now = grind (arith, nat_tests, c.if-is_empty.ensures) in
+    let some = some_pairs (length c.args.pairs.now) c.if-is_empty.ensures in
     let top : c.greatest_of-top.result ≡ greatest
     (map (λ p. layer_in c.args.format p.0) c.args.pairs.now) =
     c.greatest_of-top.ensures.greatest ∙ ap greatest c.requires.layers in
@@ -35,7 +49,7 @@ loop-i-init g t c =
 pub subtree-requires : goal.subtree-requires
 subtree-requires g t c κs within =
     let m = c.args.pairs.now in
-    let some : 0 < length m = grind (arith, nat_tests, c.if-is_empty.ensures) in
+    let some = some_pairs (length m) c.if-is_empty.ensures in
     let top : c.greatest_of-top.result ≡ greatest (map (λ p. layer_in c.args.format p.0) m) =
     c.greatest_of-top.ensures.greatest ∙ ap greatest c.requires.layers in (
       omega (
@@ -56,7 +70,7 @@ pub loop-i-preserved : goal.loop-i-preserved
 loop-i-preserved g t c =
     let m = c.args.pairs.now in
     let x = c.index-pairs-i.result in
-    let within : c.loop-i.i < length m = omega arith in
+    let within : c.loop-i.i < length m = c.loop-i-test.true in
     let place = layer-at (layer_in c.args.format) m c.args.layers.now c.loop-i.i x c.requires.layers
     within c.index-pairs-i.is in
     let top : c.greatest_of-top.result ≡ greatest
@@ -71,7 +85,7 @@ loop-i-preserved g t c =
           (tree c.args.format (slice_range m c.loop-i.start c.loop-i.i)) =
           w.entry_of.ensures.entry c.args.format ∙ ap entry_is w.in_ok-child.ensures.tree in
           record {
-            gap = omega (arith, w.start-is);
+            gap = gap_behind _ _ w.start-is;
             low = rw w.start-is
                 (low_none (layer_in c.args.format) m (c.loop-i.i + 1) c.greatest_of-top.result);
             entries = rw (w.start-is, w.entries-is, w.in_ok-push.ensures.items, map-append)
@@ -79,13 +93,13 @@ loop-i-preserved g t c =
                 (map (tree_entry c.args.format) c.loop-i.entries.items)
                 (tree_entry c.args.format w.entry_of.result) _ within c.index-pairs-i.is at
                 is c.loop-i.invariant.entries);
-            some = λ z. absurd (omega (arith, z, w.start-is));
+            some = λ z. absurd (none_first _ _ w.start-is z);
           }
       | else-layers-i w ↦
           let other : layer_in c.args.format x.0 ≢ c.greatest_of-top.result =
           λ e. w.if-layers-i.false (place ∙ e) in
           record {
-            gap = omega (arith, w.start-is);
+            gap = gap_kept _ _ _ w.start-is c.loop-i.invariant.gap;
             low = rw w.start-is
                 (low_more (layer_in c.args.format) m x c.loop-i.start c.loop-i.i
                 c.greatest_of-top.result c.loop-i.invariant.gap within c.index-pairs-i.is top other
@@ -103,7 +117,7 @@ pub subtree-requires-2 : goal.subtree-requires-2
 subtree-requires-2 g t c κs within =
     let m = c.args.pairs.now in
     let start = c.loop-i.start in
-    let some : 0 < length m = grind (arith, nat_tests, c.if-is_empty.ensures) in
+    let some = some_pairs (length m) c.if-is_empty.ensures in
     let top : c.greatest_of-top.result ≡ greatest (map (λ p. layer_in c.args.format p.0) m) =
     c.greatest_of-top.ensures.greatest ∙ ap greatest c.requires.layers in
     let end : c.loop-i.i ≡ length m = omega (arith, c.loop-i-test.false) in
@@ -124,7 +138,7 @@ subtree-requires-2 g t c κs within =
 pub returns : goal.returns
 returns g t c =
     let m = c.args.pairs.now in
-    let some : 0 < length m = grind (arith, nat_tests, c.if-is_empty.ensures) in
+    let some = some_pairs (length m) c.if-is_empty.ensures in
     let end : c.loop-i.i ≡ length m = omega arith in
     let xs = map (tree_entry c.args.format) c.loop-i.entries.items in
     let l = c.greatest_of-top.result in
@@ -183,7 +197,7 @@ slice_bounds-subtree-end-then-layers-i g t c =
     )
 
 pub returns-in_err-child : goal.returns-in_err-child
-returns-in_err-child g t c = search rules
+returns-in_err-child g t c = record { tree = search rules }
 
 pub returns-in_err-push : goal.returns-in_err-push
 returns-in_err-push g t c = search rules
@@ -223,7 +237,7 @@ pub slice_bounds-subtree-end-3 : goal.slice_bounds-subtree-end-3
 slice_bounds-subtree-end-3 g t c = search rules
 
 pub returns-in_err-tail : goal.returns-in_err-tail
-returns-in_err-tail g t c = search rules
+returns-in_err-tail g t c = record { tree = search rules }
 
 pub returns-in_err-node_of : goal.returns-in_err-node_of
 returns-in_err-node_of g t c = search rules

@@ -1,3 +1,4 @@
+use Rattle.std.proofs.lemmas.Grind.{common_steps}
 use Rattle.std.proofs.Common.{◌≡◌, ◌+◌, ◌++◌, ℕ, List, get_or, take, drop, sym, ap, ◌∙◌, subst, rules, arith}
 use Rattle.mst_devices.specs.Device.{Puts, Breaks}
 use Rattle.mst_requests.specs.Texts.{line_of, pair_words, pair_lines}
@@ -34,3 +35,36 @@ loop-key-preserved g c = let i = c.loop-key.key-index in let ps = c.args.pairs.n
           c.args.pending.now c.loop-key.pending c.put.new.self (pair_lines (take i ps))
           c.as_slice.result.now c.loop-key.invariant.puts c.in_ok-put.ensures.ok);
     }
+
+pub loop-key-init : goal.loop-key-init
+loop-key-init g c = search rules
+
+pub offset_bounds-pairs-key-index : goal.offset_bounds-pairs-key-index
+offset_bounds-pairs-key-index g c = search rules
+
+pub as_slice-requires : goal.as_slice-requires
+as_slice-requires g c = search rules
+
+pub put-requires : goal.put-requires
+put-requires g c = search rules
+
+pub returns-in_err-put-clause-ok : goal.returns-in_err-put-clause-ok
+returns-in_err-put-clause-ok g c = search rules
+
+pub returns-in_err-put-clause-steady : goal.returns-in_err-put-clause-steady
+returns-in_err-put-clause-steady g c = search rules
+
+pub returns-in_err-put-clause-failed : goal.returns-in_err-put-clause-failed
+returns-in_err-put-clause-failed g c = search rules
+
+pub returns-clause-ok : goal.returns-clause-ok
+returns-clause-ok g c = grind (arith, common_steps)
+
+pub returns-clause-steady : goal.returns-clause-steady
+returns-clause-steady g c = search rules
+
+pub returns-clause-err : goal.returns-clause-err
+returns-clause-err g c = search rules
+
+pub returns-clause-failed : goal.returns-clause-failed
+returns-clause-failed g c = search rules

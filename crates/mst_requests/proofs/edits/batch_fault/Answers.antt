@@ -16,3 +16,18 @@ loop-rest-preserved c = let fault = c.loop-rest.fault in
           ∙ ap (λ f. comes_to f left) (sym (c.first_told-fault.ensures
           ∙ ap (told fault) c.err.ensures.value));
     }
+
+pub loop-rest-init : goal.loop-rest-init
+loop-rest-init c = search rules
+
+pub first_edit-requires : goal.first_edit-requires
+first_edit-requires c = search rules
+
+pub returns-in_default-first_edit : goal.returns-in_default-first_edit
+returns-in_default-first_edit c = search rules
+
+pub loop-rest-smaller : goal.loop-rest-smaller
+loop-rest-smaller c = search rules
+
+pub returns : goal.returns
+returns c = search rules

@@ -1,4 +1,5 @@
-use Rattle.std.proofs.Common.{rules}
+use Rattle.std.proofs.Common.{rules, arith}
+use Rattle.std.proofs.lemmas.Grind.{elements}
 use Rattle.std.proofs.Common.{ℕ, ◌+◌, Some, None, [], ◌∷◌, ◌++◌, ap, ◌∙◌}
 use Rattle.mst_arena.specs.Lives.{State}
 use Rattle.mst_words.specs.Access.{Seated}
@@ -86,3 +87,6 @@ returns-clause-same g c = search rules
 
 pub returns-clause-added : goal.returns-clause-added
 returns-clause-added g c = search rules
+
+pub returns-clause-version : goal.returns-clause-version
+returns-clause-version g c = grind (arith, elements)

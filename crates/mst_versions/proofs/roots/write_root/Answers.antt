@@ -1,0 +1,6 @@
+use Rattle.std.proofs.Common.{arith}
+use Rattle.std.proofs.lemmas.Grind.{moves}
+use Rattle.mst_versions.proofs.roots.write_root.Goals as goal
+
+pub returns-clause-root : goal.returns-clause-root
+returns-clause-root g c = grind (arith, moves)
