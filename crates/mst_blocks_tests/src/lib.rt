@@ -1,24 +1,19 @@
 //! Tests of blocks of a sharded map and of snapshots of them, of what no other language sees: texts
-//! of refusals, proofs, threads that take snapshots while blocks are published, blocks whose parts
-//! are prepared in threads, shares of a map.
-//! Blocks at random, refused growths, full shards and root digests of equal content are tested in C
-//! (`tests/store/blocks_walk.c`, `blocks_nomem.c`, `blocks_full.c`).
+//! of refusals, audits, a writer and a reader that go to other threads, blocks whose parts are
+//! prepared in threads, shares of a map.
+//! Blocks at random with all reads and proofs of their snapshots, three readers beside a writer,
+//! refused growths, full shards and root digests of equal content are tested in C
+//! (`tests/store/blocks_walk.c`, `blocks_threads.c`, `blocks_nomem.c`, `blocks_full.c`).
 #![tactic(auto)]
 
 #[cfg(test)]
-mod chain;
+mod audits;
 #[cfg(test)]
-mod comparing;
-#[cfg(test)]
-mod edits;
+mod blocks;
 #[cfg(test)]
 mod maps;
 #[cfg(test)]
 mod parts;
-#[cfg(test)]
-mod plain;
-#[cfg(test)]
-mod proofs_told;
 #[cfg(test)]
 mod refusals;
 #[cfg(test)]

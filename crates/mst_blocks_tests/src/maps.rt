@@ -29,11 +29,11 @@ pub(crate) fn put(rt: &impl Abort, bytes: &[u8], value: u8) -> Edit {
     Edit::Put(key(rt, bytes), value)
 }
 
-/// The shape of the shards of a map with a writer and three readers.
+/// The shape of the shards of a map with a writer and two readers.
 pub(crate) fn shape_of(rows: u32, format: Format) -> Shape {
     Shape {
         rows,
-        passes: 4,
+        passes: 3,
         format,
     }
 }
@@ -87,13 +87,12 @@ pub(crate) fn reader_of<A: Allocator + Copy>(
     Reader::new(map, alloc, lot).expect(rt, "memory")
 }
 
-/// The writer and the three readers of a map.
+/// The writer and the two readers of a map.
 #[derive(Drop)]
 pub(crate) struct Users<A: Allocator + Copy> {
     pub(crate) writer: Writer<A>,
     pub(crate) first: Reader<A>,
     pub(crate) second: Reader<A>,
-    pub(crate) third: Reader<A>,
 }
 
 /// The writer and the readers of a new map, which alone have shares of it.
@@ -102,12 +101,10 @@ pub(crate) fn users_of<A: Allocator + Copy>(rt: &impl Abort, alloc: A, shape: Sh
     let writer = Writer::new(&map, alloc, lot).expect(rt, "memory");
     let first = reader_of(rt, alloc, &map, &mut lots);
     let second = reader_of(rt, alloc, &map, &mut lots);
-    let third = reader_of(rt, alloc, &map, &mut lots);
     Users {
         writer,
         first,
         second,
-        third,
     }
 }
 
@@ -121,7 +118,6 @@ pub(crate) fn opened(
         writer,
         first,
         second: _second,
-        third: _third,
     } = users_of(rt, rt.alloc(), shape_of(rows, format));
     (writer, first)
 }
@@ -135,7 +131,11 @@ pub(crate) fn taken<A: Allocator + Copy>(rt: &impl Abort, reader: Reader<A>) -> 
 }
 
 /// The value of a key in a snapshot, one byte; 0 for none.
-pub(crate) fn found(rt: &impl Abort, snapshot: &mut Snapshot<Global>, bytes: &[u8]) -> u8 {
+pub(crate) fn found<A: Allocator + Copy>(
+    rt: &impl Abort,
+    snapshot: &mut Snapshot<A>,
+    bytes: &[u8],
+) -> u8 {
     match snapshot.get(&key(rt, bytes)) {
         Some(value) => value.bytes().first().copied().unwrap_or(0),
         None => 0,

@@ -3,8 +3,9 @@
 ghost use Rattle.std.specs.Prelude.{◌≡◌};
 
 use crate::maps::{confirm, found, opened, put, taken};
-use mst_blocks::{Block, BlockFault, BlockPart, PartFault, Writer, prepare_in_threads};
+use mst_blocks::{BlockFault, PartFault, Writer};
 use mst_key::{Edit, Format};
+use mst_parts::{Block, BlockPart, prepare_in_threads};
 use mst_snapshots::Reader;
 use mst_store::ApplyFault;
 use std::alloc::Global;
@@ -24,7 +25,7 @@ fn begun(
         put(rt, b"m", value),
         put(rt, b"z", value),
     ];
-    match writer.begin(alloc, &edits) {
+    match Block::begin(writer, alloc, &edits) {
         Ok(begun) => begun,
         Err(_) => panic!(rt; "memory"),
     }
@@ -54,7 +55,7 @@ fn begun_too_large(
     for last in 0..8 {
         edits.push(put(rt, &[b'z', last], 1)).expect(rt, "memory");
     }
-    match writer.begin(alloc, edits.as_slice()) {
+    match Block::begin(writer, alloc, edits.as_slice()) {
         Ok(begun) => begun,
         Err(_) => panic!(rt; "memory"),
     }

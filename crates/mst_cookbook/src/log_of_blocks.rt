@@ -1,15 +1,14 @@
 //! A log of blocks: changes of all shards as one version of the map, with its number and its root
 //! digest, for a reader and for an auditor.
-use crate::sharing::{pair, text};
+use crate::sharing::{pair, text, users};
 use anyhow::{Error, Result};
-use mst_blocks::Writer;
+use mst_blocks::{BlockFault, Writer};
 use mst_key::{Edit, Format, Key};
 use mst_sharded_proof::verify_sharded;
 use mst_shards::Sharded;
 use mst_snapshots::{Reader, Snapshot};
 use mst_store::Shape;
 use std::alloc::Global;
-use std::sync::Arc;
 
 /// Of each shard.
 const SHAPE: Shape = Shape {
@@ -33,13 +32,19 @@ fn splits(alloc: Global) -> Result<Vec<Key>> {
 // A map with its writer and a reader.
 fn open(alloc: Global) -> Result<(Writer<Global>, Reader<Global>)> {
     let (map, seats) = Sharded::open(alloc, splits(alloc)?, SHAPE)?;
-    let map = Arc::new(alloc, map)?;
-    let (lot, mut lots) = map.deal(alloc, seats)?;
-    let writer = Writer::new(&map, alloc, lot)?;
-    match lots.pop() {
-        Some(lot) => Ok((writer, Reader::new(&map, alloc, lot)?)),
-        None => Err(Error::msg("a map of two passes has a reader")),
-    }
+    users(alloc, map, seats)
+}
+
+// What the log has of a block that was made, of so many edits.
+fn entry_of(
+    rt: &HostRuntime,
+    made: Result<u64, BlockFault>,
+    root: [u8; 32],
+    edits: usize,
+) -> Result<Logged> {
+    let number = made?;
+    println!(rt; "block {number} has {edits} edits")?;
+    Ok(Logged { number, root })
 }
 
 // Makes a block, and logs it.
@@ -47,27 +52,31 @@ fn apply(
     rt: &HostRuntime,
     writer: Writer<Global>,
     edits: &[Edit],
-) -> Result<(Writer<Global>, Logged)> {
+) -> (Writer<Global>, Result<Logged>) {
     let (writer, made) = writer.apply(rt.alloc(), edits);
-    let number = made?;
-    let root = writer.root();
-    println!(rt; "block {number} has {} edits", edits.len())?;
-    Ok((writer, Logged { number, root }))
+    let logged = entry_of(rt, made, writer.root(), edits.len());
+    (writer, logged)
 }
 
-// Makes two blocks, each with edits of two shards. Returns what the log has of the last.
-fn write(rt: &HostRuntime, writer: Writer<Global>) -> Result<Logged> {
+// The edits of the first block, which are of two shards.
+fn first() -> Result<[Edit; 2]> {
     let (apple, thirty) = pair("apple", "30")?;
     let (plum, twelve) = pair("plum", "12")?;
-    let (_, more) = pair("apple", "35")?;
-    let first = [Edit::Put(apple, thirty), Edit::Put(plum, twelve)];
-    let (writer, _) = apply(rt, writer, &first)?;
-    let second = [
-        Edit::Put(Key::new(b"apple")?, more),
-        Edit::Remove(Key::new(b"plum")?),
-    ];
-    let (_, logged) = apply(rt, writer, &second)?;
-    Ok(logged)
+    Ok([Edit::Put(apple, thirty), Edit::Put(plum, twelve)])
+}
+
+// Those of the second block.
+fn second() -> Result<[Edit; 2]> {
+    let (apple, more) = pair("apple", "35")?;
+    Ok([Edit::Put(apple, more), Edit::Remove(Key::new(b"plum")?)])
+}
+
+// Makes both blocks. Returns what the log has of the last.
+fn write(rt: &HostRuntime, writer: Writer<Global>) -> Result<Logged> {
+    let (writer, logged) = apply(rt, writer, &first()?);
+    logged?;
+    let (_, logged) = apply(rt, writer, &second()?);
+    logged
 }
 
 // An auditor has the log's root digest alone, and a proof from a snapshot of that block.
@@ -83,17 +92,24 @@ fn audit(rt: &HostRuntime, logged: &Logged, snapshot: &mut Snapshot<Global>) -> 
 }
 
 // A reader finds which block it has, and that its map is the one that the log names.
-fn read(rt: &HostRuntime, logged: &Logged, reader: Reader<Global>) -> Result<()> {
-    let Ok(mut snapshot) = reader.try_snapshot() else {
-        return Err(Error::msg("a block is just being published"));
-    };
+fn compare(rt: &HostRuntime, logged: &Logged, snapshot: &mut Snapshot<Global>) -> Result<()> {
     if snapshot.number() != logged.number || snapshot.root() != logged.root {
         return Err(Error::msg("the log is of another map"));
     }
     println!(rt; "the reader has block {}", logged.number)?;
-    audit(rt, logged, &mut snapshot)?;
-    let _reader = snapshot.release();
-    Ok(())
+    audit(rt, logged, snapshot)
+}
+
+// Takes a snapshot of the last block, and compares it with the log.
+fn read(rt: &HostRuntime, logged: &Logged, reader: Reader<Global>) -> Result<()> {
+    match reader.try_snapshot() {
+        Ok(mut snapshot) => {
+            let told = compare(rt, logged, &mut snapshot);
+            drop(snapshot.release());
+            told
+        }
+        Err(_) => Err(Error::msg("a block is just being published")),
+    }
 }
 
 pub fn run(rt: &HostRuntime) -> Result<()> {

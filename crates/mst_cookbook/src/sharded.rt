@@ -1,5 +1,5 @@
 //! More keys than a store has rows for: a map of three shards, with one root digest.
-use crate::sharing::{pair, text};
+use crate::sharing::{pair, text, users};
 use anyhow::{Error, Result};
 use mst_blocks::Writer;
 use mst_key::{Edit, Format, Key};
@@ -8,7 +8,6 @@ use mst_shards::Sharded;
 use mst_snapshots::{Reader, Snapshot};
 use mst_store::Shape;
 use std::alloc::Global;
-use std::sync::Arc;
 
 /// Of each shard.
 const SHAPE: Shape = Shape {
@@ -25,21 +24,19 @@ fn splits(alloc: Global) -> Result<Vec<Key>> {
 // A map with its writer and a reader, for a thread each.
 fn open(alloc: Global) -> Result<(Writer<Global>, Reader<Global>)> {
     let (map, seats) = Sharded::open(alloc, splits(alloc)?, SHAPE)?;
-    let map = Arc::new(alloc, map)?;
-    let (lot, mut lots) = map.deal(alloc, seats)?;
-    let writer = Writer::new(&map, alloc, lot)?;
-    match lots.pop() {
-        Some(lot) => Ok((writer, Reader::new(&map, alloc, lot)?)),
-        None => Err(Error::msg("a map of two passes has a reader")),
-    }
+    users(alloc, map, seats)
 }
 
-// Puts two prices, whose keys are in two shards, as one block.
-fn fill(alloc: Global, writer: Writer<Global>) -> Result<Writer<Global>> {
+// Two prices, whose keys are in two shards.
+fn prices() -> Result<[Edit; 2]> {
     let (apple, thirty) = pair("apple", "30")?;
     let (plum, twelve) = pair("plum", "12")?;
-    let edits = [Edit::Put(apple, thirty), Edit::Put(plum, twelve)];
-    let (writer, made) = writer.apply(alloc, &edits);
+    Ok([Edit::Put(apple, thirty), Edit::Put(plum, twelve)])
+}
+
+// Puts both as one block.
+fn fill(alloc: Global, writer: Writer<Global>) -> Result<Writer<Global>> {
+    let (writer, made) = writer.apply(alloc, &prices()?);
     made?;
     Ok(writer)
 }
@@ -64,12 +61,14 @@ fn prove(rt: &HostRuntime, snapshot: &mut Snapshot<Global>) -> Result<()> {
 
 // Takes a snapshot of the last block, and proves an answer of it.
 fn read(rt: &HostRuntime, reader: Reader<Global>) -> Result<()> {
-    let Ok(mut snapshot) = reader.try_snapshot() else {
-        return Err(Error::msg("a block is just being published"));
-    };
-    prove(rt, &mut snapshot)?;
-    let _reader = snapshot.release();
-    Ok(())
+    match reader.try_snapshot() {
+        Ok(mut snapshot) => {
+            let told = prove(rt, &mut snapshot);
+            drop(snapshot.release());
+            told
+        }
+        Err(_) => Err(Error::msg("a block is just being published")),
+    }
 }
 
 pub fn run(rt: &HostRuntime) -> Result<()> {

@@ -1,12 +1,20 @@
-//! What the recipes share: the passes of a store, texts as keys and values, and lines.
+//! What the recipes share: the passes of a store, who uses a sharded map, texts as keys and values,
+//! and lines.
 ghost use Rattle.std.specs.Prelude.{◌≡◌};
+ghost use Rattle.std.specs.Arc.{arc_value};
+ghost use Rattle.std.specs.List.{AllByRecursion};
+ghost use Rattle.mst_shards.specs.Opening.{IsLot, seats_of};
 
 use anyhow::{Error, Result};
+use mst_blocks::Writer;
 use mst_key::{Key, Value};
+use mst_shards::{AllSeats, Lot, Sharded, WriterLot};
+use mst_snapshots::Reader;
 use mst_store::{Pass, Seats, Store};
 use std::alloc::Global;
 use std::ops::Range;
 use std::str;
+use std::sync::Arc;
 
 /// All passes of a store.
 pub fn all_passes<'a>(
@@ -50,6 +58,47 @@ pub fn two_passes<'a>(
         (Some(one), Some(other)) => Ok((one, other)),
         _ => Err(Error::msg("a store of two passes")),
     }
+}
+
+// A reader of the last of the lots.
+fn reader_of(
+    alloc: Global,
+    map: &Arc<Sharded<Global>, Global>,
+    lots: &mut Vec<Lot<Global>>,
+) -> Result<Reader<Global>>
+    requires own { AllByRecursion (IsLot (arc_value map.now)) lots.old.items }
+{
+    match lots.pop() {
+        Some(lot) => Ok(Reader::new(map, alloc, lot)?),
+        None => Err(Error::msg("a map of two passes has a reader")),
+    }
+}
+
+// The writer and a reader of what was dealt.
+fn users_of(
+    alloc: Global,
+    map: &Arc<Sharded<Global>, Global>,
+    lot: WriterLot<Global>,
+    mut lots: Vec<Lot<Global>>,
+) -> Result<(Writer<Global>, Reader<Global>)>
+    requires lot { IsLot (arc_value map.now) lot }
+    requires own { AllByRecursion (IsLot (arc_value map.now)) lots.items }
+{
+    let reader = reader_of(alloc, map, &mut lots)?;
+    Ok((Writer::new(map, alloc, lot)?, reader))
+}
+
+/// The writer and a reader of a sharded map, for a thread each.
+pub fn users(
+    alloc: Global,
+    map: Sharded<Global>,
+    seats: AllSeats<Global>,
+) -> Result<(Writer<Global>, Reader<Global>)>
+    requires own { seats ≡ seats_of map }
+{
+    let map = Arc::new(alloc, map)?;
+    let (lot, lots) = map.deal(alloc, seats)?;
+    users_of(alloc, &map, lot, lots)
 }
 
 /// A key and a value, both of them texts.

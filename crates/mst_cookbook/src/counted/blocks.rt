@@ -1,9 +1,6 @@
 //! Blocks of a sharded map, snapshots of them, and gets of a reader.
-ghost use Rattle.std.specs.Prelude.{◌≡◌, ◌<◌, ◌≤◌, length};
-ghost use Rattle.std.specs.Arc.{arc_value};
-ghost use Rattle.std.specs.List.{AllByRecursion};
+ghost use Rattle.std.specs.Prelude.{◌<◌, ◌≤◌, length};
 ghost use Rattle.mst_store.specs.Passes.{most_rows};
-ghost use Rattle.mst_shards.specs.Opening.{IsLot, seats_of};
 
 use super::alone::tell;
 use super::changes::{FIRST_NEW_VALUE, picked};
@@ -11,42 +8,13 @@ use super::keys::value;
 use super::kinds::{Block, Kind};
 use super::shards::{shape, splits};
 use super::words::Calls;
-use anyhow::{Error, Result};
+use crate::sharing::users;
+use anyhow::Result;
 use mst_blocks::Writer;
 use mst_key::{Edit, Key};
-use mst_shards::{AllSeats, Lot, Sharded};
+use mst_shards::Sharded;
 use mst_snapshots::Reader;
 use std::alloc::{AllocError, Global};
-use std::sync::Arc;
-
-// A reader of the last of the lots.
-fn reader_of(
-    alloc: Global,
-    map: &Arc<Sharded<Global>, Global>,
-    lots: &mut Vec<Lot<Global>>,
-) -> Result<Reader<Global>>
-    requires own { AllByRecursion (IsLot (arc_value map.now)) lots.old.items }
-{
-    match lots.pop() {
-        Some(lot) => Ok(Reader::new(map, alloc, lot)?),
-        None => Err(Error::msg("there is a reader")),
-    }
-}
-
-// The writer and a reader of a map that was opened.
-fn users(
-    alloc: Global,
-    map: Sharded<Global>,
-    seats: AllSeats<Global>,
-) -> Result<(Writer<Global>, Reader<Global>)>
-    requires own { seats ≡ seats_of map }
-{
-    let map = Arc::new(alloc, map)?;
-    let (lot, mut lots) = map.deal(alloc, seats)?;
-    let writer = Writer::new(&map, alloc, lot)?;
-    let reader = reader_of(alloc, &map, &mut lots)?;
-    Ok((writer, reader))
-}
 
 // The writer and a reader of a map of 32 shards for these keys.
 fn open(alloc: Global, keys: &[Key], of: &Calls) -> Result<(Writer<Global>, Reader<Global>)>
