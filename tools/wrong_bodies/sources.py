@@ -154,11 +154,14 @@ class Sources:
         """The texts of the files that answer a function's goals."""
         module = re.sub(r"^src/|(/mod)?\.rt$", "", function.path)
         module = "" if module in ("lib", "main") else f"{module}/"
-        last = f"+{function.cycle}" if function.cycle else function.name
         owner = f"{function.owner}/" if function.owner else ""
+        # one that calls itself is a cycle of its own name
+        last = [f"+{function.cycle}"] if function.cycle else [function.name, f"+{function.name}"]
         found = []
-        for folder in (f"{module}{owner}{last}", f"{owner}{last}", f"**/{owner}{last}"):
-            found = found or glob.glob(f"{self.folder}/proofs/{folder}/*.antt", recursive=True)
+        for folder in (f"{module}{owner}", owner, f"**/{owner}"):
+            for it in last:
+                at = f"{self.folder}/proofs/{folder}{it}/*.antt"
+                found = found or glob.glob(at, recursive=True)
         return "\n".join(map(read, found))
 
     def called_by(self, function):
