@@ -80,13 +80,14 @@ extern "C" {
 #endif
 
 /*
- * The version of this header, and of the library if that is of the same release: MAJOR.MINOR.PATCH.
- * MST_VERSION_NUMBER is greater for each later one.
+ * The version of this header, and of the library if that is of the same release: MAJOR.MINOR.PATCH,
+ * between two releases with -dev behind it. MST_VERSION_NUMBER is greater for each later release; a
+ * -dev build has the number of the release to come.
  */
 #define MST_VERSION_MAJOR 0
-#define MST_VERSION_MINOR 3
+#define MST_VERSION_MINOR 4
 #define MST_VERSION_PATCH 0
-#define MST_VERSION_TEXT "0.3.0"
+#define MST_VERSION_TEXT "0.4.0-dev"
 #define MST_VERSION_NUMBER \
     (MST_VERSION_MAJOR * 1000000 + MST_VERSION_MINOR * 1000 + MST_VERSION_PATCH)
 
@@ -195,7 +196,7 @@ typedef struct mst_pass {
 
 /*
  * Of a block: a shard or the directory has a version that is not the writer's last, so another has
- * written. No call makes one so. Nothing has changed.
+ * written. No call leads to this. Nothing has changed.
  */
 #define MST_OVERTAKEN (-29)
 
@@ -572,7 +573,7 @@ int32_t mst_sharded_open(uint32_t format, uint32_t rows, const uint8_t *splits,
  * closed: its writer is lost with it. Where a part is closed nothing is lost, since its block has a
  * share of it: so it may be committed or cancelled as before.
  */
-int32_t mst_sharded_close(mst_handle *handle);
+int32_t mst_sharded_close(mst_handle *hand);
 
 /*
  * Writes a split at `at` bytes into the room, which needs MST_SPLIT_LONGEST bytes from there, and
@@ -585,7 +586,7 @@ size_t mst_split(uint8_t *room, size_t at, const uint8_t *key, size_t key_length
  * Returns how many shards the map has, 1 to 1,024; or MST_CLOSED; MST_WRONG_STATE for a block that
  * was begun or a part of one.
  */
-int32_t mst_sharded_shards(mst_handle *handle);
+int32_t mst_sharded_shards(mst_handle *hand);
 
 /*
  * Makes the next block of edits of all shards, in the form of mst_try_apply. Readers see none of
@@ -593,7 +594,7 @@ int32_t mst_sharded_shards(mst_handle *handle);
  *
  * Returns MST_OK, and *number is the number of the block: one more than that of the block before.
  * Otherwise nothing has changed in any shard, and *number is as it was. Returns MST_CLOSED; if an
- * edit is none, then for the first such one MST_BAD_KEY, MST_BAD_VALUE or MST_BAD_BATCH, and *place
+ * edit is not valid, for the first such one MST_BAD_KEY, MST_BAD_VALUE or MST_BAD_BATCH, and *place
  * is the number of that edit, from 0; MST_WRONG_STATE for what is no writer. Then returns MST_BUSY,
  * MST_VERSIONS_SPENT, MST_MEMORY, MST_NO_FREE_ROWS or MST_OVERTAKEN if a shard refused its edits:
  * *shard is the number of this shard, from 0. If it was the directory, or there is no memory for
@@ -609,7 +610,7 @@ int32_t mst_sharded_apply(mst_handle *writer, const uint8_t *edits, size_t lengt
  * blocks led to this map. Two snapshots with one number show one map, unless SHA-256 collides.
  * Returns MST_OK; MST_CLOSED; MST_WRONG_STATE for what is neither.
  */
-int32_t mst_sharded_number(mst_handle *handle, uint64_t *number);
+int32_t mst_sharded_number(mst_handle *hand, uint64_t *number);
 
 /*
  * Turns the reader into a snapshot of one block: until mst_sharded_release each read is of it.
@@ -625,13 +626,13 @@ int32_t mst_sharded_try_snapshot(mst_handle *reader);
  * Turns the snapshot into a reader: its pins end. Returns MST_OK, MST_CLOSED, or MST_WRONG_STATE
  * for what is no snapshot.
  */
-int32_t mst_sharded_release(mst_handle *reader);
+int32_t mst_sharded_release(mst_handle *snapshot);
 
 /*
  * As mst_get: the writer reads its last block, a snapshot its block, a reader the current version
  * of the key's shard. Two such reads of a reader need not be of one block. Returns what mst_get
  * returns, or for the writer MST_OVERTAKEN if another than the writer has written to the key's
- * shard, which no call makes so; right after MST_BAD_KEY comes MST_WRONG_STATE for a block that was
+ * shard, to which no call leads; right after MST_BAD_KEY comes MST_WRONG_STATE for a block that was
  * begun or a part of one.
  */
 int32_t mst_sharded_get(mst_handle *hand, const uint8_t *key, size_t key_length,
@@ -641,7 +642,7 @@ int32_t mst_sharded_get(mst_handle *hand, const uint8_t *key, size_t key_length,
  * As mst_next, in the map of a snapshot. Returns what mst_next returns; right after MST_BAD_KEY
  * comes MST_WRONG_STATE for what is no snapshot. It takes no memory.
  */
-int32_t mst_sharded_next(mst_handle *reader, const uint8_t *key, size_t key_length,
+int32_t mst_sharded_next(mst_handle *snapshot, const uint8_t *key, size_t key_length,
                          uint8_t *key_room, size_t key_room_length, size_t *next_length,
                          uint8_t *room, size_t room_length);
 
@@ -649,7 +650,7 @@ int32_t mst_sharded_next(mst_handle *reader, const uint8_t *key, size_t key_leng
  * As mst_range, in the map of a snapshot. Returns what mst_range returns; right after MST_BAD_KEY
  * comes MST_WRONG_STATE for what is no snapshot.
  */
-int32_t mst_sharded_range(mst_handle *reader, const uint8_t *from, size_t from_length,
+int32_t mst_sharded_range(mst_handle *snapshot, const uint8_t *from, size_t from_length,
                           const uint8_t *to, size_t to_length, uint32_t limit,
                           uint8_t *room, size_t room_length, size_t *count, size_t *length);
 
@@ -657,7 +658,7 @@ int32_t mst_sharded_range(mst_handle *reader, const uint8_t *from, size_t from_l
  * Returns the format of a snapshot, 1 or 2, in which its root digest and its proofs are. Returns
  * MST_CLOSED; MST_WRONG_STATE for what is no snapshot.
  */
-int32_t mst_sharded_format(mst_handle *reader);
+int32_t mst_sharded_format(mst_handle *snapshot);
 
 /*
  * Returns 32, the length of the root digest of all shards together, and its bytes stand first in
@@ -665,7 +666,7 @@ int32_t mst_sharded_format(mst_handle *reader);
  * the format and the splits alone. Returns MST_CLOSED; MST_WRONG_STATE for what is neither;
  * MST_SHORT_ROOM if root_length is less than 32. It takes no memory.
  */
-int32_t mst_sharded_root(mst_handle *handle, uint8_t *root, size_t root_length);
+int32_t mst_sharded_root(mst_handle *hand, uint8_t *root, size_t root_length);
 
 /*
  * Makes the proof of the key's answer, which mst_verify_sharded judges in the format and by the
@@ -674,18 +675,18 @@ int32_t mst_sharded_root(mst_handle *handle, uint8_t *root, size_t root_length);
  * MST_MEMORY: room and *length are as they were. Returns MST_SHORT_ROOM if the room is too short:
  * *length is the length of the proof, and the room is as it was.
  */
-int32_t mst_sharded_prove(mst_handle *reader, const uint8_t *key, size_t key_length,
+int32_t mst_sharded_prove(mst_handle *snapshot, const uint8_t *key, size_t key_length,
                           uint8_t *room, size_t room_length, size_t *length);
 
 /*
- * Lists of each shard of a snapshot, in the order of their keys, its lower bound as a key, and as
- * its value the shard's root digest, of 32 bytes, and the upper bound, of none if there is no
- * bound: the pairs of the directory, whose root digest is that of mst_sharded_root. They stand in
- * the room as those of mst_range, and MST_PAIR_LONGEST bytes for each shard are enough. Returns
- * MST_OK or MST_SHORT_ROOM as mst_range; MST_CLOSED; MST_WRONG_STATE for what is no snapshot;
- * MST_MEMORY: room, *count and *length are as they were.
+ * Lists a pair for each shard of a snapshot, in the order of their keys: its lower bound as the key,
+ * and as the value its root digest, 32 bytes, followed by its upper bound, if it has one. These are
+ * the pairs of the directory, whose root digest is that of mst_sharded_root. They stand in the room
+ * as those of mst_range, and MST_PAIR_LONGEST bytes for each shard are enough. Returns MST_OK or
+ * MST_SHORT_ROOM as mst_range; MST_CLOSED; MST_WRONG_STATE for what is no snapshot; MST_MEMORY:
+ * room, *count and *length are as they were.
  */
-int32_t mst_sharded_directory(mst_handle *reader, uint8_t *room, size_t room_length,
+int32_t mst_sharded_directory(mst_handle *snapshot, uint8_t *room, size_t room_length,
                               size_t *count, size_t *length);
 
 /*
@@ -709,9 +710,9 @@ int32_t mst_sharded_snapshot(mst_handle *reader);
  *
  * Returns MST_OK, and *number is the number of the block. Otherwise nothing has changed in any
  * shard, and *number is as it was. Returns MST_CLOSED or MST_WRONG_STATE if the first hand holds no
- * snapshot; MST_MEMORY if there is none for the list of all
- * pairs: *shard is the number of the shards of the other map. Then returns what mst_sharded_apply
- * returns, and tells *shard as that does. Both hands are in the call until it returns.
+ * snapshot; MST_MEMORY if there is none for the list of all pairs: *shard is the number of the
+ * shards of the other map. Then returns what mst_sharded_apply returns, and tells *shard as that
+ * does. Both hands are in the call until it returns.
  *
  * It takes memory for all pairs as edits, and besides for a list of the pairs first, and for what
  * mst_sharded_apply takes then. It gives all back.

@@ -4,10 +4,11 @@
  * A map of short keys and values has a root digest of 32 bytes. Its store gives, with an answer for
  * a key, a proof of it. From the root digest and its format, the key and the proof, mst_verify says
  * what the proof shows: the key's value, or that the key is absent, or which test the proof fails.
- * It needs neither the store nor the map. docs/FORMAT.md has the bytes of a proof and the tests. An
- * answer is the map's if the root digest is, unless two texts are found that have one SHA-256.
- * Whether a root digest is the newest no verifier knows: let its maker sign it together with its
- * format, its kind (of one map or of a sharded map) and a rising number, and check all three.
+ * It needs neither the store nor the map. docs/FORMAT.md has the bytes of a proof and the tests. If
+ * the root digest is a map's, the answer is that map's, unless two texts have one SHA-256. Whether a
+ * root digest is the newest no verifier knows: let its maker sign it together with its format, its
+ * kind (of one map or of a sharded map) and a number that never falls, and check format, kind and
+ * number (and the map's name, if one key signs for several maps).
  *
  * mst_verify_sharded does the same for a sharded map: several trees, each for an interval of the
  * keys, and one root digest. A root digest does not tell its kind. Take the kind from where you take
@@ -47,9 +48,9 @@ extern "C" {
 
 /* The version of this header, as that of mst_store.h: MAJOR.MINOR.PATCH. */
 #define MST_VERSION_MAJOR 0
-#define MST_VERSION_MINOR 3
+#define MST_VERSION_MINOR 4
 #define MST_VERSION_PATCH 0
-#define MST_VERSION_TEXT "0.3.0"
+#define MST_VERSION_TEXT "0.4.0-dev"
 #define MST_VERSION_NUMBER \
     (MST_VERSION_MAJOR * 1000000 + MST_VERSION_MINOR * 1000 + MST_VERSION_PATCH)
 

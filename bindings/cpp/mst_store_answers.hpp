@@ -54,7 +54,7 @@ public:
 };
 
 // Why a block was refused: a shard or the directory has a version that is not the writer's last, so
-// another has written. No call makes one so.
+// another has written. No call leads to this.
 class overtaken : public refused_shard {
 public:
     explicit overtaken(std::size_t shard) : refused_shard(MST_OVERTAKEN, shard) {}

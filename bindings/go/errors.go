@@ -36,7 +36,7 @@ var (
 	// ErrSplits says that splits are at most 1,023 keys that rise strictly, from above that of one
 	// zero byte.
 	ErrSplits = errors.New("mst: splits are at most 1023 keys that rise from above the least")
-	// ErrOvertaken says that another than the writer of blocks has written. No call makes it so.
+	// ErrOvertaken says that another than the writer of blocks has written. No call leads to this.
 	ErrOvertaken = errors.New("mst: another than the writer of blocks has written")
 	// ErrMoving says that a block is just being published, so that there is no snapshot of one
 	// block.

@@ -80,7 +80,9 @@ def build_wheel(wheel_directory, config_settings=None, metadata_directory=None):
                 f"Keywords: {','.join(_list('keywords'))}\n"
                 + "".join(f"Project-URL: {label}, {at}\n" for label, at in _addresses())
                 + "".join(f"Classifier: {it}\n" for it in _list("classifiers"))
-                + "".join(f"License-File: {licence}\n" for licence in LICENCES))
+                + "Description-Content-Type: text/markdown\n"
+                + "".join(f"License-File: {licence}\n" for licence in LICENCES)
+                + "\n" + _read(os.path.join(HERE, "README.md")).decode())
     about = f"Wheel-Version: 1.0\nGenerator: make_wheel\nRoot-Is-Purelib: false\nTag: {tag}\n"
     contents = {f"{PACKAGE}/{file}": _read(os.path.join(HERE, PACKAGE, file)) for file in _files()}
     verifier = os.path.join(HERE, "..", "..", "verifiers", "python", "mst_verifier.py")

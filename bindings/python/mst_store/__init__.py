@@ -38,7 +38,7 @@ from ._sharded import (
     ShardedBlock, ShardedPart, ShardedReader, ShardedSnapshot, ShardedWriter, open_sharded,
 )
 
-__version__ = "0.3.0"
+__version__ = "0.4.0-dev"
 
 __all__ = [
     "ABSENT", "BAD_BATCH", "BAD_KEY", "BAD_SHAPE", "BAD_VALUE", "BUSY", "CLOSED", "KEY_LONGEST",

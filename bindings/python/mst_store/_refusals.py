@@ -92,7 +92,7 @@ class BusyShard(RefusedShard, Busy):
 
 class Overtaken(RefusedShard):
     """A block is refused, since a shard or the directory has a version that is not the writer's
-    last: another has written. No call makes one so."""
+    last: another has written. No call leads to this."""
 
 
 class Moving(Refused):

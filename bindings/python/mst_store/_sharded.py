@@ -376,8 +376,8 @@ class ShardedWriter:
     def begin(self, edits: Iterable[Edit]) -> Iterator[ShardedBlock]:
         """Begins the next block, of these edits, for the `with`, with its parts, one for each
         shard, for threads that the caller has. Until the block ends, all other calls of the writer
-        but close raise Refused with WRONG_STATE. If an edit is none, or there is no memory, nothing
-        has changed, and the exception is that of apply.
+        but close raise Refused with WRONG_STATE. If an edit is not valid, or memory is refused,
+        nothing has changed, and the exception is that of apply.
 
             with writer.begin(edits) as block:
                 list(pool.map(ShardedPart.prepare, block.parts))

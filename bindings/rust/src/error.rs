@@ -36,7 +36,7 @@ pub enum Error {
     /// [`Writer::apply`](crate::sharded::Writer::apply), or another call that makes edits, leaves
     /// it so. Of a part of a block: the block is just being ended.
     Busy,
-    /// Of a block: another than its writer has written. No call makes it so.
+    /// Of a block: another than its writer has written. No call leads to this.
     Overtaken,
     /// A number that the header does not give for the call: the library and this crate do not fit.
     Other(i32),

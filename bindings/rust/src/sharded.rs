@@ -204,7 +204,7 @@ impl Writer {
     /// Begins the next block, of these edits, and returns it with its parts, one for each shard, in
     /// their order, for threads that the caller has.
     ///
-    /// If an edit is none, or there is no memory, nothing has changed.
+    /// If an edit is not valid, or memory is refused, nothing has changed.
     ///
     /// ```
     /// use mst_store::sharded;

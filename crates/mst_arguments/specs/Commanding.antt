@@ -157,7 +157,7 @@ asks_version_alone _ = false
 
 -- the text that says the version
 abbrev pub version_text : List ℕ
-version_text = codes "mst 0.3.0" ++ 10 ∷ []
+version_text = codes "mst 0.4.0-dev" ++ 10 ∷ []
 
 -- What words are told that ask for a text: these words the version, and others what `clap` writes,
 -- of which nothing is known.

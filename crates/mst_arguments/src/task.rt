@@ -1,7 +1,7 @@
 //! What a program is to do, and how it ends.
 use mst_key::{Format, Memory};
 use mst_report::ProofKind;
-use mst_store::Shape;
+use mst_words::Shape;
 
 /// How large the store of a script is.
 #[derive(Clone, Copy)]

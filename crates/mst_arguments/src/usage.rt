@@ -9,7 +9,7 @@ use crate::task::{Refusal, Task};
 use crate::words::{ask_text, ask_version_alone};
 use clap::error::ErrorKind;
 use clap::{Arg, ArgAction, Command, Error, value_parser};
-use mst_store::Memory;
+use mst_key::Memory;
 use std::alloc::{AllocError, Global};
 
 /// What the help says after the commands and the options.
@@ -30,10 +30,10 @@ Exit statuses:
   4  memory was refused, or a thread could not be started";
 
 /// The number of the program's version.
-const VERSION: &str = "0.3.0";
+const VERSION: &str = "0.4.0-dev";
 
 /// The text of the version, if nothing else is asked.
-const VERSION_TEXT: &str = "mst 0.3.0\n";
+const VERSION_TEXT: &str = "mst 0.4.0-dev\n";
 
 // An option that is a number and has to be given.
 fn required_number<'a>(alloc: Global, name: &'a str, help: &'a str) -> Arg<'a> {

@@ -7,7 +7,7 @@ use crate::options::{format_named, kind_named, operand, value_of};
 use crate::task::{Size, Task};
 use mst_key::Format;
 use mst_report::ProofKind;
-use mst_store::Shape;
+use mst_words::Shape;
 
 // Whether a word asks for help.
 fn is_help(word: &str) -> bool

@@ -99,7 +99,7 @@ func TestEdits(t *testing.T) {
 
 func TestTheLibrarySaysItsVersion(t *testing.T) {
 	version := mst.LibraryVersion()
-	if isNumbered, err := regexp.MatchString(`^\d+\.\d+\.\d+$`, version); !isNumbered {
+	if isNumbered, err := regexp.MatchString(`^\d+\.\d+\.\d+(-dev)?$`, version); !isNumbered {
 		t.Errorf("%s, %v", version, err)
 	}
 }
