@@ -1,8 +1,11 @@
-# What is typed most, by name.
+# What is typed most, by name. `make` alone lists it.
 #
 #   make check         the gate: every proof, and all tests (needs the kit)
 #   make libraries     the libraries for C, in bindings/out (needs the kit)
 #   make without-kit   all that needs no kit
+help:
+	@sed -n 's/^#   //p' Makefile
+
 check:
 	sh .ci/run
 
@@ -12,4 +15,4 @@ libraries:
 without-kit:
 	sh tests/without_kit
 
-.PHONY: check libraries without-kit
+.PHONY: help check libraries without-kit

@@ -11,6 +11,7 @@ import fcntl
 import functools
 import glob
 import hashlib
+import multiprocessing
 import os
 import re
 import subprocess
@@ -22,6 +23,7 @@ from wrong_bodies.sources import Sources, functions_of, is_inherent, read
 
 RECORD = "tests/wrong_bodies.tsv"
 HEAD = "crate\twrong body\tkit\thash"
+OF_ALL = []  # the crates whose hashes are worked out side by side
 OPENED = {"abbrev", "unfoldable", "data", "record", "use", "mod", "syntax"}
 
 
@@ -237,12 +239,23 @@ def tidy(crate):
         write(kept)
 
 
+def hashes_at(at):
+    return hashes(OF_ALL[at])
+
+
+def hashes_of_all(crates):
+    """The hashes of each of these crates, worked out side by side by processes that share what was
+    read before."""
+    OF_ALL[:] = crates
+    with multiprocessing.get_context("fork").Pool() as pool:
+        return pool.map(hashes_at, range(len(crates)), chunksize=1)
+
+
 def faults(crates):
     """What is wrong with the record of these crates, which have wrong bodies; which of them it
     lacks, by crate; and the number of those that were tried on the text that stands here."""
     rows, found, left, tried = lines(), [], [], 0
-    for crate in crates:
-        now = hashes(crate)
+    for crate, now in zip(crates, hashes_of_all(crates)):
         old = {name: row for (of, name), row in rows.items() if of == crate.name}
         lacking = sorted(now.keys() - old.keys())
         other = sorted(it for it in now.keys() & old.keys() if old[it][-1] != now[it])
