@@ -34,10 +34,12 @@ fn installed() -> bool {
 fn main() {
     println!("cargo:rerun-if-env-changed=MST_STORE_DIR");
     println!("cargo:rerun-if-env-changed=PKG_CONFIG_PATH");
-    println!("cargo:rerun-if-env-changed=DOCS_RS");
-    // Where only the documents are made, nothing is linked.
-    if env::var_os("DOCS_RS").is_some() {
-        return;
+    // To see types alone, or where docs.rs makes the documents, nothing is linked.
+    for name in ["MST_STORE_UNLINKED", "DOCS_RS"] {
+        println!("cargo:rerun-if-env-changed={name}");
+        if env::var_os(name).is_some() {
+            return;
+        }
     }
     let here = PathBuf::from(env::var_os("CARGO_MANIFEST_DIR").expect("cargo sets it"));
     let named = env::var_os("MST_STORE_DIR").filter(|name| !name.is_empty());
@@ -48,7 +50,8 @@ fn main() {
     }
     let path = folder.join("libmst_store.a").display().to_string();
     panic!(
-        "{path} is not there: install libmst-dev of a release, run `make -C bindings`, which needs \
-            the kit, or name the folder of the archive in MST_STORE_DIR"
+        "{path} is not there. No release is published yet: run `make -C bindings`, which needs the \
+            kit, or name the folder of the archive in MST_STORE_DIR. Without the kit, \
+            `MST_STORE_UNLINKED=1 cargo check` type-checks, and nothing runs"
     );
 }

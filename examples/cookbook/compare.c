@@ -15,14 +15,17 @@ static void tell_key(const char *name, const mst_pair *pair, mst_pass *other) {
         printf("differs in %s: %.*s\n", name, (int)pair->key_length, (const char *)pair->key);
 }
 
-/* Asks the other replica for all pairs of one, page by page. */
-static void tell_differing(const char *name, mst_pass *one, mst_pass *other) {
+/* Asks the other replica for all pairs of one, page by page, until no page is left. */
+static int32_t tell_differing(const char *name, mst_pass *one, mst_pass *other) {
     uint8_t room[PAGE * MST_PAIR_LONGEST], last[MST_KEY_LONGEST];
     size_t last_length = 0, count = 0, length = 0;
     mst_pair pair = {NULL, NULL, 0, 0};
 
-    while (mst_page_after(one, last, last_length, NULL, 0, PAGE, room, sizeof room,
-                          &count, &length) == MST_OK && count > 0) {
+    for (;;) {
+        int32_t told = mst_page_after(one, last, last_length, NULL, 0, PAGE, room, sizeof room,
+                                      &count, &length);
+        if (told != MST_OK || count == 0)
+            return told;
         for (size_t at = 0; at < length;) {
             at = mst_pair_at(room, at, &pair);
             tell_key(name, &pair, other);
@@ -57,9 +60,12 @@ int main(void) {
     mst_pin(&ours); /* so that neither changes on the way */
     mst_pin(&theirs);
     printf("equal: %s\n", is_equal(&ours, &theirs));
-    tell_differing("ours", &ours, &theirs);
-    tell_differing("theirs", &theirs, &ours);
+    int32_t told = tell_differing("ours", &ours, &theirs);
+    if (told == MST_OK)
+        told = tell_differing("theirs", &theirs, &ours);
+    if (told != MST_OK) /* only if memory is refused: the room is long enough */
+        fprintf(stderr, "%s\n", mst_error_text(told));
     mst_close(&ours); /* ends its pin too */
     mst_close(&theirs);
-    return 0;
+    return told != MST_OK;
 }

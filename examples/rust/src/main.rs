@@ -1,15 +1,15 @@
-//! Two replicas make the same block of changes, each as one version, and compare root digests. An
+//! Two replicas apply the same entries of a log, each as one version, and compare root digests. An
 //! auditor keeps a pinned version meanwhile.
 //!
 //!     make -C bindings && cd examples/rust && cargo run
 //!
 //! Where the library of a release is installed, or `MST_STORE_DIR` names the folder that has
 //! `libmst_store.a`, nothing has to be made first. No release is published yet, and `make` needs
-//! the kit. Without both, `DOCS_RS=1 cargo check` type-checks this program.
+//! the kit. Without both, `MST_STORE_UNLINKED=1 cargo check` type-checks this program.
 use mst_store::Edit::{Put, Remove};
 use mst_store::{Edit, Error, Pass, Reads};
 
-/// Rows of a store: enough for some 100 keys, one pinned version, and a block.
+/// Rows of a store: enough for some 100 keys, one pinned version, and a batch.
 const ROWS: u32 = 1_000;
 
 /// A replica: the writer of its store, and a reader for audits.
@@ -30,10 +30,10 @@ fn main() -> Result<(), Error> {
 
     let mut then = auditor.pin();
     let root = then.root();
-    let block: [Edit; 2] = [Put(b"apple", b"31"), Remove(b"pear")];
+    let second: [Edit; 2] = [Put(b"apple", b"31"), Remove(b"pear")];
     std::thread::spawn(move || -> Result<(), Error> {
-        writer.apply(&block)?;
-        follower.apply(&block)?;
+        writer.apply(&second)?;
+        follower.apply(&second)?;
         assert_eq!(writer.root(), follower.root());
         Ok(())
     })
