@@ -104,16 +104,19 @@ class Canvas:
         self.shapes.append(f'<rect {place} fill="{ink}"{turned}/>')
 
     def text(
-        self, x, y, text, size=17, at="start", code=False, bold=False, within=None, halo=False
+        self, x, y, text, size=17, at="start", code=False, bold=False, within=None, halo=False,
+        style="thin",
     ):
-        """Writes a text whose base line is at y. It has to fit into `within` pixels, if given. With
-        a halo, lines below it end before they touch it."""
+        """Writes a text whose base line is at y, in the colour of lines of this style. It has to
+        fit into `within` pixels, if given. With a halo, lines below it end before they touch it."""
         width = width_of(text, size, code, bold)
         left = x - {"start": 0, "middle": width / 2, "end": width}[at]
         self.fits(text, size, width, left, y, within)
         look = f'font-size="{size}" text-anchor="{at}"' + (' font-weight="bold"' if bold else "")
         if code:
             look += f' font-family="{CODE}"'
+        if style in INKS:
+            look += f' fill="{INKS[style]}"'
         if halo:
             look += ' stroke="white" stroke-width="8" paint-order="stroke"'
         place = f'x="{number(x)}" y="{number(y)}"'

@@ -20,10 +20,19 @@ LOOKS = {
     "tagged": ("broken", "diamond", "with a tag"),
     "random": ("thick", "disc", "random"),
 }
+# The number of chosen keys of which the title tells, and the kilobytes of what it calls half a
+# megabyte.
+TOLD, HALF = 10_000, (450, 550)
+TITLE = "{:,} chosen keys: a put takes {:.0f} times as long, and a proof has half a megabyte"
+# By how many percent hashed keys may lie below random ones.
+BELOW = 3
 LAYERS = 3
 CELL, HIGH, TREE = 20, 26, 58
 CAPTION = [
-    "Chosen: all of layer 0. With a tag: the same keys, each with a tag at its end, made by a secret.",
+    "Chosen: all of layer 0. With a tag: the same keys, each with a tag at its end, made by a"
+    " secret.",
+    "Not drawn: the same keys, hashed by a secret: between random keys and those with a tag, or up"
+    f" to {BELOW} % below.",
     "All scales are logarithmic; those of the two times are the same. A kilobyte has 1,000 bytes.",
 ]
 
@@ -56,6 +65,27 @@ def see_that_the_page_tells_them(found):
                          "docs/pictures/chosen.tsv")
 
 
+def title_of(found):
+    """The title, with how many times as long as over random keys a put takes."""
+    puts, proofs = found["put"], found["proof bytes"]
+    low, high = HALF
+    if not low <= proofs["chosen"][TOLD] / 1_000 <= high:
+        sys.exit(f"a proof has {proofs['chosen'][TOLD]:,} bytes: another title")
+    return TITLE.format(TOLD, puts["chosen"][TOLD] / puts["random"][TOLD])
+
+
+def see_that_hashed_keys_lie_between(found):
+    """Refuses figures of hashed keys that are not between those of the two kinds that are drawn and
+    are random again, or just below."""
+    for call, _, _ in PANELS:
+        kinds = found[call]
+        for keys, hashed in kinds["hashed"].items():
+            low, high = sorted((kinds["random"][keys], kinds["tagged"][keys]))
+            if not (1 - BELOW / 100) * low <= hashed <= high:
+                sys.exit(f"{call} of {keys:,} hashed keys: {hashed:,} is not between {low:,} and "
+                         f"{high:,}, as the picture says")
+
+
 def draw_node(canvas, middle, top, entries, style):
     """A node: a cell for each entry."""
     for place in range(entries):
@@ -82,7 +112,7 @@ def draw_trees(canvas):
     canvas.text(24, 34, "random keys: many short nodes", 17, bold=True)
     draw_random_tree(canvas, 24, 560)
     canvas.text(640, 34, "chosen keys: one node has all of them", 17, bold=True)
-    draw_node(canvas, 904, TREE + 120, 26, "warm")
+    draw_node(canvas, 904, TREE + 120, 23, "warm")
     for number, line in enumerate((
         "A path: a few short nodes. On average a node has",
         "16 entries in format 1 and 4 in format 2; drawn are fewer.",
@@ -114,7 +144,8 @@ def points_of(kinds, divided):
 def picture():
     found = figures()
     see_that_the_page_tells_them(found)
-    canvas = Canvas("chosen", "Keys that an attacker chooses, and what they cost", LOWER + 170)
+    see_that_hashed_keys_lie_between(found)
+    canvas = Canvas("chosen", title_of(found), LOWER + 196)
     draw_trees(canvas)
     points = {call: points_of(found[call], divided) for call, _, divided in PANELS}
     for number, (call, title, _) in enumerate(PANELS):

@@ -37,7 +37,7 @@ LOWER = FIRST + len(LANES) * APART
 LOOKS = [
     ("thick", "in mst_sharded_group_apply, and makes a block: one thread at a time"),
     ("dashed", "in mst_sharded_group_apply, and sleeps until it leads or its edits are made"),
-    ("thin", "what a snapshot shows that is taken now"),
+    ("thin", "what a snapshot taken now shows"),
 ]
 NOTES = ["At a dotted line a block is published; after that an arrow wakes a thread."]
 

@@ -40,11 +40,12 @@ VERIFIERS, MAPS = "verifiers", "maps and their trees"
 FOR_C = {"mst_verifier", "mst_exports"}
 TITLE = "The groups of crates: verifiers depend on no store"
 FIRST, APART, LINE, SIZE, SPACE = 16, 46, 26, 16, 24
-LOOKS = [("thick", "all that a user needs, to read or to build, who only verifies proofs")]
-NOTES = [
+LOOKS = [("thick", "all that a user who only verifies proofs has to read or build")]
+NOTE = (
     "An arrow leads to a group on which a group depends; it is left out where others lead the same"
-    " way. Bold: the two crates from which the libraries for C are built. Not drawn: what stands at the top.",
-]
+    " way. Bold: the two crates from which the libraries for C are built. Not drawn: the tests and"
+    " {}, which stand at the top."
+)
 
 
 def stands_on():
@@ -64,6 +65,15 @@ def crates_of():
     if set(table) != set(GROUPS):
         sys.exit(f"tools/drawing/crates.py has other groups than {PAGE}")
     return table
+
+
+def crates_at_the_top(table):
+    """The crates of no group, but those of tests. Refuses others than the page names."""
+    drawn = {crate for crates in table.values() for crate in crates}
+    found = [it for it in stands_on() if it not in drawn and not it.endswith("_tests")]
+    if found != told()[LAST][0]:
+        sys.exit(f"at the top stand {found} and tests, and {PAGE} names others")
+    return found
 
 
 def depends_on(table):
@@ -146,5 +156,6 @@ def picture():
         draw_arrow(canvas, pair, high, tops)
     for name, (_, _, row) in GROUPS.items():
         draw_group(canvas, name, table[name], tops[row], high[row])
-    canvas.lines(20, canvas.legend(20, low + 44, LOOKS) + 4, NOTES)
+    note = NOTE.format(" and ".join(crates_at_the_top(table)))
+    canvas.lines(20, canvas.legend(20, low + 44, LOOKS) + 4, [note])
     return canvas

@@ -4,10 +4,10 @@ import sys
 
 from .canvas import Canvas
 from .curves import Plot, apart, scale
-from .figures import batches, figures, measured, see_that_the_page_tells_them
+from .figures import batches, figures, measured_each, see_that_the_page_tells_them
 
 LEFT, ACROSS, NEXT, UPPER, HIGH, BELOW = 94, 196, 394, 62, 370, 512
-TITLE = "A get costs about what LMDB's does, a put {:.0f} to {:.0f} times"
+TITLE = "A get takes about as long as LMDB's, a put {:.0f} to {:.0f} times as long"
 # The scale of the gets of all engines but the slowest, and the lines on it.
 GETS, FINE = (100, 1_000), (1, 2, 5)
 LOOKS = {
@@ -20,6 +20,8 @@ CAPTION = [
     "ns: nanoseconds of a call, or of a put of a batch. Less is better. All scales are logarithmic;"
     f" that of get ends at {GETS[1]:,}.",
 ]
+# What batches of one are.
+ALONE = "Puts in batches were timed apart; there a batch of 1 is the put of the left panel."
 # The heads of the tables that are drawn: what the page says above them is said below the picture.
 HEADS = {"Nanoseconds of": "times by keys", "nanoseconds, 1,000 keys": "batches"}
 # The most by which neighbours on a curve may differ that a line joins.
@@ -80,15 +82,13 @@ def picture():
     times = scale([
         it for *_, engines in (ranges, *puts) for each in engines.values() for it in each.values()
     ])
-    canvas = Canvas("engines", title_of(found), UPPER + BELOW + HIGH + 168)
+    says = [*CAPTION, *measured_each("SPEED.md", HEADS), ALONE]
+    canvas = Canvas("engines", title_of(found), UPPER + BELOW + HIGH + 90 + 26 * len(says))
     draw_gets(canvas, found["get"])
     left = LEFT + 2 * NEXT
     draw_panel(canvas, (left, left + ACROSS, UPPER, UPPER + HIGH), times, ranges)
     for across, panel in enumerate(puts):
         left, upper = LEFT + across * NEXT, UPPER + BELOW
         draw_panel(canvas, (left, left + ACROSS, upper, upper + HIGH), times, panel)
-    canvas.lines(20, UPPER + BELOW + HIGH + 96, CAPTION + [
-        line.replace("Measured", f"Measured, {what}") for head, what in HEADS.items()
-        for line in measured("SPEED.md", head)
-    ])
+    canvas.lines(20, UPPER + BELOW + HIGH + 96, says)
     return canvas

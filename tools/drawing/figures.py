@@ -56,6 +56,8 @@ def batches():
 
 
 MEASURED = "*Measured*: "
+# What is said of figures that were not measured with the library as it is.
+EARLIER = ", of an earlier library"
 
 
 def measured(name, *heads):
@@ -76,8 +78,20 @@ def measured(name, *heads):
             if not found:
                 sys.exit(f"docs/{name} does not say on which day and of which commit '{head}' is")
             earlier = any(it.startswith("earlier library") for it in line)
-            lines.append(f"Measured: {found[0]}{', of an earlier library' * earlier}.")
+            lines.append(f"Measured: {found[0]}{EARLIER * earlier}.")
     return list(dict.fromkeys(lines))
+
+
+def measured_each(name, heads):
+    """The same of the tables with these heads, each with what the picture calls it, or in one line
+    if all are of one day and one library."""
+    lines = measured(name, *heads)
+    if len(lines) == 1:
+        return lines
+    return [
+        line.replace("Measured", f"Measured, {what}") for head, what in heads.items()
+        for line in measured(name, head)
+    ]
 
 
 def whole(text):

@@ -1,5 +1,5 @@
 """Who holds what: threads, hands and passes of one store, with its turn, its versions and its pins;
-and the writer, a group, a reader and a snapshot of a sharded map."""
+and the writer, a group, a snapshot and a reader of a sharded map."""
 from .canvas import LIGHT_GREY, Canvas
 
 THREAD, HAND, OUTER = (20, 120), (180, 250), (490, 694)
@@ -7,22 +7,24 @@ RIGHT = sum(OUTER) - 24
 HIGH, APART, FIRST = 46, 64, 66
 # Where the turn, the versions and the rows of the store stand from left to right.
 TURN, VERSION = (514, 200), 792
-TITLE = "Who holds what: threads, hands and passes, and what these have of a store or a sharded map"
+TITLE = "Each thread has a hand, or shares the writer; one pass, or one thread, writes at a time"
 # Of each thread of the store: its name, and what its hand has.
 THREADS = [
-    ("thread A", ("pass 0", "has the turn")),
-    ("thread B", ("pass 1", "waits in mst_put")),
-    ("thread C", ("pass 2", "reads")),
-    ("thread D", ("pass 3", "pinned")),
-    (None, ("pass 4", "spare: to watch")),
+    ("thread A", ("pass 1", "has the turn")),
+    ("thread B", ("pass 2", "waits in mst_put")),
+    ("thread C", ("pass 3", "reads")),
+    ("thread D", ("pass 4", "pinned")),
+    (None, ("pass 5", "spare: to watch")),
 ]
 SECOND = FIRST + len(THREADS) * APART + 96
 # The lanes of the sharded map, and where the versions of three blocks stand.
 LANES, NAMES, WIDE = ["directory", "shard 0", "shard 1", "shard 2"], 696, 90
 OLD, LAST, NEXT = 818, 938, 1058
-LANE, STEP, LANES_FROM = 36, 54, 48
+LANE, STEP, LANES_FROM = 36, 50, 48
+# Where the line of the snapshot turns down, between its text and the names of the lanes.
+TURNS = 706
 LOOKS = [
-    ("thick", "the current version, the last block: what a read sees that begins now"),
+    ("thick", "the current version, the last block: what a read that begins now sees"),
     ("thin", "an older version, which a pin keeps"),
     ("dashed", "what is being made, in free rows that nobody sees"),
     ("thin", "the right to write: one pass or one thread at a time has it", LIGHT_GREY),
@@ -59,7 +61,7 @@ def draw_store(canvas):
         canvas.text(left + 14, tops[0] + 62 + 24 * line, text, 16, within=wide - 18)
     versions = [(tops[0], "dashed", "version 43", "is being made"),
                 (tops[2], "thick", "version 42", "current"),
-                (tops[3], "thin", "version 41", "pinned by pass 3")]
+                (tops[3], "thin", "version 41", "pinned by pass 4")]
     for top, style, name, says in versions:
         canvas.box(VERSION, top, RIGHT - VERSION, HIGH, style)
         canvas.text(VERSION + 12, top + 29, name, 17, bold=True)
@@ -105,26 +107,26 @@ def draw_map(canvas):
     for line, text in enumerate(("taken out of the first", "hand: one of its threads",
                                  "makes each block, with", "the edits of those that", "wait")):
         canvas.text(HAND[0] + 12, rows[0] + 62 + 24 * line, text, 16, within=HAND[1] - 16)
-    held = (rows[3], "reader", "get, snapshot"), (rows[4], "snapshot", "of block 6")
+    held = (rows[3], "snapshot", "of block 6"), (rows[4], "reader", "get, snapshot")
     for y, name, says in held:
         canvas.box(HAND[0], y, HAND[1], HIGH)
         canvas.text(HAND[0] + 12, y + 29, name, 17, bold=True)
         canvas.text(HAND[0] + 112, y + 29, says, 16)
     draw_blocks(canvas, top)
     hand, left = sum(HAND), OUTER[0] + 24
-    last = top + LANES_FROM + 3 * STEP
+    low = top + LANES_FROM + 3 * STEP + LANE  # where the boxes of the last lane end
     y, x = rows[0] + 6, NEXT + WIDE + 2
     canvas.line([(hand, y), (x, y), (x, top + LANES_FROM - 10)], arrow=True)
-    for line, says in enumerate(("makes block 8, to publish", "the shards first, and then",
-                                 "the directory")):
+    for line, says in enumerate(("makes block 8: the shards", "first, the directory last")):
         canvas.text(left, y + 22 + 24 * line, says, 16)
-    y = last - 9
-    canvas.line([(hand, y), (LAST - 30, y), (LAST - 2, last + LANE / 2)], arrow=True)
+    y, below, x = rows[3] + HIGH / 2, low + 30, OLD + WIDE / 2
+    canvas.line([(hand, y), (TURNS, y), (TURNS, below), (x, below), (x, low + 11)], arrow=True)
+    for line, says in enumerate(("pins the directory", "and each shard")):
+        canvas.text(left, y - 33 + 24 * line, says, 16, within=TURNS - left - 4)
+    y, x = low + 54, LAST + WIDE / 2
+    canvas.line([(hand, y), (x, y), (x, low + 2)], arrow=True)
     for line, says in enumerate(("a get: the current", "version of one shard")):
-        canvas.text(left, y + 20 + 22 * line, says, 16)
-    y, x = rows[4] + HIGH - 12, OLD + WIDE / 2
-    canvas.line([(hand, y), (x, y), (x, last + LANE + 11)], arrow=True)
-    canvas.text(left, y - 9, "pins the directory and each shard", 16)
+        canvas.text(left, y - 33 + 24 * line, says, 16, within=TURNS - left - 4)
 
 
 def picture():

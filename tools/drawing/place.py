@@ -1,8 +1,8 @@
-"""Where a store and a verifier stand: a log, a store in each replica, a root digest that is signed,
-and a client."""
+"""Where a store and a verifier stand: a log, a store in each replica, a signer of root digests, and
+a client."""
 from .canvas import Canvas
 
-LOG, REPLICA, CLIENT = (20, 160), (310, 370), (916, 268)
+LOG, REPLICA, SIGNER, CLIENT = (20, 160), (310, 370), (716, 164), (916, 268)
 TOPS, HIGH = (30, 138, 246), 84
 LOWER = TOPS[-1] + HIGH
 TITLE = "One log makes equal stores; a client that trusts a root digest can check their answers"
@@ -46,16 +46,21 @@ def draw_replicas(canvas):
 
 
 def draw_answers(canvas):
-    """What goes from replicas to the client, and back."""
+    """What goes from replicas to the client, by the signer or straight, and back."""
     left, right = sum(REPLICA), CLIENT[0]
     middle = (left + right) / 2
-    for y, lines in (
-        (TOPS[0] + 62, ("your signer signs R,", "its kind, its format,", "its version number")),
-        (TOPS[2] + 30, ("the value, or 'absent',", "with its proof")),
-    ):
-        canvas.line([(left, y), (right, y)], arrow=True)
-        for line, text in enumerate(reversed(lines)):
-            canvas.text(middle, y - 10 - 24 * line, text, 16, "middle", within=right - left - 8)
+    at, wide = SIGNER
+    y = TOPS[0] + 58
+    canvas.box(at, y - 22, wide, 44, round=8)
+    canvas.text(at + wide / 2, y + 6, "signer", 18, "middle", bold=True)
+    canvas.line([(left, y), (at, y)], arrow=True)
+    canvas.line([(at + wide, y), (right, y)], arrow=True)
+    for line, text in enumerate(("signs R, the map's name,", "kind, format and number")):
+        canvas.text(middle, y - 56 + 24 * line, text, 16, "middle", within=right - left - 8)
+    y = TOPS[2] + 30
+    canvas.line([(left, y), (right, y)], arrow=True)
+    for line, text in enumerate(("the value, or 'absent',", "with its proof")):
+        canvas.text(middle, y - 34 + 24 * line, text, 16, "middle", within=right - left - 8)
     y = TOPS[2] + 64
     canvas.line([(right, y), (left, y)], arrow=True)
     canvas.text(middle, y + 22, "asks for a key", 16, "middle", within=right - left - 8)
@@ -65,15 +70,16 @@ def draw_client(canvas):
     left, wide = CLIENT
     canvas.box(left, TOPS[0], wide, LOWER - TOPS[0], round=8)
     canvas.text(left + 16, TOPS[0] + 30, "client", 18, bold=True)
-    canvas.text(left + 16, TOPS[0] + 58, "checks the signature", 16, within=wide - 32)
-    top = TOPS[1] - 8
+    for line, text in enumerate(("checks all that was signed,", "and that no number falls")):
+        canvas.text(left + 16, TOPS[0] + 54 + 23 * line, text, 16, within=wide - 24)
+    top = TOPS[1] - 12
     canvas.box(left + 16, top, wide - 32, LOWER - top - 16, "thick", round=6)
-    canvas.text(left + 32, top + 30, "verifier", 18, bold=True)
+    canvas.text(left + 32, top + 28, "verifier", 18, bold=True)
     for line, text in enumerate((
-        "takes R, the format,", "the key and the proof;", "returns the value,", "'absent', or which",
-        "test the proof fails",
+        "the call for R's kind", "takes R, the format,", "the key and the proof;",
+        "returns the value,", "'absent', or which", "test the proof fails",
     )):
-        canvas.text(left + 32, top + 60 + 24 * line, text, 16, within=wide - 60)
+        canvas.text(left + 32, top + 54 + 23 * line, text, 16, within=wide - 60)
 
 
 def picture():

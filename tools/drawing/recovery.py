@@ -2,13 +2,13 @@
 store."""
 from .canvas import Canvas
 
-LEFT, RIGHT, FIRST, APART, HIGH = 210, 1184, 108, 62, 46
+LEFT, RIGHT, FIRST, APART, HIGH = 210, 1184, 66, 62, 46
 TITLE = "A writer has died: reads go on, and the map moves to a new store"
 # When the writer dies, and when each step of the page begins.
-DIES, STOP, PIN, LOAD, COMPARE, SWITCH = 330, 452, 566, 666, 804, 936
+DIES, STOP, PIN, LOAD, COMPARE, SWITCH = 290, 486, 556, 626, 733, 866
 STEPS = [
     (DIES, "a writer dies"), (STOP, "1 stop"), (PIN, "2 pin"), (LOAD, "3 load"),
-    (COMPARE, "4 compare"), (SWITCH, "5 switch over"),
+    (COMPARE, "4 compare"), (SWITCH, "5 switch, 6 add"),
 ]
 # Of each lane its name, and what goes on: where it begins and ends, its style, and what it is.
 LANES = [
@@ -16,7 +16,7 @@ LANES = [
         (LEFT, DIES, "thin", "writes"), (DIES, RIGHT, "warm", "has the turn, the write lock, for good"),
     ]),
     ("other writers", [
-        (LEFT, DIES, "thin", "write"), (DIES, STOP, "warm", "MST_BUSY"),
+        (LEFT, DIES, "thin", "write"), (DIES, STOP, "warm", "MST_BUSY, or wait"),
         (STOP, SWITCH, "dashed", "stopped; those that wait in mst_put stay"),
         (SWITCH, RIGHT, "thick", "write to the new one"),
     ]),
@@ -32,7 +32,7 @@ LANES = [
     ]),
     ("the new store", [
         (LOAD, COMPARE, "thick", "one batch"), (COMPARE, SWITCH, "thick", "same digest?"),
-        (SWITCH, RIGHT, "thick", "in use"),
+        (SWITCH, RIGHT, "thick", "add the difference of numbers"),
     ]),
 ]
 LOOKS = [
@@ -55,7 +55,7 @@ def picture():
     canvas = Canvas("recovery", TITLE, lower + 198)
     for place, (x, says) in enumerate(STEPS):
         canvas.line([(x, FIRST - 14), (x, lower - 4)], "dashed")
-        canvas.text(x, FIRST - 26 - 26 * (place == 0), says, 16, "middle", bold=place == 0)
+        canvas.text(x, FIRST - 26, says, 16, "middle", bold=place == 0)
     for place, (name, parts) in enumerate(LANES):
         draw_lane(canvas, FIRST + place * APART, name, parts)
     canvas.lines(20, canvas.legend(20, lower + 32, LOOKS) + 4, NOTES)

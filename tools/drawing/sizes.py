@@ -24,7 +24,7 @@ PARTS = [
 ]
 USED = "the most rows in use that were measured, in a store with the mean keys and edits of a shard"
 TITLE = "Most rows of a shard are for pinned versions"
-OPENED = "the rows to open it with, a ninth more than it needs"
+OPENED = "the rows to open it with, at least a ninth more than it needs"
 
 
 def cells_of(page, first):
@@ -82,16 +82,22 @@ def draw_bar(canvas, y, number, rows, write, all_rows, opened, used):
     for wide, (_, fill) in zip((rows, LONG * rows, write, SHORT * write), PARTS):
         canvas.box(across(place), y, across(place + wide) - across(place), HIGH, "thin", fill)
         place += wide
+    below = y + HIGH + 26
+    canvas.line([(across(used), y - 6), (across(used), y + HIGH + 8)], "warm")
+    says = f"{used:,} used (measured)"
+    wide = width_of(says, 16)
+    left = max(across(used) - wide, LEFT + 8)
+    canvas.text(left + wide, below, says, 16, "end", halo=True, style="warm")
+    next_to_it, says = left + wide + 12, f"needs {all_rows:,}"
+    left = max(across(all_rows) - width_of(says, 16) / 2, next_to_it)
+    canvas.line([(across(all_rows), y + HIGH), (across(all_rows), y + HIGH + 8)])
+    canvas.text(left, below, says, 16, halo=True)
     canvas.line([(across(opened), y - 8), (across(opened), y + HIGH + 8)], "bold")
-    says = f"needs {all_rows:,}; open {opened:,}"
+    says = f"open {opened:,}"
     if across(opened) + 8 + width_of(says, 16) < RIGHT:
         canvas.text(across(opened) + 8, y + HIGH / 2 + 6, says, 16, halo=True)
     else:
-        canvas.text(RIGHT - 8, y + HIGH + 26, says, 16, "end", halo=True)
-    canvas.line([(across(used), y - 6), (across(used), y + HIGH + 8)], "warm")
-    says = f"{used:,} used at mean size"
-    at = "end" if across(used) - width_of(says, 16) > LEFT + 8 else "middle"
-    canvas.text(across(used), y + HIGH + 26, says, 16, at, halo=True)
+        canvas.text(RIGHT - 8, below, says, 16, "end", halo=True)
 
 
 def picture():

@@ -4,7 +4,7 @@ import os
 import sys
 
 from .canvas import DARK_GREY, INK, LIGHT_GREY, TINT, Canvas
-from .figures import measured, row
+from .figures import measured_each, row
 from .maps import TOP
 
 UPPER, LOWER = 76, 450
@@ -120,10 +120,7 @@ def picture():
     found, page = figures(), told()
     see_that_the_page_tells_them(found, page)
     below = LOWER + 80 + 30 * (1 + max(len(each) for each in found.values()))
-    lines = [
-        line.replace("Measured", f"Measured, {what}") for head, what in HEADS.items()
-        for line in measured("STORE_C.md", head)
-    ]
+    lines = measured_each("STORE_C.md", HEADS)
     canvas = Canvas("threads", TITLE, below + 26 * len(lines))
     for who, (left, right, title, ways) in PANELS.items():
         each = {how: columns(who, found[who][how]) for how in ways if how in found[who]}

@@ -9,11 +9,10 @@ CELL, HEIGHT, FIRST, APART = 162, 84, 40, 190
 NODES = 168
 # The key whose proof is shown.
 PROVED = b"hanoi"
-CAPTION = [
-    f"Blue: the nodes whose texts are the proof of {PROVED.decode()}. A box is an entry; boxes that"
-    " touch are one node.",
-    "Above a node: how its digest begins. An arrow leads to the child in a gap: before an entry, or"
-    " after the last.",
+LOOKS = [("thick", f"the nodes whose texts are the proof of {PROVED.decode()}")]
+NOTES = [
+    "A box is an entry; boxes that touch are one node. Above a node: how its digest begins.",
+    "An arrow leads to the child in a gap: before an entry, or after the last.",
 ]
 
 
@@ -85,7 +84,7 @@ def picture():
     where = places(version)
     highest = version.nodes[version.root].layer
     title = f"The tree of a map of {len(version.pairs)} keys in format 1"
-    canvas = Canvas("tree", title, FIRST + highest * APART + 180)
+    canvas = Canvas("tree", title, FIRST + highest * APART + 220)
     way = on_the_way(version, version.root)
     for layer in range(highest + 1):
         top = FIRST + (highest - layer) * APART
@@ -97,5 +96,5 @@ def picture():
         style = "thick" if digest in way else "thin"
         is_root = digest == version.root
         draw_node(canvas, version.nodes[digest], digest, left, top, is_root, style)
-    canvas.lines(24, canvas.height - 48, CAPTION)
+    canvas.lines(24, canvas.legend(24, FIRST + highest * APART + HEIGHT + 48, LOOKS) + 4, NOTES)
     return canvas

@@ -1,8 +1,7 @@
 """Two versions of a map in rows: those that a put made, shared ones, those of the old one alone.
 
-A child hangs at its gap, as in the picture of the tree: the link to it begins before the row that
-has it. An entry has the link of the gap before it, the head that of the gap after all entries: so
-the head stands last."""
+The link to a child begins below the row that has it. An entry has the link of the gap before it,
+the head that of the gap after all entries: so the head stands last."""
 from .canvas import WIDTH, Canvas
 from .maps import last_two
 
@@ -29,9 +28,9 @@ class Placed:
         return self.left + self.rows * ROW / 2
 
     def gap(self, number):
-        """Where the link of a gap begins: before the next entry, for the last gap before the
-        head."""
-        return self.left + number * ROW
+        """Where the link of a gap begins: below the middle of the next entry, for the last gap of
+        the head."""
+        return self.left + (number + 0.5) * ROW
 
     def draw(self, canvas):
         texts = [*(key.decode() for key in self.node.keys), "head"]
