@@ -24,7 +24,7 @@ import (
 )
 
 const (
-	longestLine = 1 << 20
+	longestLine = 1 << 22
 	calls       = 100
 	leastTime   = 20 * time.Millisecond
 )
