@@ -23,7 +23,7 @@ SNAPSHOTS = [
 LATER = 18
 LOWER = FIRST + 3 * APART
 LEGEND = [
-    ("thin", "the version before: what a snapshot pins there until the next one is published"),
+    ("thin", "the version before: a snapshot taken before the next one is published pins it"),
     ("dashed", "the part that is being made, in free rows (memory cells)"),
     ("thick", "the version with the edits: published by one atomic step at its left end"),
 ]

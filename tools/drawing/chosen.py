@@ -31,8 +31,8 @@ CELL, HIGH, TREE = 20, 26, 58
 CAPTION = [
     "Chosen: all of layer 0. With a tag: the same keys, each with a tag at its end, made by a"
     " secret.",
-    "Not drawn: the same keys, hashed by a secret: between random keys and those with a tag, or up"
-    f" to {BELOW} % below.",
+    "Not drawn: keys hashed by a secret. They lie between"
+    f" {BELOW} % below random keys and those with a tag.",
     "All scales are logarithmic; those of the two times are the same. A kilobyte has 1,000 bytes.",
 ]
 

@@ -21,7 +21,7 @@ CAPTION = [
     f" that of get ends at {GETS[1]:,}.",
 ]
 # What batches of one are.
-ALONE = "Puts in batches were timed apart; there a batch of 1 is the put of the left panel."
+ALONE = "Puts in batches come from another program; a batch of 1 is a single put, lower left."
 # The heads of the tables that are drawn: what the page says above them is said below the picture.
 HEADS = {"Nanoseconds of": "times by keys", "nanoseconds, 1,000 keys": "batches"}
 # The most by which neighbours on a curve may differ that a line joins.

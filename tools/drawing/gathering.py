@@ -13,7 +13,7 @@ HEAD = "Edits"
 # A cell with two times.
 TWO = r"([\d.]+) \(([\d.]+)\)"
 TITLE = (
-    "By medians an edit takes a third as long in a block of {:,} as alone; one of {:,} saves little"
+    "By medians an edit takes a third of its time alone in a block of {:,}; a block of {:,} saves little"
 )
 # The columns, from left to right: what each is, and its fill.
 WAYS = [

@@ -70,7 +70,7 @@ def draw_client(canvas):
     left, wide = CLIENT
     canvas.box(left, TOPS[0], wide, LOWER - TOPS[0], round=8)
     canvas.text(left + 16, TOPS[0] + 30, "client", 18, bold=True)
-    for line, text in enumerate(("checks all that was signed,", "and that no number falls")):
+    for line, text in enumerate(("checks the signature, and", "refuses a lower number")):
         canvas.text(left + 16, TOPS[0] + 54 + 23 * line, text, 16, within=wide - 24)
     top = TOPS[1] - 12
     canvas.box(left + 16, top, wide - 32, LOWER - top - 16, "thick", round=6)

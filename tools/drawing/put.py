@@ -10,7 +10,7 @@ LEFT, RIGHT = 204, WIDTH - 16
 FIRST, HIGH, APART = 50, 40, 66
 WORDS = 46  # from one lane of words to the next
 CAPTION = [
-    "Time goes from left to right. In rings: the numbers of the steps of a read and of a write."
+    "Time goes from left to right. In rings: the numbers of the steps that the page lists."
     f" {{{READER}}}: a mask of pass {READER} alone.",
 ]
 
