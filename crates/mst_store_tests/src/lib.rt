@@ -1,7 +1,7 @@
-//! Tests of the table, its seats and the store, of what callers in other languages do not see:
-//! words of the table, seats that are refused and dealt again, passes that meet, and pinned passes
-//! that are dropped. What a caller in C sees is tested there (`tests/store`), what a script of the
-//! program says is a transcript (`tests/transcripts`).
+//! Tests of the table, its seats, the store and sharded maps, of what callers in other languages do
+//! not see: words of the table, seats that are refused and dealt again, passes that meet, pinned
+//! passes that are dropped, and blocks in threads. What a caller in C sees is tested there
+//! (`tests/store`), what a script of the program says is a transcript (`tests/transcripts`).
 #![tactic(auto)]
 
 #[cfg(test)]
@@ -18,6 +18,8 @@ mod refusals;
 mod seats;
 #[cfg(test)]
 mod settling;
+#[cfg(test)]
+mod sharded;
 #[cfg(test)]
 mod stores;
 #[cfg(test)]

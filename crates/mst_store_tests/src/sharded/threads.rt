@@ -2,8 +2,9 @@
 //! each snapshot is of one block, whole, and numbers never fall. Then the writer goes on in the
 //! thread of the test. Three readers that look at root digests and proofs too are tested in C
 //! (`tests/store/blocks_threads.c`).
-use crate::blocks::{is_whole, make_block};
-use crate::maps::{confirm, opened};
+use crate::confirming::confirm;
+use crate::sharded::blocks::{is_whole, make_block};
+use crate::sharded::maps::opened;
 use mst_blocks::Writer;
 use mst_key::Format;
 use mst_snapshots::Reader;

@@ -13,11 +13,6 @@ use std::alloc::{Allocator, Global};
 use std::process::Abort;
 use std::sync::Arc;
 
-/// Ends the test with this text if something is not as it should be.
-pub(crate) fn confirm(rt: &impl Abort, right: bool, what: &str) {
-    assert!(rt; right, "{what}");
-}
-
 /// The key of these bytes.
 pub(crate) fn key(rt: &impl Abort, bytes: &[u8]) -> Key {
     Key::new(bytes).expect(rt, "1 to 32 bytes")

@@ -1,7 +1,8 @@
 //! Who has a share of a map: a snapshot that is dropped, and a map that outlives its writer. Each
 //! order in which hands are closed is tested in C (`tests/store/blocks.c`).
-use crate::blocks::{ask_block, is_whole, make_block};
-use crate::maps::{Users, confirm, opened, shape_of, taken, users_of};
+use crate::confirming::confirm;
+use crate::sharded::blocks::{ask_block, is_whole, make_block};
+use crate::sharded::maps::{Users, opened, shape_of, taken, users_of};
 use linked_list_allocator::LocalHeap;
 use mst_blocks::{BlockFault, PartFault, Writer};
 use mst_key::Format;

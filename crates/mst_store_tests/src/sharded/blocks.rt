@@ -1,6 +1,7 @@
 //! Blocks of one put in each shard, and snapshots of them. The value of each key is the number of
 //! the block.
-use crate::maps::{confirm, found, put};
+use crate::confirming::confirm;
+use crate::sharded::maps::{found, put};
 use mst_blocks::{BlockFault, Writer};
 use mst_snapshots::Snapshot;
 use std::alloc::Allocator;

@@ -2,7 +2,8 @@
 //! and blocks that are taken back are tested in C (`tests/store/blocks_parts.c`).
 ghost use Rattle.std.specs.Prelude.{◌≡◌};
 
-use crate::maps::{confirm, found, opened, put, taken};
+use crate::confirming::confirm;
+use crate::sharded::maps::{found, opened, put, taken};
 use mst_blocks::{BlockFault, PartFault, Writer};
 use mst_key::{Edit, Format};
 use mst_parts::{Block, BlockPart, prepare_in_threads};

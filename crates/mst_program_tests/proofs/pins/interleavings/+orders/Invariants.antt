@@ -1,4 +1,4 @@
-use Rattle.mst_script_tests.proofs.pins.interleavings.+orders.Given as goal
+use Rattle.mst_program_tests.proofs.pins.interleavings.+orders.Given as goal
 
 abbrev pub decreases-orders : goal.decreases-orders
 decreases-orders g l = l.left

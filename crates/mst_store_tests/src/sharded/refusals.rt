@@ -1,5 +1,5 @@
 //! The text of each refusal of a block, and of an opening.
-use crate::maps::confirm;
+use crate::confirming::confirm;
 use mst_blocks::{BlockFault, PartFault};
 use mst_shards::ShardsFault;
 use mst_store::{ApplyFault, Memory};

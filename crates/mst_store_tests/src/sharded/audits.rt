@@ -1,6 +1,7 @@
 //! The directory of a snapshot, against its root digest. Proofs of a snapshot are judged in C
 //! (`tests/store/blocks_walk.c`).
-use crate::maps::{confirm, opened, put, taken};
+use crate::confirming::confirm;
+use crate::sharded::maps::{opened, put, taken};
 use mst_key::Format;
 use mst_sharded_proof::audit_directory;
 use mst_snapshots::Snapshot;
