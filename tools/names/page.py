@@ -6,6 +6,8 @@ from typing import List
 # What may be code: a word with what stands between the parts of a path or a name.
 WORD = re.compile(r"(?<![\w&])\*?[A-Za-z](?:[\w./:-]*\w)?(?:\(\))?")
 SPANS = re.compile(r"(`[^`]*`)")
+# As far as a full stop with a space behind it, outside of code.
+SENTENCE = re.compile(r"(?:`[^`]*`|[^`.]|\.(?! ))+\.(?= |$)")
 
 
 @dataclass
@@ -107,42 +109,41 @@ def kind_of(line, before):
     return "text"
 
 
-def titled(name):
-    return ", ".join(f"`{it}`" for it in name.title.split(", "))
+def first_sentence(words):
+    """The first sentence of words, without what is set to the right as code."""
+    text = next((it for it in words if it and not it.startswith(("```", "- "))), "")
+    found = SENTENCE.match(text)
+    return found[0] if found else text
 
 
-def shown(name, language):
-    """The lines of a name: a heading, its declaration, its words, and the names within."""
-    lines = [f"#### {titled(name)}", ""] if name.title else []
-    if name.code:
-        lines += [f"```{language}", *name.code.strip("\n").split("\n"), "```", ""]
-    if name.words:
-        lines += [*name.words, ""]
+def declared(name):
+    """A declaration in one line, without the body of a type; of several names the names."""
+    if ", " in name.title:
+        return ", ".join(f"`{it}`" for it in name.title.split(", "))
+    head = " ".join(name.code.split("{")[0].split()).removesuffix(";").removesuffix(" =")
+    return f"`{head or name.title}`"
+
+
+def shown(name, indent=""):
+    """The lines of a name: an item of a list, and below it the names within."""
+    if not name.title:
+        return []
+    said = first_sentence(name.words)
+    lines = [f"{indent}- {declared(name)}" + (f": {said}" if said else "")]
     for one in name.within:
-        lines += item(one)
-    return lines + ([""] if name.within else [])
+        lines += shown(one, indent + "  ")
+    return lines
 
 
-def item(name):
-    """The lines of a name within another: an item of a list, with all its words set to the
-    right."""
-    code = " ".join(name.code.split()).removesuffix(";")
-    first, *rest = name.words or [""]
-    if first.startswith(("```", "- ")):
-        first, rest = "", ["", first, *rest]
-    lines = [f"- `{code}`" + (f": {first}" if first else "")]
-    return lines + [f"  {line}" if line else "" for line in rest]
-
-
-def page(parts, language):
+def page(parts):
     """The parts of a language, one after the other."""
     lines = []
     for part in parts:
-        lines += [f"### {part.title}", ""]
-        if part.words:
-            lines += [*part.words, ""]
+        said = first_sentence(part.words)
+        lines += [f"### {part.title}", "", *([said, ""] if said else [])]
         for name in part.names:
-            lines += shown(name, language)
+            lines += shown(name)
+        lines.append("")
     return lines
 
 
