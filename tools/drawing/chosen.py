@@ -31,8 +31,8 @@ CELL, HIGH, TREE = 20, 26, 58
 CAPTION = [
     "Chosen: all of layer 0. With a tag: the same keys, each with a tag at its end, made by a"
     " secret.",
-    "Not drawn: keys hashed by a secret. They lie between"
-    f" {BELOW} % below random keys and those with a tag.",
+    "Keys hashed by a secret are not drawn: they are never above keys with a tag, and at most"
+    f" {BELOW} % below random ones.",
     "All scales are logarithmic; those of the two times are the same. A kilobyte has 1,000 bytes.",
 ]
 
@@ -75,12 +75,12 @@ def title_of(found):
 
 
 def see_that_hashed_keys_lie_between(found):
-    """Refuses figures of hashed keys that are not between those of the two kinds that are drawn and
-    are random again, or just below."""
+    """Refuses figures of hashed keys that are above those of keys with a tag, or more than just below
+    those of random keys."""
     for call, _, _ in PANELS:
         kinds = found[call]
         for keys, hashed in kinds["hashed"].items():
-            low, high = sorted((kinds["random"][keys], kinds["tagged"][keys]))
+            low, high = kinds["random"][keys], kinds["tagged"][keys]
             if not (1 - BELOW / 100) * low <= hashed <= high:
                 sys.exit(f"{call} of {keys:,} hashed keys: {hashed:,} is not between {low:,} and "
                          f"{high:,}, as the picture says")
@@ -100,11 +100,11 @@ def draw_random_tree(canvas, left, right):
     lower = [middle + (place - 1) * apart_by for place in range(3)]
     for place, x in enumerate(lower):
         start = middle + (place - 1) * CELL
-        canvas.line([(start, tops[0] + HIGH), (x, tops[1])], arrow=True)
+        canvas.line([(start, tops[0] + HIGH), (x, tops[1] - 3)], arrow=True)
         draw_node(canvas, x, tops[1], 1, "thick")
         for side in (-1, 1):
             leaf = x + side * apart_by / 4
-            canvas.line([(x + side * CELL / 2, tops[1] + HIGH), (leaf, tops[2])], arrow=True)
+            canvas.line([(x + side * CELL / 2, tops[1] + HIGH), (leaf, tops[2] - 3)], arrow=True)
             draw_node(canvas, leaf, tops[2], 3, "thick")
 
 

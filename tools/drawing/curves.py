@@ -42,7 +42,7 @@ class Plot:
         for keys in numbers:
             x = self.across(keys)
             self.canvas.line([(x, self.lower), (x, self.lower + 8)])
-            self.canvas.text(x, self.lower + 30, f"{keys // unit:,}", 17, "middle")
+            self.canvas.text(x, self.lower + 30, f"{keys // unit:,}", 16, "middle")
 
     def draw_curve(self, points, look, size=7, joined=math.inf):
         """A curve through points, each a number of keys and a time. Neighbours are joined if one

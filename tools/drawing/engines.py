@@ -22,6 +22,8 @@ CAPTION = [
 ]
 # What batches of one are.
 ALONE = "Puts in batches come from another program; a batch of 1 is a single put, lower left."
+# What was measured, by the page.
+CONDITIONS = "One thread, random keys of 16 bytes, values of 32; the store in format 1."
 # The heads of the tables that are drawn: what the page says above them is said below the picture.
 HEADS = {"Nanoseconds of": "times by keys", "nanoseconds, 1,000 keys": "batches"}
 # The most by which neighbours on a curve may differ that a line joins.
@@ -82,7 +84,7 @@ def picture():
     times = scale([
         it for *_, engines in (ranges, *puts) for each in engines.values() for it in each.values()
     ])
-    says = [*CAPTION, *measured_each("SPEED.md", HEADS), ALONE]
+    says = [*CAPTION, *measured_each("SPEED.md", HEADS), ALONE, CONDITIONS]
     canvas = Canvas("engines", title_of(found), UPPER + BELOW + HIGH + 90 + 26 * len(says))
     draw_gets(canvas, found["get"])
     left = LEFT + 2 * NEXT

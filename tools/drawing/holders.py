@@ -7,7 +7,7 @@ RIGHT = sum(OUTER) - 24
 HIGH, APART, FIRST = 46, 64, 66
 # Where the turn, the versions and the rows of the store stand from left to right.
 TURN, VERSION = (514, 200), 792
-TITLE = "Each thread has a hand, or shares the writer; one pass, or one thread, writes at a time"
+TITLE = "Who holds what in a store and in a sharded map"
 # Of each thread of the store: its name, and what its hand has.
 THREADS = [
     ("thread A", ("pass 1", "has the turn")),
@@ -29,6 +29,8 @@ LOOKS = [
     ("dashed", "what is being made, in free rows that nobody sees"),
     ("thin", "the right to write: one pass or one thread at a time has it", LIGHT_GREY),
 ]
+# What each kind of arrow means.
+ARROWS = [("thin", "uses, makes or pins"), ("dashed", "waits for the turn")]
 
 
 def draw_hand(canvas, top, thread, says):
@@ -131,8 +133,12 @@ def draw_map(canvas):
 
 def picture():
     lower = SECOND + 5 * APART
-    canvas = Canvas("holders", TITLE, lower + 36 + 36 * len(LOOKS))
+    canvas = Canvas("holders", TITLE, lower + 36 + 36 * len(LOOKS + ARROWS))
     draw_store(canvas)
     draw_map(canvas)
-    canvas.legend(20, lower + 36, LOOKS)
+    y = canvas.legend(20, lower + 36, LOOKS)
+    for style, text in ARROWS:
+        canvas.line([(20, y - 6), (72, y - 6)], style, arrow=True)
+        canvas.text(88, y, text, 17)
+        y += 36
     return canvas

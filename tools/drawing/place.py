@@ -50,13 +50,14 @@ def draw_answers(canvas):
     left, right = sum(REPLICA), CLIENT[0]
     middle = (left + right) / 2
     at, wide = SIGNER
-    y = TOPS[0] + 58
-    canvas.box(at, y - 22, wide, 44, round=8)
+    y = TOPS[0] + 74
+    canvas.box(at, y - 20, wide, 40, round=8)
     canvas.text(at + wide / 2, y + 6, "signer", 18, "middle", bold=True)
     canvas.line([(left, y), (at, y)], arrow=True)
     canvas.line([(at + wide, y), (right, y)], arrow=True)
-    for line, text in enumerate(("signs R, the map's name,", "kind, format and number")):
-        canvas.text(middle, y - 56 + 24 * line, text, 16, "middle", within=right - left - 8)
+    signs = "signs R, the map's name,", "kind, format and", "version number"
+    for line, text in enumerate(signs):
+        canvas.text(middle, y - 76 + 23 * line, text, 16, "middle", within=right - left - 8)
     y = TOPS[2] + 30
     canvas.line([(left, y), (right, y)], arrow=True)
     for line, text in enumerate(("the value, or 'absent',", "with its proof")):
@@ -70,7 +71,7 @@ def draw_client(canvas):
     left, wide = CLIENT
     canvas.box(left, TOPS[0], wide, LOWER - TOPS[0], round=8)
     canvas.text(left + 16, TOPS[0] + 30, "client", 18, bold=True)
-    for line, text in enumerate(("checks the signature, and", "refuses a lower number")):
+    for line, text in enumerate(("checks the signature, and", "refuses a lower version")):
         canvas.text(left + 16, TOPS[0] + 54 + 23 * line, text, 16, within=wide - 24)
     top = TOPS[1] - 12
     canvas.box(left + 16, top, wide - 32, LOWER - top - 16, "thick", round=6)

@@ -22,7 +22,7 @@ PARTS = [
     ("W: the rows of the write that is being made", DARK_GREY),
     ("S × W: the version before, which a short read may still need", LIGHT_GREY),
 ]
-USED = "the most rows in use that were measured, in a store with the mean keys and edits of a shard"
+USED = "measured: the most rows in use in a shard of mean size, which has fewer keys than the fullest"
 TITLE = "Most rows of a shard are for pinned versions"
 OPENED = "the rows to open it with, at least a ninth more than it needs"
 
@@ -73,7 +73,7 @@ def draw_scale(canvas, lower):
         if rows != MOST:
             canvas.text(x, lower + 24, f"{rows:,}", 16, "middle")
     canvas.text(RIGHT, UPPER - 24, "65,535: the most of a store", 16, "end")
-    canvas.text(LEFT, UPPER - 24, "rows of the fullest shard", 17, bold=True)
+    canvas.text(LEFT, UPPER - 24, "bars: rows that the fullest shard needs", 17, bold=True)
 
 
 def draw_bar(canvas, y, number, rows, write, all_rows, opened, used):
@@ -84,7 +84,7 @@ def draw_bar(canvas, y, number, rows, write, all_rows, opened, used):
         place += wide
     below = y + HIGH + 26
     canvas.line([(across(used), y - 6), (across(used), y + HIGH + 8)], "warm")
-    says = f"{used:,} used (measured)"
+    says = f"{used:,} in a mean shard"
     wide = width_of(says, 16)
     left = max(across(used) - wide, LEFT + 8)
     canvas.text(left + wide, below, says, 16, "end", halo=True, style="warm")

@@ -25,6 +25,8 @@ PANELS = {
 }
 TITLE = "Gets of a pinned version grow with the readers; the queue keeps writers even"
 LEAST = "the least of the five runs (column: their median)"
+# What was measured, by the page.
+CONDITIONS = "One store of 1,000 keys, four processors."
 # The heads of the tables that are drawn: what the page says above them is said below the picture.
 HEADS = {"gets a second, by readers": "readers", "puts a second, by writers": "writers"}
 
@@ -120,7 +122,7 @@ def picture():
     found, page = figures(), told()
     see_that_the_page_tells_them(found, page)
     below = LOWER + 80 + 30 * (1 + max(len(each) for each in found.values()))
-    lines = measured_each("STORE_C.md", HEADS)
+    lines = [*measured_each("STORE_C.md", HEADS), CONDITIONS]
     canvas = Canvas("threads", TITLE, below + 26 * len(lines))
     for who, (left, right, title, ways) in PANELS.items():
         each = {how: columns(who, found[who][how]) for how in ways if how in found[who]}

@@ -13,7 +13,7 @@ PAGE = os.path.join(TOP, "docs", "BELIEVE.md")
 # What the page says of how many lines there are to read, by its heading.
 COUNTS = {
     "### For the store": r"They rest on ([\d,]+) lines",
-    "### To know that the theorem holds": r"Read ([\d,]+) lines",
+    "### To know that the theorem holds": r"They rest on ([\d,]+) lines",
     "### For the verifier": r"They rest on ([\d,]+) lines",
     "### For sharded maps": r"on these ([\d,]+) lines",
     "### For C": r"on these ([\d,]+) lines",
