@@ -96,11 +96,14 @@ fn sharded_switch<'a>(alloc: Global) -> Arg<'a> {
 
 // The command of a load.
 fn load_command<'a>(alloc: Global) -> Result<Command<'a>, AllocError> {
+    let options = vec![in alloc;
+        required_number(alloc, "readers", "How many threads read, 1 to 24"),
+        required_number(alloc, "writers", "How many threads write, 1 to 8"),
+        required_number(alloc, "calls", "How many calls each makes, 1 to 100000"),
+    ]?;
     Command::new(alloc, "load")
         .about("Lets threads read and write one store at once, and reports what they left")
-        .arg(required_number(alloc, "readers", "How many threads read, 1 to 24"))?
-        .arg(required_number(alloc, "writers", "How many threads write, 1 to 8"))?
-        .arg(required_number(alloc, "calls", "How many calls each makes, 1 to 100000"))
+        .args(options)
 }
 
 // The command of a script.
@@ -108,24 +111,31 @@ fn run_command<'a>(alloc: Global) -> Result<Command<'a>, AllocError> {
     let rows = "How many rows the store has, 4 to 65535";
     let passes = "How many passes the store has, 1 to 32";
     let format = "The format in which the store opens, 1 or 2";
+    let options = vec![in alloc;
+        usual_number(alloc, "rows", rows, "1024"),
+        usual_number(alloc, "passes", passes, "4"),
+        format_option(alloc, format),
+        splits_option(alloc),
+    ]?;
     Command::new(alloc, "run")
         .about("Answers the lines of standard input, each of them a command of a pass")
-        .arg(usual_number(alloc, "rows", rows, "1024"))?
-        .arg(usual_number(alloc, "passes", passes, "4"))?
-        .arg(format_option(alloc, format))?
-        .arg(splits_option(alloc))
+        .args(options)
 }
 
 // The command that verifies a proof.
 fn verify_command<'a>(alloc: Global) -> Result<Command<'a>, AllocError> {
     let root = "The root digest of the map, 64 hexadecimal digits";
     let key = "The key, 1 to 32 bytes of two hexadecimal digits each";
+    let format = "The format of the root digest and the proof, 1 or 2";
+    let options = vec![in alloc;
+        required_word(alloc, "ROOT", root),
+        required_word(alloc, "KEY", key),
+        sharded_switch(alloc),
+        format_option(alloc, format),
+    ]?;
     Command::new(alloc, "verify")
         .about("Says what the proof on standard input, in hexadecimal, shows of a key")
-        .arg(required_word(alloc, "ROOT", root))?
-        .arg(required_word(alloc, "KEY", key))?
-        .arg(sharded_switch(alloc))?
-        .arg(format_option(alloc, "The format of the root digest and the proof, 1 or 2"))
+        .args(options)
 }
 
 // The command that replays events.
@@ -145,24 +155,40 @@ fn bare_program<'a>(alloc: Global) -> Command<'a> {
         .after_help(AFTER_HELP)
 }
 
-// The program with its first two commands.
-fn half_program<'a>(alloc: Global) -> Result<Command<'a>, AllocError> {
-    let run = run_command(alloc)?;
-    let program = bare_program(alloc).subcommand(run)?;
-    program.subcommand(verify_command(alloc)?)
+// The program with one more command, if there was memory for that.
+fn with_command<'a>(
+    program: Command<'a>,
+    made: Result<Command<'a>, AllocError>,
+) -> Result<Command<'a>, AllocError> {
+    match made {
+        Ok(command) => program.subcommand(command),
+        Err(refused) => {
+            drop(program);
+            Err(refused)
+        }
+    }
 }
 
 // The program, with its commands.
 fn program<'a>(alloc: Global) -> Result<Command<'a>, AllocError> {
-    let program = half_program(alloc)?.subcommand(replay_command(alloc))?;
-    program.subcommand(load_command(alloc)?)
+    let program = with_command(bare_program(alloc), run_command(alloc))?;
+    let program = with_command(program, verify_command(alloc))?;
+    let program = program.subcommand(replay_command(alloc))?;
+    with_command(program, load_command(alloc))
 }
 
-// The error that clap finds in words that name no task. If it ever found none, they would be
-// refused by this message.
+// The error that refuses words in which clap finds none, should that ever be.
+fn no_task(alloc: Global) -> Result<Error, AllocError> {
+    program(alloc)?.error(ErrorKind::InvalidSubcommand, "the words name no task")
+}
+
+// The error that clap finds in words that name no task.
 fn error_in(alloc: Global, words: &[&str]) -> Result<Error, AllocError> {
     match program(alloc)?.try_get_matches_from(words) {
-        Ok(_) => program(alloc)?.error(ErrorKind::InvalidSubcommand, "the words name no task"),
+        Ok(matches) => {
+            drop(matches);
+            no_task(alloc)
+        }
         Err(error) => Ok(error),
     }
 }
