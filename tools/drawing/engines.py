@@ -24,6 +24,10 @@ CAPTION = [
 ALONE = "Puts in batches come from another program; a batch of 1 is a single put, lower left."
 # What was measured, by the page.
 CONDITIONS = "One thread, random keys of 16 bytes, values of 32; the store in format 1."
+# What the page says of one figure.
+UNCERTAIN = (
+    "The store's put in batches of 1,000, at 1,000 keys, is uncertain: another program told 868."
+)
 # The heads of the tables that are drawn: what the page says above them is said below the picture.
 HEADS = {"Nanoseconds of": "times by keys", "nanoseconds, 1,000 keys": "batches"}
 # The most by which neighbours on a curve may differ that a line joins.
@@ -84,7 +88,7 @@ def picture():
     times = scale([
         it for *_, engines in (ranges, *puts) for each in engines.values() for it in each.values()
     ])
-    says = [*CAPTION, *measured_each("SPEED.md", HEADS), ALONE, CONDITIONS]
+    says = [*CAPTION, *measured_each("SPEED.md", HEADS), ALONE, CONDITIONS, UNCERTAIN]
     canvas = Canvas("engines", title_of(found), UPPER + BELOW + HIGH + 90 + 26 * len(says))
     draw_gets(canvas, found["get"])
     left = LEFT + 2 * NEXT
