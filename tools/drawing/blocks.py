@@ -3,14 +3,15 @@ from .canvas import Canvas
 
 LEFT, NAMES, END = 24, 140, 1172
 FIRST, APART, HIGH = 102, 78, 46
-# Where the writer begins the block, and where the parts of the shards are made.
-BEGUN, HASHED = 330, 560
+# Where the writer begins the block, with the part of the first shard, where it begins that of the
+# next, and where both are made.
+BEGUN, NEXT, HASHED = 330, 445, 560
 # Each lane: its name, what it has before and after, where its part is begun, and where it is
 # published.
 LANES = [
     ("directory", "block 6", "block 7", HASHED, 960),
     ("shard 0", "version 4", "version 5", BEGUN, 780),
-    ("shard 1", "version 8", "version 9", BEGUN, 870),
+    ("shard 1", "version 8", "version 9", NEXT, 870),
 ]
 # The snapshots: where each is, what it is called, and whether it is of one block.
 SNAPSHOTS = [
