@@ -2,7 +2,7 @@
 import os
 import re
 
-from .page import Name, Part, paragraphs
+from .page import Name, Part, first_paragraph
 from .scanning import block_lines, items
 
 GROUP = re.compile(r"/\* ---- (.*?) ---- \*/", re.DOTALL)
@@ -42,14 +42,12 @@ class Header:
         if title in self.seen:
             return
         self.seen.add(title)
-        self.part().names.append(Name(title, code, paragraphs(words, "c")))
+        self.part().names.append(Name(title, code, first_paragraph(words)))
 
     def say(self, words):
-        """Words of no name: those before the first name are the part's."""
-        if self.part().names or self.part().words:
-            self.part().names.append(Name("", "", paragraphs(words, "c")))
-        else:
-            self.part().words = paragraphs(words, "c")
+        """Words of no name: the first before the first name are the part's."""
+        if not self.part().names and not self.part().words:
+            self.part().words = first_paragraph(words)
 
     def add_macro(self, item, words):
         """Macros that follow each other under one comment are one name."""
@@ -72,7 +70,7 @@ class Header:
         for comment in comments:
             group = GROUP.fullmatch(comment)
             if group:
-                self.begin(f"`{self.file}`: {' '.join(group[1].split())}", [])
+                self.begin(f"`{self.file}`: {' '.join(group[1].split())}", "")
             else:
                 words = block_lines(comment)
         if item.head.startswith("#if"):
@@ -106,7 +104,7 @@ def parts(path):
     with open(path, encoding="utf-8") as file:
         text = file.read()
     header = Header(os.path.basename(path))
-    header.begin(f"`{header.file}`", [])
+    header.begin(f"`{header.file}`", "")
     for item in items(BRANCHES.sub(r"\1", text)):
         header.take(item)
     return [it for it in header.parts if it.names or it.words]

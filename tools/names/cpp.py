@@ -2,7 +2,7 @@
 import os
 import re
 
-from .page import Name, Part, paragraphs
+from .page import Name, Part, first_paragraph
 from .scanning import items, line_lines, unwrapped
 
 # A head that names no new thing: copies, moves, ends, friends.
@@ -20,7 +20,7 @@ VALUE = re.compile(r"(\w+)\s*(?:=.*|\[.*)?$", re.DOTALL)
 
 def words_of(item):
     lines = line_lines(item.before, ["//"])
-    return paragraphs(lines or ([item.behind] if item.behind else []), "cpp")
+    return first_paragraph(lines or ([item.behind] if item.behind else []))
 
 
 def without_start(head):
@@ -129,6 +129,6 @@ def parts(path):
     with open(path, encoding="utf-8") as file:
         text = file.read()
     first = next(items(text))
-    words = paragraphs(line_lines(first.before, ["//"]), "cpp")
+    words = first_paragraph(line_lines(first.before, ["//"]))
     body = re.sub(r"(?m)^#[^\n]*(?:\\\n[^\n]*)*\n", "", text)
     return [Part(f"`{os.path.basename(path)}`", words, names_in(body))]

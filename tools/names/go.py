@@ -3,7 +3,7 @@ with that line or with one that begins with its closing bracket."""
 import glob
 import re
 
-from .page import Name, Part, paragraphs
+from .page import Name, Part, first_paragraph
 
 METHOD = re.compile(r"func \(\w* ?\*?(\w+)(?:\[.*?\])?\) ([A-Z]\w*)\(")
 DECLARED = re.compile(r"(?:func|type|var|const) ([A-Z]\w*)")
@@ -55,7 +55,7 @@ def grouped(kind, lines, words):
             names[-1][0] += ", " + found[1]
             names[-1][1] += f"\n{kind} {squeezed(line)}"
         said = []
-    return [Name(title, code, paragraphs(own or words, "go")) for title, code, own in names]
+    return [Name(title, code, first_paragraph(own or words)) for title, code, own in names]
 
 
 def squeezed(line):
@@ -77,11 +77,11 @@ def parts(folder, package):
             elif group:
                 names += grouped(group[1], lines, said)
             elif method:
-                methods.append((method[1], Name(method[2], head_of(lines), paragraphs(said, "go"))))
+                methods.append((method[1], Name(method[2], head_of(lines), first_paragraph(said))))
             elif found:
-                names.append(Name(found[1], head_of(lines), paragraphs(said, "go")))
+                names.append(Name(found[1], head_of(lines), first_paragraph(said)))
     types = {it.title: it for it in names}
     for of, method in methods:
         if of in types:
             types[of].within.append(method)
-    return [Part(f"`{package}`", paragraphs(words, "go"), names)]
+    return [Part(f"`{package}`", first_paragraph(words), names)]

@@ -2,13 +2,12 @@
 import os
 import re
 
-from .page import Name, Part, as_text, paragraphs
+from .page import Name, Part, as_text, first_paragraph
 
 DOCUMENTED = re.compile(r"/\*\*(.*?)\*/\n(?:export ([^\n]*))?", re.DOTALL)
 EXPORTED = re.compile(r"(?:async )?(?:function|class|const|let) (\w+)")
 TYPE = re.compile(r"@typedef (\{.*?\}) (\w+)(?: (.*))?$", re.DOTALL)
 FIELD = r"/\*\*\s*((?:(?!\*/).)*?)\s*\*/\s*this\.(\w+)"
-TAG = re.compile(r"@(\w+)\s*(\{.*?\})?\s*(.*)", re.DOTALL)
 
 
 def lines_of(comment):
@@ -29,23 +28,11 @@ def divided(lines):
     return words, [it.strip() for it in tags]
 
 
-def tag_words(tag):
-    """A tag as an item of a list."""
-    found = TAG.match(tag)
-    kind, of, said = found[1], found[2] or "", found[3]
-    name = re.match(r"(\w+)\s*(.*)", said, re.DOTALL)
-    of = f" `{of[1:-1]}`" if of else ""
-    if kind == "param" and name:
-        text = f": {as_text(name[2])}" if name[2] else ""
-        return f"- `{name[1]}`{of}{text}"
-    return f"- {kind}{of} {as_text(said)}".rstrip()
-
-
 def members(text, name):
     """What an instance of a class has, with its words."""
     body = re.search(rf"class {name} .*?\n}}", text, re.DOTALL)
     found = re.findall(FIELD, body[0], re.DOTALL) if body else []
-    return [Name(it, it, [as_text(words.replace("@readonly ", ""))]) for words, it in found]
+    return [Name(it, it, as_text(words.replace("@readonly ", ""))) for words, it in found]
 
 
 def parts(path):
@@ -58,13 +45,12 @@ def parts(path):
             whole = words
             continue
         kind = next(filter(None, map(TYPE.match, tags)), None)
-        said = paragraphs(words, "js") + ([""] if words and tags else [])
         if head:
             name = EXPORTED.match(head)[1]
             names.append(Name(name, "export " + head.removesuffix("{").rstrip(),
-                              said + [tag_words(it) for it in tags], members(text, name)))
+                              first_paragraph(words), members(text, name)))
         elif kind and kind[1] != "{object}":
-            more = [as_text(kind[3])] if kind[3] else []
-            names.append(Name(kind[2], f"type {kind[2]} = {kind[1][1:-1]}", more))
+            names.append(
+                Name(kind[2], f"type {kind[2]} = {kind[1][1:-1]}", as_text(kind[3] or "")))
     title = os.path.basename(path)
-    return [Part(f"`{title}`", paragraphs(whole, "js"), names)]
+    return [Part(f"`{title}`", first_paragraph(whole), names)]

@@ -12,21 +12,21 @@ SENTENCE = re.compile(r"(?:`[^`]*`|[^`.]|\.(?! ))+\.(?= |$)")
 
 @dataclass
 class Name:
-    """A name, or several with the same words: what they are called, how they are declared, what the
-    source says of them (lines of text), and the names within."""
+    """A name, or several with the same words: what they are called, how they are declared, the
+    first paragraph of what the source says of them, and the names within."""
 
     title: str
     code: str
-    words: List[str]
+    words: str
     within: List["Name"] = field(default_factory=list)
 
 
 @dataclass
 class Part:
-    """A part of a page: its title, what is said before the names, and the names."""
+    """A part of a page: its title, the first paragraph before the names, and the names."""
 
     title: str
-    words: List[str]
+    words: str
     names: List[Name] = field(default_factory=list)
 
 
@@ -55,63 +55,30 @@ def escaped(text):
     return re.sub(r"<(?=[\w/!])", "&lt;", text.replace("*", "\\*").replace("[", "\\["))
 
 
-class Text:
-    """Markdown, as it is made line by line."""
-
-    def __init__(self, language):
-        self.out, self.within, self.language = [], None, language
-
-    def end_code(self):
-        if self.within == "code":
-            blank = [""] if self.out[-1] == "" else []
-            self.out[len(self.out) - len(blank) :] = ["```", *blank]
-            self.within = None
-
-    def add(self, kind, line):
-        if kind not in ("code", "blank"):
-            self.end_code()
-        if kind == "code" and self.within != "code":
-            self.out += [*([""] if self.out and self.out[-1] else []), f"```{self.language}"]
-        if kind == "text" and self.within in ("item", "text"):
-            self.out[-1] += " " + as_text(line.strip())
-            return
-        self.out.append({
-            "blank": "",
-            "code": line[4:] if line.startswith("    ") else line.lstrip("\t"),
-            "item": "- " + as_text(line.strip()[2:]),
-            "text": as_text(line.strip()),
-        }[kind])
-        if kind != "blank":
-            self.within = kind
-        elif self.within != "code":
-            self.within = None
-
-
-def paragraphs(lines, language):
-    """Plain lines as Markdown: paragraphs of one line each, lists, and what is set to the right as
-    code."""
-    text = Text(language)
-    for line in lines:
-        text.add(kind_of(line, text.within), line)
-    text.end_code()
-    while text.out and text.out[-1] == "":
-        text.out.pop()
-    return text.out
-
-
 def kind_of(line, before):
+    """Whether a line is blank, an item of a list (also its further lines), code, or text."""
     if not line.strip():
         return "blank"
     if line.lstrip().startswith("- ") and not line.startswith("    "):
         return "item"
-    if (line.startswith("    ") or line.startswith("\t")) and before != "item":
-        return "code"
-    return "text"
+    if before == "item":
+        return "item"
+    return "code" if line.startswith(("    ", "\t", "```")) else "text"
 
 
-def first_sentence(words):
-    """The first sentence of words, without what is set to the right as code."""
-    text = next((it for it in words if it and not it.startswith(("```", "- "))), "")
+def first_paragraph(lines, markdown=as_text):
+    """The first paragraph of what a source says, in one line."""
+    found, before = [], "blank"
+    for line in lines:
+        before = kind_of(line, before)
+        if before == "text":
+            found.append(markdown(line.strip()))
+        elif found:
+            break
+    return " ".join(found)
+
+
+def first_sentence(text):
     found = SENTENCE.match(text)
     return found[0] if found else text
 
@@ -126,8 +93,6 @@ def declared(name):
 
 def shown(name, indent=""):
     """The lines of a name: an item of a list, and below it the names within."""
-    if not name.title:
-        return []
     said = first_sentence(name.words)
     lines = [f"{indent}- {declared(name)}" + (f": {said}" if said else "")]
     for one in name.within:
@@ -149,4 +114,4 @@ def page(parts):
 
 def counted(names):
     """How many names there are, with those within."""
-    return sum(len(it.title.split(", ")) + counted(it.within) for it in names if it.title)
+    return sum(len(it.title.split(", ")) + counted(it.within) for it in names)

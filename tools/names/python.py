@@ -2,11 +2,11 @@
 import ast
 import os
 
-from .page import Name, Part, paragraphs
+from .page import Name, Part, first_paragraph
 
 
 def words_of(node):
-    return paragraphs((ast.get_docstring(node) or "").split("\n"), "python")
+    return first_paragraph((ast.get_docstring(node) or "").split("\n"))
 
 
 def is_public(name):
@@ -42,7 +42,7 @@ def names_of(node):
         bases = f"({', '.join(map(ast.unparse, node.bases))})" if node.bases else ""
         within = [one for it in node.body for one in names_of(it) if is_public(one.title)]
         return [Name(node.name, f"class {node.name}{bases}", words_of(node), within)]
-    return [Name(title, code, []) for title, code in assigned(node)]
+    return [Name(title, code, "") for title, code in assigned(node)]
 
 
 def parsed(path):
@@ -87,7 +87,7 @@ def constants_together(names):
         is_plain = not one.words and not one.within and one.code.startswith(one.title)
         if kept and is_plain and kept[-1][1]:
             last = kept[-1][0]
-            kept[-1] = (Name(f"{last.title}, {one.title}", f"{last.code}\n{one.code}", []), True)
+            kept[-1] = (Name(f"{last.title}, {one.title}", f"{last.code}\n{one.code}", ""), True)
         else:
             kept.append((one, is_plain))
     return [it for it, _ in kept]

@@ -2,8 +2,8 @@
 import os
 import re
 
-from .page import Name, Part
-from .scanning import items, line_lines, trimmed
+from .page import Name, Part, first_paragraph
+from .scanning import items, line_lines
 
 ITEM = re.compile(r"pub (?:const )?(?:unsafe )?(fn|struct|enum|trait|const|static|type) (\w+)")
 USED = re.compile(r"pub use (?:crate::|self::)?(\w+)::\s*(?:\{(.*)\}|(\w+))\s*$", re.DOTALL)
@@ -18,35 +18,9 @@ def plain(line):
 
 
 def words_of(item, mark="///"):
-    """Words are Markdown already, but for links to names of the crate and hidden lines of code."""
+    """Words are Markdown already, but for links to names of the crate."""
     lines = line_lines([it for it in item.before if not it.startswith("////")], [mark])
-    out, is_code = [], False
-    for line in lines:
-        if line.startswith("```"):
-            is_code = not is_code
-            line = f"```rust{',' + line[3:] if line[3:] else ''}" if is_code else "```"
-        elif is_code and (line.startswith("# ") or line == "#"):
-            continue
-        else:
-            line = line if is_code else plain(line)
-        out.append(line)
-    return joined(trimmed(out))
-
-
-def joined(lines):
-    """The lines of a paragraph as one."""
-    out, is_code = [], False
-    for line in lines:
-        if line.startswith("```"):
-            is_code = not is_code
-            out.append(line)
-        elif is_code or not line or not out or not out[-1] or out[-1].startswith("```"):
-            out.append(line)
-        elif re.match(r"\s*[-*] ", line):
-            out.append(line)
-        else:
-            out[-1] += " " + line.strip()
-    return out
+    return first_paragraph(lines, plain)
 
 
 def declared(head, base=0):
@@ -79,7 +53,7 @@ class Module:
 
     def words(self):
         first = next((it for it in self.items if it.before), None)
-        return words_of(first, "//!") if first else []
+        return words_of(first, "//!") if first else ""
 
     def exported(self):
         """Title, kind, item and public calls of each name that others can use."""
