@@ -12,10 +12,10 @@ use Rattle.mst_key.proofs.HistoryLaws.{after-push, format_after-push, IsPrefix-i
 use Rattle.mst_node.specs.Text.{root as root_of}
 use Rattle.mst_store.specs.Passes.{Known, Looks, Wrote, made_by, format_seen, having_missed, most_rows}
 use Rattle.mst_store.specs.Preparing.{Waiting, published}
-use Rattle.mst_versions.proofs.Prepared.{prepared_wrote}
-use Rattle.mst_versions.specs.Applying.{RefusesBatch}
-use Rattle.mst_versions.specs.declared.faults.ApplyFault.{ApplyFault}
-use Rattle.mst_versions.specs.declared.faults.ApplyFault.TheVariants as apply
+use Rattle.mst_batching.proofs.Prepared.{prepared_wrote}
+use Rattle.mst_batching.specs.Applying.{RefusesBatch}
+use Rattle.mst_batching.specs.declared.faults.ApplyFault.{ApplyFault}
+use Rattle.mst_batching.specs.declared.faults.ApplyFault.TheVariants as apply
 use Rattle.mst_sharded_proof.specs.Shards.{Shard, least, bound_text, shards as shards_at}
 use Rattle.mst_shards.specs.Entries.{shard_at}
 use Rattle.mst_shards.specs.Sharding.{AllStep}
@@ -162,6 +162,13 @@ pub published_adds : (edits fs : List Edit) (p q : Known) (w : Waiting) → edit
 published_adds edits fs p q w same n is =
     subst (λ (es : List Edit). AddsBatch es p q) same
     (subst (λ (x : Known). AddsBatch edits p x) (sym is) (batch_added edits p w n))
+
+-- a shard with edits is ready once it has prepared them
+pub staged_ready : {A B : Type 0} (part : List Edit) (p : Known) (w : Waiting) (t : Stage A B)
+    → t ≡ Ready w → 0 < length part → PreparesNext part p w → Staged part p t
+staged_ready [] p w t is some prepares = absurd (omega (arith, some))
+staged_ready {A} {B} (e ∷ part) p w t is some prepares =
+    subst (λ (s : Stage A B). Staged (e ∷ part) p s) (sym is) prepares
 
 adds_one : {A B : Type 0} (part : List Edit) (p : Known) (t : Stage A B) → Staged part p t
     → AddsPart part p (published_stage t)

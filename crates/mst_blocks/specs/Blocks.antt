@@ -5,7 +5,7 @@ use Rattle.mst_key.specs.declared.history.Edit.{Edit}
 use Rattle.mst_key.specs.History.{IsPrefix, after, done}
 use Rattle.mst_key.specs.Map.{IsMap}
 use Rattle.mst_store.specs.Passes.{Known, IsSamePass, Looks, Wrote, made_by, most_rows}
-use Rattle.mst_versions.specs.Applying.{RefusesBatch}
+use Rattle.mst_batching.specs.Applying.{RefusesBatch}
 use Rattle.mst_sharded_proof.specs.Shards.{Shard, shards as shards_at}
 use Rattle.mst_shards.specs.Parts.{edits_at}
 use Rattle.mst_shards.specs.Entries.{entry_of}

@@ -10,10 +10,10 @@ use Rattle.mst_key.specs.declared.history.Change.TheVariants.{Batch}
 use Rattle.mst_key.specs.declared.history.Edit.{Edit}
 use Rattle.mst_key.specs.declared.history.Edit.TheVariants.{Put, Remove}
 use Rattle.mst_key.specs.History as history
-use Rattle.mst_versions.specs.declared.faults.ApplyFault.{ApplyFault}
-use Rattle.mst_versions.specs.declared.faults.ApplyFault.TheVariants as apply
+use Rattle.mst_batching.specs.declared.faults.ApplyFault.{ApplyFault}
+use Rattle.mst_batching.specs.declared.faults.ApplyFault.TheVariants as apply
 use Rattle.mst_store.specs.Passes.{Known, Wrote, made_by}
-use Rattle.mst_versions.specs.Applying.{RefusesBatch}
+use Rattle.mst_batching.specs.Applying.{RefusesBatch}
 use Rattle.mst_c.specs.Codes.{bad_key, bad_value, closed, wrong_state, memory, busy, versions_spent, no_free_rows, bad_batch}
 use Rattle.mst_c.specs.declared.pass_box.State.{State}
 use Rattle.mst_c.specs.declared.pass_box.State.TheVariants.{Away, Free, Pinned}

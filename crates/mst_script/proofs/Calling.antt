@@ -13,9 +13,9 @@ use Rattle.mst_versions.specs.declared.faults.WriteFault.{WriteFault}
 use Rattle.mst_versions.specs.declared.faults.WriteFault.TheVariants as write
 use Rattle.mst_versions.specs.declared.faults.MigrateFault.{MigrateFault}
 use Rattle.mst_versions.specs.declared.faults.MigrateFault.TheVariants as migrate
-use Rattle.mst_versions.specs.declared.faults.ApplyFault.{ApplyFault}
-use Rattle.mst_versions.specs.declared.faults.ApplyFault.TheVariants as apply
-use Rattle.mst_versions.specs.Applying.{RefusesBatch}
+use Rattle.mst_batching.specs.declared.faults.ApplyFault.{ApplyFault}
+use Rattle.mst_batching.specs.declared.faults.ApplyFault.TheVariants as apply
+use Rattle.mst_batching.specs.Applying.{RefusesBatch}
 use Rattle.mst_versions.specs.Writes.{rows_of}
 use Rattle.mst_versions.specs.Migrating.{RefusesMigration}
 use Rattle.mst_store.specs.Passes.{StoreId, Known, format_seen, having_asked, having_missed, LacksRoom, made_by, Looks, Answers, Wrote, Refuses, FindsBusy}

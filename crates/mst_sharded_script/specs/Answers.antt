@@ -1,6 +1,6 @@
 -- Answers to the lines of a script over a sharded map, and their text.
 use Rattle.std.specs.Prelude.{ℕ, List, codes}
-use Rattle.mst_versions.specs.declared.faults.ApplyFault.TheVariants as apply
+use Rattle.mst_batching.specs.declared.faults.ApplyFault.TheVariants as apply
 use Rattle.mst_blocks.specs.declared.faults.PartFault.{PartFault}
 use Rattle.mst_blocks.specs.declared.faults.PartFault.TheVariants as part
 use Rattle.mst_blocks.specs.declared.faults.BlockFault.{BlockFault}

@@ -23,9 +23,9 @@ use Rattle.mst_words.specs.Records.{known_row}
 use Rattle.mst_words.specs.Stored.{rows_in}
 use Rattle.mst_words.proofs.Accesses.{inside}
 use Rattle.mst_versions.specs.declared.reading.PinnedVersion.{PinnedVersion}
-use Rattle.mst_versions.specs.declared.preparing.Preparation.{Preparation}
+use Rattle.mst_batching.specs.declared.preparing.Preparation.{Preparation}
 use Rattle.mst_versions.specs.Pinned.{PinsVersion}
-use Rattle.mst_versions.specs.Preparing.{batch_of, IsPrepared}
+use Rattle.mst_batching.specs.Preparing.{batch_of, IsPrepared}
 use Rattle.mst_versions.specs.Turns.{SeatState}
 
 -- ---- numbers below n, of which none stands twice

@@ -7,8 +7,8 @@ use Rattle.mst_key.specs.declared.history.Change.TheVariants as change
 use Rattle.mst_key.specs.declared.history.Edit.{Edit}
 use Rattle.mst_key.specs.History.{events_of}
 use Rattle.mst_words.specs.Access.{Seated}
-use Rattle.mst_versions.specs.declared.faults.ApplyFault.{ApplyFault}
-use Rattle.mst_versions.specs.declared.faults.ApplyFault.TheVariants as apply
+use Rattle.mst_batching.specs.declared.faults.ApplyFault.{ApplyFault}
+use Rattle.mst_batching.specs.declared.faults.ApplyFault.TheVariants as apply
 use Rattle.mst_versions.specs.declared.faults.MigrateFault.{MigrateFault}
 use Rattle.mst_versions.specs.declared.faults.MigrateFault.TheVariants as migrate
 use Rattle.mst_versions.specs.declared.faults.WriteFault.{WriteFault}
@@ -17,7 +17,7 @@ use Rattle.mst_words.specs.Steps.{Misses}
 use Rattle.mst_versions.specs.Known.{Known, known, AtSeat, Looks}
 use Rattle.mst_versions.specs.Turns.{SeatState}
 use Rattle.mst_versions.specs.Writes.{Refuses}
-use Rattle.mst_versions.specs.Applying.{RefusesBatch}
+use Rattle.mst_batching.specs.Applying.{RefusesBatch}
 use Rattle.mst_versions.specs.Migrating.{RefusesMigration}
 
 -- what holds of any version that the pass made last holds of the one that it made

@@ -16,9 +16,9 @@ use Rattle.mst_key.specs.Layer.{layer_in}
 use Rattle.mst_change.proofs.Formats.{stays}
 use Rattle.mst_node.specs.Tree.{empty, node, last, entry, entries_of, tree_within, tree}
 use Rattle.mst_words.specs.Notes.{IsOfPasses}
-use Rattle.mst_versions.specs.declared.faults.ApplyFault.{ApplyFault}
-use Rattle.mst_versions.specs.declared.faults.ApplyFault.TheVariants.{Busy, VersionsSpent, Memory, NoRoom}
-use Rattle.mst_versions.specs.Applying.{RefusesBatch}
+use Rattle.mst_batching.specs.declared.faults.ApplyFault.{ApplyFault}
+use Rattle.mst_batching.specs.declared.faults.ApplyFault.TheVariants.{Busy, VersionsSpent, Memory, NoRoom}
+use Rattle.mst_batching.specs.Applying.{RefusesBatch}
 use Rattle.mst_versions.specs.declared.faults.WriteFault.TheVariants as write
 use Rattle.mst_store.specs.Passes.{Known, made_by, AreFree, Wrote, Refuses}
 use Rattle.mst_store.specs.Settling.{Met}

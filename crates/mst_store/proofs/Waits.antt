@@ -5,7 +5,7 @@ use Rattle.mst_key.specs.declared.history.Edit.{Edit}
 use Rattle.mst_key.specs.History.{Reply}
 use Rattle.mst_store.specs.declared.faults.BatchFault.{BatchFault}
 use Rattle.mst_store.specs.declared.faults.ChangeFault.{ChangeFault}
-use Rattle.mst_versions.specs.Applying.{RefusesBatch}
+use Rattle.mst_batching.specs.Applying.{RefusesBatch}
 use Rattle.mst_store.specs.Passes.{Known, having_missed, made_by, Wrote, Refuses, FindsBusy}
 use Rattle.mst_store.specs.Waiting.{HasTried, WroteAfter, RefusesAfter, RefusesBatchAfter, as_tried, as_tried_batch}
 

@@ -4,10 +4,10 @@ use Rattle.mst_key.specs.declared.history.Edit.{Edit}
 use Rattle.mst_words.specs.Access.{Seated}
 use Rattle.mst_words.specs.Layout.{most_passes}
 use Rattle.mst_versions.specs.declared.parameters.PassParameters.{PassParameters}
-use Rattle.mst_versions.specs.declared.preparing.Preparation.{Preparation}
+use Rattle.mst_batching.specs.declared.preparing.Preparation.{Preparation}
 use Rattle.mst_versions.specs.Known.{Known, known, most_rows}
-use Rattle.mst_versions.specs.Preparing.{IsPrepared}
-pub use Rattle.mst_versions.specs.Preparing.{Prepares, published}
+use Rattle.mst_batching.specs.Preparing.{IsPrepared}
+pub use Rattle.mst_batching.specs.Preparing.{Prepares, published}
 
 pub record Waiting : Type 0 where
   pub known : Known

@@ -9,11 +9,11 @@ use Rattle.mst_versions.specs.declared.faults.WriteFault.{WriteFault}
 use Rattle.mst_versions.specs.declared.faults.WriteFault.TheVariants as tried
 use Rattle.mst_store.specs.declared.faults.ChangeFault.{ChangeFault}
 use Rattle.mst_store.specs.declared.faults.ChangeFault.TheVariants.{VersionsSpent, NoRoom}
-use Rattle.mst_versions.specs.declared.faults.ApplyFault.{ApplyFault}
-use Rattle.mst_versions.specs.declared.faults.ApplyFault.TheVariants as apply
+use Rattle.mst_batching.specs.declared.faults.ApplyFault.{ApplyFault}
+use Rattle.mst_batching.specs.declared.faults.ApplyFault.TheVariants as apply
 use Rattle.mst_store.specs.declared.faults.BatchFault.{BatchFault}
 use Rattle.mst_store.specs.declared.faults.BatchFault.TheVariants as batch
-use Rattle.mst_versions.specs.Applying.{RefusesBatch}
+use Rattle.mst_batching.specs.Applying.{RefusesBatch}
 use Rattle.mst_store.specs.Passes.{Known, having_missed, Wrote, Refuses}
 
 -- this many tries at which another pass had the turn: in a store of one pass there are none

@@ -10,12 +10,12 @@ ghost use Rattle.mst_store.specs.Passes.{Looks, Answers, format_seen, having_ask
 ghost use Rattle.mst_key.specs.History.{after, had, was, done, IsMigration, IsBatch};
 ghost use Rattle.mst_versions.specs.Writes.{rows_of, AreFound};
 ghost use Rattle.mst_versions.specs.Migrating.{RefusesMigration};
-ghost use Rattle.mst_versions.specs.Applying.{RefusesBatch};
+ghost use Rattle.mst_batching.specs.Applying.{RefusesBatch};
 
+use mst_batching::{ApplyFault, applying};
 use mst_key::{Change, Edit, Event, Format, Key, Memory, Value};
 use mst_versions::{
-    ApplyFault, Busy, MigrateFault, PassParameters, WriteFault, applying, counting, migrating,
-    reading, writing,
+    Busy, MigrateFault, PassParameters, WriteFault, counting, migrating, reading, writing,
 };
 use mst_words::PassSeat;
 use std::alloc::Allocator;

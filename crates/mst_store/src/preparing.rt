@@ -6,11 +6,12 @@ ghost use Rattle.mst_key.specs.Map.{IsMap};
 ghost use Rattle.mst_node.specs.Text as text;
 ghost use Rattle.mst_store.specs.Passes.{format_seen, most_rows};
 ghost use Rattle.mst_store.specs.Preparing.{Prepares, published};
-ghost use Rattle.mst_versions.specs.Applying.{RefusesBatch};
+ghost use Rattle.mst_batching.specs.Applying.{RefusesBatch};
 
 use crate::pass::Pass;
+use mst_batching::{ApplyFault, Preparation, preparing};
 use mst_key::Edit;
-use mst_versions::{ApplyFault, PassParameters, Preparation, preparing};
+use mst_versions::PassParameters;
 use mst_words::PassSeat;
 use std::alloc::Allocator;
 use std::marker::Model;

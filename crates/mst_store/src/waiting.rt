@@ -8,8 +8,9 @@ ghost use Rattle.mst_store.specs.Waiting.{WroteAfter, RefusesAfter, RefusesBatch
 use crate::faults::{BatchFault, ChangeFault};
 use crate::pass::Pass;
 use crossbeam_utils::Backoff;
+use mst_batching::ApplyFault;
 use mst_key::{Edit, Key, Value};
-use mst_versions::{ApplyFault, WriteFault};
+use mst_versions::WriteFault;
 use std::alloc::Allocator;
 use std::sync::Wait;
 

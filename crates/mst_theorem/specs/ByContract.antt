@@ -21,10 +21,10 @@ use Rattle.mst_key.specs.History.{History, Reply, done, after, events_of, IsPref
 use Rattle.mst_node.specs.Text as text
 use Rattle.mst_node.specs.Trail.{proof_text}
 use Rattle.mst_versions.specs.declared.faults.WriteFault.{WriteFault}
-use Rattle.mst_versions.specs.declared.faults.ApplyFault.{ApplyFault}
+use Rattle.mst_batching.specs.declared.faults.ApplyFault.{ApplyFault}
 use Rattle.mst_versions.specs.declared.faults.MigrateFault.{MigrateFault}
 use Rattle.mst_versions.specs.Migrating.{RefusesMigration}
-use Rattle.mst_versions.specs.Applying.{RefusesBatch}
+use Rattle.mst_batching.specs.Applying.{RefusesBatch}
 use Rattle.mst_versions.specs.Writes.{rows_of}
 use Rattle.mst_store.specs.declared.faults.ChangeFault.{ChangeFault}
 use Rattle.mst_store.specs.declared.faults.BatchFault.{BatchFault}

@@ -8,12 +8,10 @@ mod Places
 pub mod Pinning
 pub mod Filing
 pub mod Ready
-mod Made
-mod Shown
-mod Written
+pub mod Made
+pub mod Shown
+pub mod Written
 mod Migrated
-mod Batched
-mod Undone
-pub mod Prepared
+pub mod Undone
 mod Counted
 pub mod FewRows

@@ -19,9 +19,9 @@ use Rattle.mst_words.specs.declared.view.View.{View}
 use Rattle.mst_words.specs.Access.{content_of, may_write}
 use Rattle.mst_words.specs.Layout.{most_passes, table_words}
 use Rattle.mst_words.specs.Notes.{IsOfPasses}
-use Rattle.mst_words.specs.Records.{Standing, Agrees}
+use Rattle.mst_words.specs.Records.{field, Standing, Agrees}
 use Rattle.mst_words.specs.Steps.{IsHolder, Misses, Takes}
-use Rattle.mst_words.specs.Stored.{stored, desk_state}
+use Rattle.mst_words.specs.Stored.{stored, desk_state, root_in, format_number}
 use Rattle.mst_versions.specs.declared.turn.Turn.{Turn}
 use Rattle.mst_versions.specs.declared.turn.BeginFault.{BeginFault}
 use Rattle.mst_versions.specs.declared.turn.BeginFault.TheVariants.{Busy, VersionsSpent}
@@ -170,6 +170,24 @@ pub record HasMade {A : Type 0} (t : Turn A) (root : Root) (format : Format)
   pub reached : ReachesExactly t.desk.lives (next t.desk) (numbers stands)
   pub aged : HasAges m.0.format t.desk.lives (m.0.seen ++ e ∷ []) stands.tree.placed
   pub settled : IsSettled (advanced t.into t.desk)
+
+-- the change of an event that was made is made still
+abbrev pub StaysMade : {A : Type 0} → Turn A → Root → Format → SeatState → SeatState → Type 0
+StaysMade t root format m m' =
+    (e : Event) → HasMade t root format e m → HasMade t root format e m'
+
+-- The record to come is filled: its words are the number of the version to come, where the map
+-- stands, and the format. Nobody reads them before that version is published
+pub record IsFilled {A : Type 0} (t : Turn A) (root : Root) (format : Format)
+    (m : SeatState) : Type 0 where
+  pub version : field m.0.known_words t.into 0 ≡ next t.desk
+  pub root_is : root_in (field m.0.known_words t.into) ≡ root
+  pub number : field m.0.known_words t.into 6 ≡ format_number format
+
+-- The change of an event is made, and the record to come is filled: one swap is left
+abbrev pub CanPublish : {A : Type 0} → Turn A → Event → SeatState → Type 0
+CanPublish t e m =
+    (root : Root) × (format : Format) × HasMade t root format e m × IsFilled t root format m
 
 -- The turn was given back, and the history has the event after what the pass had seen. One step was
 -- counted, the publication

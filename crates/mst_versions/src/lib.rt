@@ -11,25 +11,23 @@
 //!
 //! A write takes the turn and the desk, asks each record but the current one who pins it, frees the
 //! rows that no live version reaches, makes its change in free rows, and publishes. Here
-//! nothing waits: a turn that another pass has is `Busy`.
+//! nothing waits: a turn that another pass has is `Busy`. Batches are made by `mst_batching`, above
+//! this crate.
 //!
 //! Seats come from outside: `mst_store` deals them, and keeps each in a pass, whose contracts speak
 //! of no seat. What a seat knows from the pin or the turn on is in `specs/Pinned.antt` and
 //! `specs/Turns.antt`.
 #![tactic(auto)]
 
-pub mod applying;
 pub mod counting;
 mod faults;
-mod finishing;
+pub mod finishing;
 pub mod migrating;
 mod parameters;
-pub mod preparing;
 pub mod reading;
 pub mod roots;
 pub mod turn;
 pub mod writing;
 
-pub use faults::{ApplyFault, Busy, MigrateFault, WriteFault};
+pub use faults::{Busy, MigrateFault, WriteFault};
 pub use parameters::PassParameters;
-pub use preparing::Preparation;

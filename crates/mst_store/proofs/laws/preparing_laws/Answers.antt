@@ -1,4 +1,4 @@
-use Rattle.mst_versions.proofs.Prepared.{prepared_wrote}
+use Rattle.mst_batching.proofs.Prepared.{prepared_wrote}
 use Rattle.mst_store.proofs.laws.preparing_laws.Goals as goal
 
 pub returns-clause-wrote : goal.returns-clause-wrote

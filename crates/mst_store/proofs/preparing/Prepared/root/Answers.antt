@@ -5,8 +5,8 @@ use Rattle.mst_key.specs.History.{after, format_after, batched}
 use Rattle.mst_key.specs.Map.{Pair}
 use Rattle.mst_key.proofs.HistoryLaws.{after-push, format_after-push}
 use Rattle.mst_node.specs.Text as text
-use Rattle.mst_versions.specs.declared.preparing.Preparation.{Preparation}
-use Rattle.mst_versions.specs.Preparing.{batch_of, IsPrepared}
+use Rattle.mst_batching.specs.declared.preparing.Preparation.{Preparation}
+use Rattle.mst_batching.specs.Preparing.{batch_of, IsPrepared}
 use Rattle.mst_versions.specs.Turns.{SeatState}
 use Rattle.mst_store.specs.Passes.{format_seen}
 use Rattle.mst_store.specs.Preparing.{Waiting}

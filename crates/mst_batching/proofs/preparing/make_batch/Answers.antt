@@ -1,6 +1,6 @@
 use Rattle.mst_versions.proofs.Made.{map_stands, same_seat}
-use Rattle.mst_versions.proofs.Batched.{batch_made, batch_lacks}
-use Rattle.mst_versions.proofs.preparing.make_batch.Goals as goal
+use Rattle.mst_batching.proofs.Batched.{batch_made, batch_lacks}
+use Rattle.mst_batching.proofs.preparing.make_batch.Goals as goal
 
 pub apply-requires : goal.apply-requires
 apply-requires g c =

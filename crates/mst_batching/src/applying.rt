@@ -8,12 +8,12 @@ ghost use Rattle.mst_versions.specs.Resting.{IsResting};
 ghost use Rattle.mst_versions.specs.Known.{AtSeat};
 ghost use Rattle.mst_versions.specs.Turns.{Spent};
 ghost use Rattle.mst_versions.specs.Writes.{KeepsPass, WroteAtSeat};
-ghost use Rattle.mst_versions.specs.Applying.{RefusesBatch};
+ghost use Rattle.mst_batching.specs.Applying.{RefusesBatch};
 
 use crate::faults::ApplyFault;
-use crate::parameters::PassParameters;
 use crate::preparing::{prepare, publish};
 use mst_key::Edit;
+use mst_versions::PassParameters;
 use mst_words::PassSeat;
 use std::alloc::Allocator;
 

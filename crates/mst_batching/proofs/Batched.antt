@@ -18,11 +18,11 @@ use Rattle.mst_batch.specs.Applying.{LacksBatch}
 use Rattle.mst_words.specs.Access.{Seated, IsSameSeat, beside, content_of}
 use Rattle.mst_versions.specs.declared.turn.Turn.{Turn}
 use Rattle.mst_key.specs.declared.memory.Memory.{Memory}
-use Rattle.mst_versions.specs.declared.faults.ApplyFault.TheVariants as fault
+use Rattle.mst_batching.specs.declared.faults.ApplyFault.TheVariants as fault
 use Rattle.mst_versions.specs.Known.{AtSeat}
 use Rattle.mst_versions.specs.Turns.{SeatState, HasTurn, Begun}
 use Rattle.mst_versions.specs.Writes.{Made}
-use Rattle.mst_versions.specs.Applying.{LacksEdits, RefusesBatch}
+use Rattle.mst_batching.specs.Applying.{LacksEdits, RefusesBatch}
 use Rattle.mst_versions.proofs.Made.{key_aged, change_made}
 use Rattle.mst_versions.proofs.Written.{looks_back, given_back}
 

@@ -6,22 +6,23 @@ use Rattle.mst_key.specs.declared.history.Event.{Event}
 use Rattle.mst_key.specs.History.{after, format_after, events_of}
 use Rattle.mst_arena.specs.Lives.{last_version}
 use Rattle.mst_words.specs.Notes.{IsOfPasses}
-use Rattle.mst_versions.specs.declared.preparing.Preparation.{Preparation}
+use Rattle.mst_batching.specs.declared.preparing.Preparation.{Preparation}
 use Rattle.mst_versions.specs.Known.{Known, Looks, made_by}
-use Rattle.mst_versions.specs.Turns.{SeatState, HasMade}
+use Rattle.mst_versions.specs.Turns.{SeatState, HasMade, IsFilled}
 use Rattle.mst_versions.specs.Writes.{HasRoom, FindsRoom}
 
 -- the event of a batch of the pass with this number
 abbrev pub batch_of : ℕ → List Edit → Event
 batch_of number edits = record { pass = number; change = Batch edits }
 
--- The pass with this number has the turn, and the edits are made in free rows: the version to come
--- can be published. Its events in what it has seen are its own, and each event is of a pass of the
--- store
+-- The pass with this number has the turn, the edits are made in free rows, and the record of the
+-- version to come is filled: that version can be published. Its events in what it has seen are its
+-- own, and each event is of a pass of the store
 pub record IsPrepared {A : Type 0} (number : ℕ) (edits : List Edit) (p : Preparation A)
     (m : SeatState) : Type 0 where
   pub dealt : (0 < number) × (number ≤ m.0.passes)
   pub made : HasMade p.turn p.root p.turn.format (batch_of number edits) m
+  pub filled : IsFilled p.turn p.root p.turn.format m
   pub own : events_of number m.0.seen ≡ m.0.mine
   pub alone : IsOfPasses m.0.passes m.0.seen
 

@@ -1,6 +1,6 @@
 use Rattle.std.proofs.Common.{rules}
-use Rattle.mst_versions.proofs.Prepared.{prepared_wrote_at}
-use Rattle.mst_versions.proofs.applying.apply.Goals as goal
+use Rattle.mst_batching.proofs.Prepared.{prepared_wrote_at}
+use Rattle.mst_batching.proofs.applying.apply.Goals as goal
 
 pub returns-in-Ok-clause-wrote : goal.returns-in-Ok-clause-wrote
 returns-in-Ok-clause-wrote g c =

@@ -1,15 +1,28 @@
 use Rattle.std.proofs.Common.{◌≡◌, List, ap, subst, rules}
 use Rattle.mst_key.specs.declared.history.Change.TheVariants.{Batch}
 use Rattle.mst_key.specs.declared.history.Edit.{Edit}
+use Rattle.mst_key.specs.History.{done}
 use Rattle.mst_words.specs.Access.{Seated, IsSameSeat}
 use Rattle.mst_batch.specs.declared.faults.NotApplied.{NotApplied}
 use Rattle.mst_batch.specs.declared.faults.NotApplied.TheVariants as applied
-use Rattle.mst_versions.specs.Applying.{LacksEdits}
-use Rattle.mst_versions.proofs.Batched.{batch_memory}
-use Rattle.mst_versions.proofs.Prepared.{prepared_is, prepared_keeps, prepared_told}
+use Rattle.mst_batching.specs.Applying.{LacksEdits}
+use Rattle.mst_batching.proofs.Batched.{batch_memory}
+use Rattle.mst_versions.specs.Writes.{Made}
+use Rattle.mst_batching.proofs.Prepared.{made_filled, prepared_is, prepared_keeps, prepared_told}
 use Rattle.mst_versions.proofs.Shown.{busy_at, spent_at}
 use Rattle.mst_versions.proofs.Written.{refused}
-use Rattle.mst_versions.proofs.preparing.prepare.Goals as goal
+use Rattle.mst_batching.proofs.preparing.prepare.Given.{Over}
+use Rattle.mst_batching.proofs.preparing.prepare.Goals.{After-fill}
+use Rattle.mst_batching.proofs.preparing.prepare.Goals as goal
+
+-- the batch stays made while its record is filled
+module _ (g : Over) (c : After-fill g) where
+  filled : Made (Batch c.args.edits.now) c.in-Ok.turn c.begin_write.new.seat.me
+      c.in-Ok-make_batch.root done c.make_batch.new.turn c.fill.new.seat.me
+  filled = made_filled c.args.edits.now c.in-Ok.turn c.make_batch.new.turn
+      c.begin_write.new.seat.me c.make_batch.new.seat c.fill.new.seat c.in-Ok-make_batch.root
+      c.make_batch.ensures.kept c.in-Ok-make_batch.ensures.made c.fill.ensures.made
+      c.fill.ensures.kept
 
 pub returns-in-Err-NoRoom-clause-refused : goal.returns-in-Err-NoRoom-clause-refused
 returns-in-Err-NoRoom-clause-refused g c =
@@ -78,9 +91,10 @@ returns-in-Ok-make_batch-clause-same g c = search rules
 
 pub returns-in-Ok-make_batch-clause-pass : goal.returns-in-Ok-make_batch-clause-pass
 returns-in-Ok-make_batch-clause-pass g c =
-    prepared_keeps c.args.seat.now c.make_batch.new.seat c.in-Ok.turn c.begin_write.new.seat.me
+    prepared_keeps c.args.seat.now c.fill.new.seat c.in-Ok.turn c.begin_write.new.seat.me
     c.in-Ok.ensures.begun c.args.parameters.number c.requires.rest.free.3 c.args.edits.now
-    c.in-Ok-make_batch.root c.make_batch.new.turn c.in-Ok-make_batch.ensures.made
+    c.in-Ok-make_batch.root c.make_batch.new.turn
+    (filled g (goal.at.returns-in-Ok-make_batch-clause-pass g c).After-fill)
 
 pub returns-in-Ok-make_batch-clause-free : goal.returns-in-Ok-make_batch-clause-free
 returns-in-Ok-make_batch-clause-free g c = search rules
@@ -122,15 +136,17 @@ returns-in-Err-NoRoom-clause-free g c = search rules
 
 pub returns-in-Ok-make_batch-clause-prepared : goal.returns-in-Ok-make_batch-clause-prepared
 returns-in-Ok-make_batch-clause-prepared g c =
-    prepared_is c.args.seat.now c.make_batch.new.seat c.in-Ok.turn c.begin_write.new.seat.me
+    prepared_is c.args.seat.now c.fill.new.seat c.in-Ok.turn c.begin_write.new.seat.me
     c.in-Ok.ensures.begun c.args.parameters.number c.requires.rest.free.3 c.args.edits.now
-    c.in-Ok-make_batch.root c.make_batch.new.turn c.in-Ok-make_batch.ensures.made
-    c.make_batch.ensures.kept
+    c.in-Ok-make_batch.root c.make_batch.new.turn
+    (filled g (goal.at.returns-in-Ok-make_batch-clause-prepared g c).After-fill)
+    c.make_batch.ensures.kept c.fill.ensures.filled
 
 pub returns-in-Ok-make_batch-clause-told : goal.returns-in-Ok-make_batch-clause-told
 returns-in-Ok-make_batch-clause-told g c =
-    let same : IsSameSeat c.args.seat.now c.make_batch.new.seat = search rules in
-    prepared_told c.args.seat.now c.make_batch.new.seat c.in-Ok.turn c.begin_write.new.seat.me
+    let same : IsSameSeat c.args.seat.now c.fill.new.seat = search rules in
+    prepared_told c.args.seat.now c.fill.new.seat c.in-Ok.turn c.begin_write.new.seat.me
     c.in-Ok.ensures.begun c.args.parameters.number c.requires.rest.free.3 c.args.edits.now
-    c.in-Ok-make_batch.root c.make_batch.new.turn c.in-Ok-make_batch.ensures.made same
+    c.in-Ok-make_batch.root c.make_batch.new.turn
+    (filled g (goal.at.returns-in-Ok-make_batch-clause-told g c).After-fill) same
     c.in-Ok.ensures.room

@@ -10,16 +10,15 @@ ghost use Rattle.mst_versions.specs.Resting.{IsResting};
 ghost use Rattle.mst_versions.specs.Known.{known, AtSeat};
 ghost use Rattle.mst_versions.specs.Turns.{HasTurn, Spent};
 ghost use Rattle.mst_versions.specs.Writes.{Made, KeepsPass};
-ghost use Rattle.mst_versions.specs.Applying.{LacksEdits, RefusesBatch};
-ghost use Rattle.mst_versions.specs.Preparing.{IsPrepared, Prepares, published};
+ghost use Rattle.mst_batching.specs.Applying.{LacksEdits, RefusesBatch};
+ghost use Rattle.mst_batching.specs.Preparing.{IsPrepared, Prepares, published};
 
 use crate::faults::ApplyFault;
-use crate::finishing;
-use crate::parameters::PassParameters;
-use crate::turn::{BeginFault, Turn, begin_write, give_back};
 use mst_arena::Root;
 use mst_batch::NotApplied;
 use mst_key::{Batch, Change, Edit, Event};
+use mst_versions::turn::{BeginFault, Turn, begin_write, give_back};
+use mst_versions::{PassParameters, finishing};
 use mst_words::PassSeat;
 use std::alloc::Allocator;
 
@@ -52,8 +51,9 @@ fn make_batch<A: Allocator + Copy, B: Allocator + Copy>(
     mst_batch::apply(seat, &mut turn.desk, &turn.root, alloc, edits, format)
 }
 
-/// Takes the turn and makes the edits, one after another, in rows that are free. Readers see
-/// nothing of it before [`publish`]; [`cancel`] takes all of it back.
+/// Takes the turn, makes the edits, one after another, in rows that are free, and fills the record
+/// of the version to come. Readers see nothing of it before [`publish`]; [`cancel`] takes all of it
+/// back.
 ///
 /// The plan of the batch is made in memory, which is given back before the call returns; each node
 /// that the new tree has and the old one has not takes a row for each of its entries and one for
@@ -88,7 +88,11 @@ pub fn prepare<A: Allocator + Copy, B: Allocator + Copy>(
         Err(BeginFault::VersionsSpent) => return Err(ApplyFault::VersionsSpent),
     };
     match make_batch(seat, alloc, &mut turn, edits) {
-        Ok(root) => Ok(Preparation { turn, root }),
+        Ok(root) => {
+            let format = turn.format;
+            finishing::fill(seat, &turn, &root, format);
+            Ok(Preparation { turn, root })
+        }
         Err(NotApplied::Memory(refused)) => {
             give_back(seat, turn);
             Err(ApplyFault::Memory(refused))
@@ -100,8 +104,8 @@ pub fn prepare<A: Allocator + Copy, B: Allocator + Copy>(
     }
 }
 
-/// Publishes what was prepared as the next version, and gives the turn back. Returns the number of
-/// the version. It takes no memory, and nothing can refuse it.
+/// Publishes what was prepared as the next version, by one swap, and gives the turn back. Returns
+/// the number of the version. It takes no memory, and nothing can refuse it.
 pub fn publish<A: Allocator + Copy>(
     seat: &mut PassSeat<'_, A>,
     parameters: PassParameters,
@@ -117,13 +121,12 @@ pub fn publish<A: Allocator + Copy>(
     ensures own { events_of parameters.number seat.new.me.0.seen ≡ seat.new.me.0.mine }
     ensures version { result ≡ length seat.new.me.0.seen }
 {
-    let Preparation { turn, root } = prepared;
-    let format = turn.format;
+    let Preparation { turn, root: _ } = prepared;
     let event = Event {
         pass: parameters.number,
         change: Change::Batch(Batch::new(edits)),
     };
-    finishing::publish(seat, turn, &root, format, &event)
+    finishing::finish(seat, turn, &event)
 }
 
 /// Takes back what was prepared, and gives the turn back with the history as it was: one exchange

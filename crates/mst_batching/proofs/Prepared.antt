@@ -11,15 +11,15 @@ use Rattle.mst_key.proofs.HistoryLaws.{events_of-append}
 use Rattle.mst_arena.specs.Lives.{last_version}
 use Rattle.mst_arena.specs.declared.row.Root.{Root}
 use Rattle.mst_words.specs.declared.view.View.{View}
-use Rattle.mst_words.specs.Access.{Seated, IsSameSeat}
+use Rattle.mst_words.specs.Access.{Seated, with_words, IsSameSeat}
 use Rattle.mst_words.specs.Notes.{IsOfPasses}
 use Rattle.mst_words.specs.Steps.{IsFree}
-use Rattle.mst_versions.specs.declared.preparing.Preparation.{Preparation}
+use Rattle.mst_batching.specs.declared.preparing.Preparation.{Preparation}
 use Rattle.mst_versions.specs.declared.turn.Turn.{Turn}
 use Rattle.mst_versions.specs.Known.{StoreId, Known, store_of, known, AtSeat, Looks, made_by}
-use Rattle.mst_versions.specs.Preparing.{batch_of, IsPrepared, Prepares, published}
-use Rattle.mst_versions.specs.Turns.{SeatState, Begun, HasMade, Added}
-use Rattle.mst_versions.specs.Writes.{rows_of, rows_taken, FindsRoom, Made, KeepsPass, Wrote, WroteAtSeat}
+use Rattle.mst_batching.specs.Preparing.{batch_of, IsPrepared, Prepares, published}
+use Rattle.mst_versions.specs.Turns.{SeatState, Begun, HasMade, StaysMade, IsFilled, Added}
+use Rattle.mst_versions.specs.Writes.{made_at_seat, rows_of, rows_taken, FindsRoom, Made, KeepsPass, Wrote, WroteAtSeat}
 use Rattle.mst_versions.proofs.Shown.{at_seat, store_is}
 use Rattle.mst_versions.proofs.Written.{room_left, format_now, finds_room, looks_back, one_event, one_longer}
 
@@ -36,6 +36,22 @@ known_of store number seen mine asked missed found made = record {
 }
 
 -- ---- what is prepared
+
+-- a batch that is made stays made while its record is filled
+pub made_filled : {A : Type 0} (edits : List Edit) (t t' : Turn A) (m : SeatState) (z y : Seated)
+    (root : Root) → t'.format ≡ t.format → Made (Batch edits) t m root done t' z.me
+    → StaysMade t' root t'.format z.me y.me → y ≡ with_words y.me.0.known_words z
+    → Made (Batch edits) t m root done t' y.me
+made_filled edits t t' m z y root same made stays is =
+    let e = made_at_seat m (Batch edits) in record {
+      has = subst (λ (f : Format). HasMade t' root f e y.me) same
+          (stays e (subst (λ (f : Format). HasMade t' root f e z.me) (sym same) made.has));
+      answer = made.answer;
+      rows = made.rows;
+      kept = ap (λ (q : Seated). q.me) is
+          ∙ ap (λ (k : SeatState). (record k.0 { known_words = y.me.0.known_words }, k.1))
+          made.kept;
+    }
 
 module _ {A : Type 0} (s z : Seated) (t : Turn A) (m1 : SeatState) (b : Begun s.me t m1)
     (number : ℕ) (mine : s.me.0.number ≡ number) (edits : List Edit) (root : Root) (t' : Turn A)
@@ -63,11 +79,12 @@ module _ {A : Type 0} (s z : Seated) (t : Turn A) (m1 : SeatState) (b : Begun s.
   is_made same = subst (λ (f : Format). HasMade t' root f (batch_of number edits) z.me) (sym same)
       (subst (λ (n : ℕ). HasMade t' root t.format (batch_of n edits) z.me) same_number made.has)
 
-  pub prepared_is : t'.format ≡ t.format
+  pub prepared_is : t'.format ≡ t.format → IsFilled t' root t'.format z.me
       → IsPrepared number edits (record { turn = t'; root = root }) z.me
-  prepared_is same = record {
+  prepared_is same filled = record {
     dealt = subst (λ (m : SeatState). (0 < number) × (number ≤ m.0.passes)) (sym made.kept) dealt;
     made = is_made same;
+    filled = filled;
     own = subst (λ (m : SeatState). events_of number m.0.seen ≡ m.0.mine) (sym made.kept) own;
     alone = subst (λ (m : SeatState). IsOfPasses m.0.passes m.0.seen) (sym made.kept) alone;
   }

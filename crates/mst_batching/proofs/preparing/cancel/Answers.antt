@@ -1,5 +1,5 @@
 use Rattle.mst_versions.proofs.Undone.{undone_holds, undone_settled}
-use Rattle.mst_versions.proofs.preparing.cancel.Goals as goal
+use Rattle.mst_batching.proofs.preparing.cancel.Goals as goal
 
 pub give_back-requires-clause-holds : goal.give_back-requires-clause-holds
 give_back-requires-clause-holds g c =

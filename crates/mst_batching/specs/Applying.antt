@@ -5,8 +5,8 @@ use Rattle.mst_key.specs.declared.history.Edit.{Edit}
 use Rattle.mst_arena.specs.Lives.{last_version}
 use Rattle.mst_batch.specs.declared.faults.NotApplied.{NotApplied}
 use Rattle.mst_batch.specs.declared.faults.NotApplied.TheVariants as applied
-use Rattle.mst_versions.specs.declared.faults.ApplyFault.{ApplyFault}
-use Rattle.mst_versions.specs.declared.faults.ApplyFault.TheVariants.{Busy, VersionsSpent, Memory, NoRoom}
+use Rattle.mst_batching.specs.declared.faults.ApplyFault.{ApplyFault}
+use Rattle.mst_batching.specs.declared.faults.ApplyFault.TheVariants.{Busy, VersionsSpent, Memory, NoRoom}
 use Rattle.mst_versions.specs.declared.faults.WriteFault.TheVariants as write
 use Rattle.mst_versions.specs.declared.turn.Turn.{Turn}
 use Rattle.mst_versions.specs.Known.{Known, Looks}

@@ -1,0 +1,2 @@
+mod Batched
+pub mod Prepared
