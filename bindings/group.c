@@ -8,39 +8,24 @@
  * came while the one before was made. If that block is refused, or there is no memory for it, the
  * same thread makes one for each of its requests.
  *
- * A request stands on the stack of the thread that asks. A post tells that thread that it is called
- * to lead, at most once, and a post that another thread made its edits; the thread takes each of
- * them before it returns. Posts need no lock, so whom they wake finds it free.
+ * Those that were just told come again within a microsecond or two, if they come. So who leads
+ * waits for that long, until as many are there as the last time: otherwise one thread and all
+ * others would take turns. How threads wait, and help with their block, is in helping.c.
+ *
+ * A request stands on the stack of the thread that asks. A post asks that thread to help, at most
+ * once, or calls it to lead, at most once, or tells it that another thread made its edits; the
+ * thread takes each of them before it returns. Posts need no lock, so whom they wake finds it free.
  */
 #define _POSIX_C_SOURCE 200112L
 #include "buffers.h"
-#include "mst_store.h"
-#include <pthread.h>
-#include <semaphore.h>
+#include "group.h"
+#include <sched.h>
 #include <stdlib.h>
 #include <string.h>
 
-/* The most bytes of edits in a block of several requests. */
-enum { BLOCK_MOST = 1 << 20 };
-
-struct request {
-    const uint8_t *edits;
-    size_t length;
-    size_t *place, *shard;
-    uint64_t *number;
-    int is_batch; /* whether none of its edits is bad: one that is cut short would take bytes from
-                     the request behind it */
-    int32_t told;
-    int is_called;        /* whether its thread was called to lead */
-    sem_t *posts;         /* its thread sleeps here */
-    struct request *next; /* in the queue, and later in the block */
-};
-
-struct mst_sharded_group {
-    mst_handle writer; /* of the thread that leads */
-    pthread_mutex_t lock;     /* of what follows */
-    int is_led;
-    struct request *first, *last; /* the queue; if nobody leads, its first was called */
+enum {
+    BLOCK_MOST = 1 << 20, /* the most bytes of edits in a block of several requests */
+    GATHERS = 10          /* looks for those that come again, each after a moment */
 };
 
 /* ---- the queue, under the lock ---- */
@@ -51,6 +36,7 @@ static void enqueue(mst_sharded_group *group, struct request *request) {
     else
         group->last->next = request;
     group->last = request;
+    group->waiting++;
 }
 
 /* Whether the next request goes into the block of this one, which has so many bytes so far. */
@@ -68,18 +54,37 @@ static struct request *last_in_block(const mst_sharded_group *group) {
     return last;
 }
 
-/* The caller leads: takes the requests of the next block, as a list. */
+static size_t count_of(const struct request *requests) {
+    size_t count = 0;
+    for (const struct request *one = requests; one != NULL; one = one->next)
+        count++;
+    return count;
+}
+
+/* Takes the requests of the next block out of the queue, as a list. */
 static struct request *dequeue(mst_sharded_group *group) {
     struct request *first = group->first, *last = last_in_block(group);
-    group->is_led = 1;
     group->first = last->next;
     last->next = NULL;
+    group->waiting -= count_of(first);
     return first;
 }
 
-/* The caller leads no more. Returns the first that waits, if there is one, to be called. */
-static struct request *leave(mst_sharded_group *group) {
+/* The caller leads from here on: waits a moment for those that come again, and takes its block. */
+static struct request *gather(mst_sharded_group *group) {
+    group->is_led = 1;
+    for (int looks = 0; group->waiting < group->expected && looks < GATHERS; looks++) {
+        unlock_group(group);
+        sched_yield();
+        lock_group(group);
+    }
+    return dequeue(group);
+}
+
+/* Who made this block leads no more. Returns the first that waits, if any does, to be called. */
+static struct request *leave(mst_sharded_group *group, const struct request *block) {
     group->is_led = 0;
+    group->expected = group->waiting + count_of(block);
     if (group->first != NULL)
         group->first->is_called = 1;
     return group->first;
@@ -107,17 +112,30 @@ static void join(const struct request *requests, uint8_t *edits) {
             memcpy(edits + at, one->edits, one->length);
 }
 
-/* Whether all requests are made as one block. Otherwise nothing is made. */
-static int make_one_block(mst_sharded_group *group, struct request *requests) {
-    size_t length = length_of(requests), place, shard;
-    uint64_t number;
+/* Begins the block of all requests. Returns whether that was possible. */
+static int begin_block(mst_sharded_group *group, const struct request *requests) {
+    size_t length = length_of(requests), place;
     /* a byte more, since a malloc may give none for no bytes */
     uint8_t *edits = malloc(length + 1);
     if (edits == NULL)
         return 0;
     join(requests, edits);
-    int32_t told = mst_sharded_apply(&group->writer, edits, length, &place, &shard, &number);
+    int32_t told = mst_sharded_begin(&group->writer, edits, length, &place, group->crew->parts,
+                                     group->crew->count);
     free(edits);
+    return told == MST_OK;
+}
+
+/* Whether all requests are made as one block. Otherwise nothing is made. */
+static int make_one_block(mst_sharded_group *group, struct request *requests,
+                          const struct request *own) {
+    size_t shard;
+    uint64_t number;
+    if (!begin_block(group, requests))
+        return 0;
+    prepare_together(group, requests, own);
+    int32_t told = mst_sharded_commit(&group->writer, &shard, &number);
+    crew_close(group->crew);
     if (told != MST_OK)
         return 0;
     for (struct request *one = requests; one != NULL; one = one->next) {
@@ -127,8 +145,8 @@ static int make_one_block(mst_sharded_group *group, struct request *requests) {
     return 1;
 }
 
-static void make(mst_sharded_group *group, struct request *requests) {
-    if (requests->next != NULL && make_one_block(group, requests))
+static void make(mst_sharded_group *group, struct request *requests, const struct request *own) {
+    if (requests->next != NULL && make_one_block(group, requests, own))
         return;
     for (struct request *one = requests; one != NULL; one = one->next)
         make_alone(group, one);
@@ -149,12 +167,6 @@ static sem_t *posts_here(void) {
     return &posts;
 }
 
-/* Waits for a post. */
-static void await(struct request *own) {
-    while (sem_wait(own->posts) != 0) /* a signal may cut it short */
-        ;
-}
-
 /* Tells all of the block but the own request that they are done, and touches them no more. */
 static void tell(struct request *block, const struct request *own) {
     for (struct request *one = block, *next; one != NULL; one = next) {
@@ -165,10 +177,10 @@ static void tell(struct request *block, const struct request *own) {
 }
 
 static void lead(mst_sharded_group *group, struct request *block, const struct request *own) {
-    make(group, block);
-    pthread_mutex_lock(&group->lock);
-    struct request *called = leave(group);
-    pthread_mutex_unlock(&group->lock);
+    make(group, block, own);
+    lock_group(group);
+    struct request *called = leave(group, block);
+    unlock_group(group);
     tell(block, own);
     if (called != NULL)
         sem_post(called->posts);
@@ -180,11 +192,11 @@ static void lead(mst_sharded_group *group, struct request *block, const struct r
  */
 static struct request *enter(mst_sharded_group *group, struct request *own) {
     struct request *block = NULL;
-    pthread_mutex_lock(&group->lock);
+    lock_group(group);
     enqueue(group, own);
     if (!group->is_led && last_in_block(group) == own)
-        block = dequeue(group);
-    pthread_mutex_unlock(&group->lock);
+        block = gather(group);
+    unlock_group(group);
     return block;
 }
 
@@ -194,15 +206,15 @@ static struct request *enter(mst_sharded_group *group, struct request *own) {
  */
 static struct request *await_turn(mst_sharded_group *group, struct request *own) {
     struct request *block = NULL;
-    await(own);
+    await(group, own);
     if (!own->is_called)
         return NULL;
-    pthread_mutex_lock(&group->lock);
-    if (group->first == own)
-        block = dequeue(group);
-    pthread_mutex_unlock(&group->lock);
+    lock_group(group);
+    if (!group->is_led && group->first == own)
+        block = gather(group);
+    unlock_group(group);
     if (block == NULL)
-        await(own);
+        await(group, own);
     return block;
 }
 
@@ -213,7 +225,7 @@ int32_t mst_sharded_group_apply(mst_sharded_group *group, const uint8_t *edits, 
                                 size_t *place, size_t *shard, uint64_t *number) {
     struct request own = {.edits = edits, .length = length, .place = place, .shard = shard,
                           .number = number, .is_batch = is_batch(edits, length),
-                          .posts = posts_here()};
+                          .is_awake = 1, .posts = posts_here()};
     int before;
     pthread_setcancelstate(PTHREAD_CANCEL_DISABLE, &before);
     struct request *block = enter(group, &own);
@@ -234,21 +246,32 @@ static int32_t judge_writer(mst_handle *hand) {
     return mst_sharded_format(hand) == MST_WRONG_STATE ? MST_OK : MST_WRONG_STATE;
 }
 
+/* A group of a map with so many shards, or none if there is no memory. */
+static mst_sharded_group *group_of(size_t shards) {
+    mst_sharded_group *made = malloc(sizeof *made + crew_size(shards));
+    if (made == NULL)
+        return NULL;
+    if (pthread_mutex_init(&made->lock, NULL) != 0) {
+        free(made);
+        return NULL;
+    }
+    made->is_led = made->is_open = 0;
+    made->first = made->last = NULL;
+    made->waiting = made->expected = made->helping = 0;
+    made->crew = (void *)(made + 1);
+    crew_init(made->crew, shards);
+    return made;
+}
+
 int32_t mst_sharded_group_open(mst_handle *writer, mst_sharded_group **group) {
     static const mst_handle closed = MST_HANDLE_CLOSED;
     int32_t told = judge_writer(writer);
     if (told != MST_OK)
         return told;
-    mst_sharded_group *made = malloc(sizeof *made);
+    mst_sharded_group *made = group_of((size_t)mst_sharded_shards(writer));
     if (made == NULL)
         return MST_MEMORY;
-    if (pthread_mutex_init(&made->lock, NULL) != 0) {
-        free(made);
-        return MST_MEMORY;
-    }
     made->writer = *writer;
-    made->is_led = 0;
-    made->first = made->last = NULL;
     *writer = closed;
     *group = made;
     return MST_OK;

@@ -843,16 +843,18 @@ int32_t mst_sharded_group_open(mst_handle *writer, mst_sharded_group **group);
  * and tells *place, of an edit among these, and *shard as that does. What is not told is as it was.
  *
  * If no block is being made when the call comes, it makes one of its edits at once. Calls that come
- * meanwhile sleep. Then the first of them, or a call that comes before it is awake, makes one block
- * of all that wait, up to 1,048,576 bytes of edits, and so on. In a block the edits of each call
- * follow those of the calls that came before it. So a call may make the edits of others with its
- * own; if that block is refused, or there is no memory for it, it makes one block for each of its
- * calls.
+ * meanwhile wait, first awake and then asleep. Then the first of them, or a call that comes before
+ * it is awake, makes one block of all that wait, up to 1,048,576 bytes of edits, and so on. Before
+ * it begins, it waits some microseconds for calls like those that have just returned. Calls that
+ * are awake help to prepare the parts of their block. In a block the edits of each call follow
+ * those of the calls that came before it. So a call may make the edits of others with its own; if
+ * that block is refused, or there is no memory for it, it makes one block for each of its calls.
  *
  * If a block of several calls is refused, each of them gets a block of its own, in the same order.
  * So a call is refused only if mst_sharded_apply would refuse its edits alone, after those of the
  * calls before it. Bad edits go into no block with others. A block of several calls takes memory
- * for all their edits; if there is none, each call gets a block of its own.
+ * for all their edits, and for what mst_sharded_begin takes; if there is none, each call gets a
+ * block of its own.
  *
  * It reads nothing. While a group has the writer, no call reads the map and writes it at once: what
  * a reader or a snapshot tells may be changed by another call before these edits are made. If edits

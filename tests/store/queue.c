@@ -88,7 +88,7 @@ static void end_all(int count) {
     open_gate(&writing);
     for (int at = 0; at < count; at++)
         EXPECT(pthread_join(asks[at].thread, NULL) == 0);
-    EXPECT(queued() == 0 && !group->is_led && !entered_by_two);
+    EXPECT(queued() == 0 && !group->is_led && !entered_by_two && !prepared_wrongly);
 }
 
 static int is_made(int at, uint64_t number) {
@@ -326,6 +326,74 @@ static void behind_the_called(void) {
     EXPECT(is_made(0, 1) && is_made(1, 2) && is_made(2, 2) && is_made(3, 3));
 }
 
+/* ---- threads that help ---- */
+
+/* Two or more wait, awake, and the first of them is about to begin their block. */
+static void begin_watchful(int count) {
+    for (int at = 1; at < count; at++)
+        puts_key(at, "k");
+    atomic_store(&is_watchful, 1);
+    atomic_store(&helped, 0);
+    begin_all(count);
+    close_gate(&posting);
+    open_gate(&writing);
+    while (waiting_at(&posting) < 1)
+        sched_yield();
+    close_gate(&writing);
+    open_gate(&posting);
+    while (waiting_at(&writing) < 1)
+        sched_yield();
+}
+
+static void end_watchful(int count) {
+    end_all(count);
+    atomic_store(&is_watchful, 0);
+    EXPECT(called == 2 && is_of(1, 1, count - 1) && is_by(1, 1));
+    for (int at = 1; at < count; at++)
+        EXPECT(is_made(at, 2));
+}
+
+/* While the thread that leads is held up at its first part, the others prepare the rest. */
+static void helped_by_all(void) {
+    begin_watchful(4);
+    close_gate(&preparing);
+    open_gate(&writing);
+    while (atomic_load(&helped) < SHARDS - 1)
+        usleep(100);
+    open_gate(&preparing);
+    end_watchful(4);
+    EXPECT(atomic_load(&helped) >= SHARDS - 1);
+}
+
+/* A thread that has heard the call too late finds nothing to do, and nobody waits for it. */
+static void helped_too_late(void) {
+    begin_watchful(3);
+    close_gate(&hearing);
+    open_gate(&writing);
+    EXPECT(pthread_join(asks[1].thread, NULL) == 0 && called == 2);
+    EXPECT(!atomic_load(&asks[2].is_told) && atomic_load(&helped) == 0);
+    open_gate(&hearing);
+    EXPECT(pthread_join(asks[2].thread, NULL) == 0 && is_made(1, 2) && is_made(2, 2));
+    EXPECT(pthread_join(asks[0].thread, NULL) == 0 && queued() == 0 && !prepared_wrongly);
+    atomic_store(&is_watchful, 0);
+}
+
+/* The block is not made before a thread that helps is done. */
+static void helped_for_long(void) {
+    begin_watchful(3);
+    close_gate(&helping);
+    close_gate(&preparing);
+    open_gate(&writing);
+    while (waiting_at(&helping) < 1)
+        usleep(100);
+    open_gate(&preparing);
+    usleep(5000);
+    EXPECT(queued() == 0 && called == 1);
+    open_gate(&helping);
+    end_watchful(3);
+    EXPECT(atomic_load(&helped) == 1);
+}
+
 static void passes(int signal) {
     (void)signal;
 }
@@ -391,7 +459,9 @@ static void many(void) {
         last = asks[at].number > last ? asks[at].number : last;
     }
     EXPECT(last == blocks && queued() == 0 && !group->is_led && !entered_by_two);
-    printf("%u requests, %llu blocks\n", THREADS * requests, (unsigned long long)blocks);
+    EXPECT(!prepared_wrongly);
+    printf("%u requests, %llu blocks, %ld parts by others\n", THREADS * requests,
+           (unsigned long long)blocks, atomic_load(&helped));
 }
 
 int main(int count, char **words) {
@@ -408,6 +478,9 @@ int main(int count, char **words) {
     cancelled();
     before_the_called();
     behind_the_called();
+    helped_by_all();
+    helped_too_late();
+    helped_for_long();
     if (count == 1)
         signalled();
     many();

@@ -1,8 +1,8 @@
 /*
  * The writer of a group without a store. Its calls note what they are given, find out if two
  * threads are in them at a time, and hold a thread up for as long as a test wants, so that others
- * come meanwhile; and so do the posts by which threads wake each other. Memory is refused on
- * demand. This stands before all other headers.
+ * come meanwhile; and so do the posts by which threads wake each other. Threads stay awake, and
+ * memory is refused, on demand. This stands before all other headers.
  */
 #ifndef QUEUE_H
 #define QUEUE_H
@@ -10,14 +10,19 @@
 /* stdlib.h and semaphore.h declare these instead */
 #define malloc granted
 #define sem_post posted
+#define sem_trywait looked
 #include "../../bindings/group.c"
+#undef _POSIX_C_SOURCE
+#include "../../bindings/helping.c"
+#undef sem_trywait
 #undef sem_post
 #undef malloc
 int sem_post(sem_t *posts);
+int sem_trywait(sem_t *posts);
 #include "../../bindings/buffers.c"
-#include <stdatomic.h>
+#include "../../bindings/crew.c"
 
-enum { THREADS = 8, MOST_CALLS = 64 };
+enum { THREADS = 8, MOST_CALLS = 64, SHARDS = 5 };
 
 static int tag;             /* where the hand of the writer points */
 static int is_reader;       /* whether what the hand holds is a reader instead */
@@ -89,6 +94,17 @@ int posted(sem_t *posts) {
     return sem_post(posts);
 }
 
+static atomic_int is_watchful;           /* whether no thread sleeps that waits for a post */
+static struct gate hearing = OPEN_GATE;  /* of such a thread, once it has taken a post */
+
+int looked(sem_t *posts) {
+    if (!atomic_load(&is_watchful))
+        return sem_trywait(posts);
+    sleep_until_post(posts);
+    pass_gate(&hearing);
+    return 0;
+}
+
 static size_t next_edit(const uint8_t *edits, size_t at) {
     return at + HEAD + length_at(edits + at + 1) + length_at(edits + at + 3);
 }
@@ -121,18 +137,85 @@ static void note(const uint8_t *edits, size_t length, int32_t told) {
     called++;
 }
 
-int32_t mst_sharded_apply(mst_handle *writer, const uint8_t *edits, size_t length,
-                          size_t *place, size_t *shard, uint64_t *number) {
+static void enter_call(const mst_handle *writer) {
     if (atomic_exchange(&within, 1) != 0 || writer->at != &tag)
         atomic_store(&entered_by_two, 1);
     pass_gate(&writing);
-    int32_t told = judge(edits, length, place, shard);
+}
+
+static int32_t make_block(const uint8_t *edits, size_t length, int32_t told, uint64_t *number) {
     if (told == MST_OK) {
         put_all(edits, length);
         *number = ++blocks;
     }
     note(edits, length, told);
     atomic_store(&within, 0);
+    return told;
+}
+
+int32_t mst_sharded_apply(mst_handle *writer, const uint8_t *edits, size_t length,
+                          size_t *place, size_t *shard, uint64_t *number) {
+    enter_call(writer);
+    return make_block(edits, length, judge(edits, length, place, shard), number);
+}
+
+/* ---- blocks in parts ---- */
+
+/* The block that was begun. */
+static struct begun {
+    uint8_t *edits;
+    size_t length;
+    atomic_int prepared[SHARDS]; /* how often */
+    pthread_t writer;
+} begun;
+static atomic_long helped;            /* how many parts other threads have prepared */
+static atomic_int prepared_wrongly;   /* whether a part was prepared twice, or not at all */
+static struct gate preparing = OPEN_GATE; /* of the writer's thread, before each part */
+static struct gate helping = OPEN_GATE;   /* of the others, before each part */
+
+int32_t mst_sharded_shards(mst_handle *of) {
+    (void)of;
+    return SHARDS;
+}
+
+int32_t mst_sharded_begin(mst_handle *writer, const uint8_t *edits, size_t length, size_t *place,
+                          mst_handle *parts, size_t count) {
+    size_t shard;
+    if (is_empty_handed)
+        return MST_MEMORY;
+    enter_call(writer);
+    if (count != SHARDS || judge(edits, length, place, &shard) == MST_BAD_BATCH)
+        atomic_store(&entered_by_two, 1);
+    begun.edits = calloc(1, length + 1);
+    memcpy(begun.edits, edits, length);
+    begun.length = length;
+    begun.writer = pthread_self();
+    for (size_t at = 0; at < count; at++) {
+        atomic_store(&begun.prepared[at], 0);
+        parts[at].at = &begun.prepared[at];
+    }
+    return MST_OK;
+}
+
+int32_t mst_sharded_prepare(mst_handle *part) {
+    atomic_int *own = part->at;
+    int is_helped = !pthread_equal(pthread_self(), begun.writer);
+    atomic_fetch_add(&helped, is_helped);
+    pass_gate(is_helped ? &helping : &preparing);
+    atomic_fetch_add(own, 1);
+    return MST_OK;
+}
+
+int32_t mst_sharded_commit(mst_handle *writer, size_t *shard, uint64_t *number) {
+    size_t place;
+    if (writer->at != &tag)
+        atomic_store(&entered_by_two, 1);
+    for (size_t at = 0; at < SHARDS; at++)
+        if (atomic_load(&begun.prepared[at]) != 1)
+            atomic_store(&prepared_wrongly, 1);
+    int32_t told = judge(begun.edits, begun.length, &place, shard);
+    make_block(begun.edits, begun.length, told, number);
+    free(begun.edits);
     return told;
 }
 
