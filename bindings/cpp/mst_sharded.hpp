@@ -8,8 +8,8 @@
 //     auto root = then.root();                                      // as writer.root()
 //
 // The writer alone makes blocks, and readers take snapshots of them. Each is one thread's at a
-// time; it is moved, never copied, and closes itself. The map is freed with the last of them. All
-// else is as in mst_store.hpp.
+// time; it is moved, never copied, and closes itself. The map is freed with the last of them. By
+// mst_sharded_group.hpp several threads share a writer. All else is as in mst_store.hpp.
 #pragma once
 #include "mst_store.hpp"
 
@@ -372,6 +372,7 @@ public:
 // The writer of a sharded map, which alone makes its blocks.
 class writer : public member {
     friend class snapshot;
+    friend class group; // of mst_sharded_group.hpp
     friend opened open(std::uint32_t, std::size_t, const std::vector<std::string> &, mst::format);
 
 public:

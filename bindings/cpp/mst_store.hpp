@@ -49,6 +49,7 @@ struct held {
 
 namespace sharded {
 class writer;
+class group;
 }
 
 // Edits that a pass makes as one version, and the writer of a sharded map as one block, in their
@@ -58,6 +59,7 @@ class writer;
 class batch {
     friend class pass;
     friend class sharded::writer;
+    friend class sharded::group;
     std::vector<std::uint8_t> edits; // as mst_try_apply takes them
     std::size_t count = 0;
 

@@ -19,8 +19,8 @@ var (
 	// ErrClosed says that the pass is closed, or its pin ended.
 	ErrClosed = errors.New("mst: the pass is closed, or its pin ended")
 	// ErrPinned says that the pass pins a version: it neither writes, migrates, pins nor counts. Of
-	// a ShardedWriter it says that a block was begun, and has not ended.
-	ErrPinned = errors.New("mst: the pass pins a version, or the writer has begun a block")
+	// a ShardedWriter it says that a block was begun, and has not ended, or that a group has it.
+	ErrPinned = errors.New("mst: the pass pins a version, or a block or a group has the writer")
 	// ErrMemory says that the library got no memory.
 	ErrMemory = errors.New("mst: a growth of memory was refused")
 	// ErrShape says that a store has 4 to 65,535 rows and 1 to 32 passes.

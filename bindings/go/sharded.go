@@ -21,7 +21,9 @@ type ShardedWriter struct {
 	// How many blocks were begun, and whether the last one has not ended.
 	blocks  uint64
 	isBegun bool
-	of      member
+	// The group that has the writer, whose hand is empty then, or nil.
+	group *group
+	of    member
 }
 
 // ShardedReader is a reader of a sharded map, from OpenSharded: it takes snapshots, one at a time.
@@ -90,13 +92,25 @@ func OpenSharded(
 	return writer, made, nil
 }
 
+// take gets the hand for a call, which then gives it back.
+func (w *ShardedWriter) take() (*member, error) {
+	w.of.mutex.Lock()
+	if w.group != nil {
+		w.of.mutex.Unlock()
+		return nil, ErrPinned
+	}
+	return &w.of, nil
+}
+
 // Close closes the writer: then no more blocks are made, and readers go on. A block that was begun
-// is lost. A second close returns ErrClosed and has no other effect. The runtime closes a writer
-// that nothing refers to any more, at some time.
+// is lost. A group that has the writer is closed too, once no call is in it. A second close returns
+// ErrClosed and has no other effect. The runtime closes a writer that nothing refers to any more,
+// at some time.
 func (w *ShardedWriter) Close() error {
 	w.of.mutex.Lock()
 	defer w.of.mutex.Unlock()
 	w.isBegun = false
+	w.takeBack()
 	if err := w.of.close(); err != nil {
 		return err
 	}
@@ -106,9 +120,12 @@ func (w *ShardedWriter) Close() error {
 
 // Shards returns how many shards there are. The error is ErrClosed.
 func (w *ShardedWriter) Shards() (int, error) {
-	w.of.mutex.Lock()
-	defer w.of.mutex.Unlock()
-	return w.of.shards()
+	m, err := w.take()
+	if err != nil {
+		return 0, err
+	}
+	defer m.mutex.Unlock()
+	return m.shards()
 }
 
 // Apply makes the edits of the batch, of all shards, as the next block, and returns its number: one
@@ -117,11 +134,14 @@ func (w *ShardedWriter) Shards() (int, error) {
 // *EditError, or a *ShardError with ErrBusy, ErrVersionsSpent, ErrMemory, ErrNoFreeRows, or
 // ErrOvertaken.
 func (w *ShardedWriter) Apply(batch *Batch) (number uint64, err error) {
-	w.of.mutex.Lock()
-	defer w.of.mutex.Unlock()
+	m, err := w.take()
+	if err != nil {
+		return 0, err
+	}
+	defer m.mutex.Unlock()
 	var place, shard C.size_t
 	var made C.uint64_t
-	told := C.mst_sharded_apply(&w.of.hand, at(batch.packed), size(batch.packed), &place, &shard,
+	told := C.mst_sharded_apply(&m.hand, at(batch.packed), size(batch.packed), &place, &shard,
 		&made)
 	return uint64(made), refusalOfBlock(told, place, shard)
 }
@@ -131,14 +151,17 @@ func (w *ShardedWriter) Apply(batch *Batch) (number uint64, err error) {
 // anew each time, so a block of few edits may take longer than by Apply. Where a thread cannot be
 // started, the others do its work.
 func (w *ShardedWriter) ApplyInThreads(batch *Batch, threads int) (number uint64, err error) {
-	w.of.mutex.Lock()
-	defer w.of.mutex.Unlock()
+	m, err := w.take()
+	if err != nil {
+		return 0, err
+	}
+	defer m.mutex.Unlock()
 	if threads < 0 {
 		threads = 0
 	}
 	var place, shard C.size_t
 	var made C.uint64_t
-	told := C.mst_sharded_apply_in_threads(&w.of.hand, at(batch.packed), size(batch.packed),
+	told := C.mst_sharded_apply_in_threads(&m.hand, at(batch.packed), size(batch.packed),
 		C.size_t(threads), &place, &shard, &made)
 	return uint64(made), refusalOfBlock(told, place, shard)
 }
@@ -160,15 +183,18 @@ func (w *ShardedWriter) ApplyInThreads(batch *Batch, threads int) (number uint64
 //	all.Wait()
 //	number, err := block.Commit()
 func (w *ShardedWriter) Begin(batch *Batch) (*ShardedBlock, []*ShardedPart, error) {
-	w.of.mutex.Lock()
-	defer w.of.mutex.Unlock()
-	shards, err := w.of.shards()
+	m, err := w.take()
+	if err != nil {
+		return nil, nil, err
+	}
+	defer m.mutex.Unlock()
+	shards, err := m.shards()
 	if err != nil {
 		return nil, nil, err
 	}
 	hands := make([]C.mst_handle, shards)
 	var place C.size_t
-	told := C.mst_sharded_begin(&w.of.hand, at(batch.packed), size(batch.packed), &place, &hands[0],
+	told := C.mst_sharded_begin(&m.hand, at(batch.packed), size(batch.packed), &place, &hands[0],
 		C.size_t(shards))
 	if told != C.MST_OK {
 		return nil, nil, refusalOfBlock(told, place, C.size_t(shards))
@@ -188,24 +214,33 @@ func (w *ShardedWriter) Begin(batch *Batch) (*ShardedBlock, []*ShardedPart, erro
 // Get returns the value of the key in the last block, if the key is present: so a block can depend
 // on what the map has. The error is ErrClosed, ErrKey, or ErrOvertaken.
 func (w *ShardedWriter) Get(key []byte) (value []byte, present bool, err error) {
-	w.of.mutex.Lock()
-	defer w.of.mutex.Unlock()
-	return w.of.get(key)
+	m, err := w.take()
+	if err != nil {
+		return nil, false, err
+	}
+	defer m.mutex.Unlock()
+	return m.get(key)
 }
 
 // Number returns the number of the last block; 0 is that of the empty map. The error is ErrClosed.
 func (w *ShardedWriter) Number() (uint64, error) {
-	w.of.mutex.Lock()
-	defer w.of.mutex.Unlock()
-	return w.of.number()
+	m, err := w.take()
+	if err != nil {
+		return 0, err
+	}
+	defer m.mutex.Unlock()
+	return m.number()
 }
 
 // Root returns the root digest of all shards after the last block, as a snapshot of it has it. The
 // error is ErrClosed.
 func (w *ShardedWriter) Root() (Root, error) {
-	w.of.mutex.Lock()
-	defer w.of.mutex.Unlock()
-	return w.of.root()
+	m, err := w.take()
+	if err != nil {
+		return Root{}, err
+	}
+	defer m.mutex.Unlock()
+	return m.root()
 }
 
 // ShardedPart is a part of a block that was begun: the edits of one shard. Goroutines that share it
@@ -477,20 +512,23 @@ func (s *ShardedSnapshot) Prove(key []byte) ([]byte, error) {
 // CopyTo puts all pairs, as one block, into another sharded map, by its writer, and returns the
 // number of this block. The other map may be of the other format, with other splits, or with more
 // rows: so a map is migrated, split anew, or enlarged, while its readers go on. Keys that the other
-// map has besides keep their values. Blocks that are made after the snapshot are not copied. After an error
-// nothing has changed in any shard. The error is ErrClosed, or a *ShardError as that of Apply, with
-// ErrMemory also if there is no memory for the list of all pairs.
+// map has besides keep their values. Blocks that are made after the snapshot are not copied. After
+// an error nothing has changed in any shard. The error is ErrClosed, or a *ShardError as that of
+// Apply, with ErrMemory also if there is no memory for the list of all pairs.
 func (s *ShardedSnapshot) CopyTo(writer *ShardedWriter) (number uint64, err error) {
 	m, err := s.take()
 	if err != nil {
 		return 0, err
 	}
 	defer m.mutex.Unlock()
-	writer.of.mutex.Lock()
-	defer writer.of.mutex.Unlock()
+	other, err := writer.take()
+	if err != nil {
+		return 0, err
+	}
+	defer other.mutex.Unlock()
 	var shard C.size_t
 	var made C.uint64_t
-	told := C.mst_sharded_copy(&m.hand, &writer.of.hand, &shard, &made)
+	told := C.mst_sharded_copy(&m.hand, &other.hand, &shard, &made)
 	return uint64(made), refusalOfBlock(told, 0, shard)
 }
 

@@ -20,12 +20,15 @@ and its readers take snapshots, each of one block:
     writer.apply([(b"apple", b"30"), (b"pear", b"12")])     # block 1
     with reader.snapshot() as then:
         then.number(), then.root()
+    with writer.group() as group:       # several threads write by one writer
+        group.apply([(b"apple", b"31")])                    # in any thread
 
 Keys have 1 to 32 bytes, values 0 to 64. Use a pass for each thread: ctypes lets other threads run
 during a call, and two calls by one pass wait for each other. So make none in a signal handler: it
 would wait for ever for the call that it interrupts. A store does not outlive os.fork() in a process
 with threads.
 """
+from ._group import ShardedGroup
 from ._library import KEY_LONGEST, ROOT_LENGTH, VALUE_LONGEST, library_version
 from ._passes import Edit, Format, Octets, Pass, open_store
 from ._refusals import (
@@ -46,6 +49,6 @@ __all__ = [
     "VALUE_LONGEST", "VERSIONS_SPENT", "WRONG_STATE", "Busy", "Edit", "Format", "Octets", "Pass",
     "Refused", "RefusedEdit", "library_version", "open_store",
     "BAD_SPLITS", "MOVING", "OVERTAKEN", "BusyShard", "Moving", "Overtaken", "RefusedShard",
-    "ShardedBlock", "ShardedPart", "ShardedReader", "ShardedSnapshot", "ShardedWriter",
-    "open_sharded",
+    "ShardedBlock", "ShardedGroup", "ShardedPart", "ShardedReader", "ShardedSnapshot",
+    "ShardedWriter", "open_sharded",
 ]

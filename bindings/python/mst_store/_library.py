@@ -67,6 +67,7 @@ def _signatures() -> Dict[str, Tuple[Any, ...]]:
 def _sharded_signatures() -> Dict[str, Tuple[Any, ...]]:
     hand, size, text = SHARDED_HAND, ctypes.c_size_t, ctypes.c_char_p
     pointer, number = ctypes.POINTER, ctypes.POINTER(ctypes.c_uint64)
+    group = ctypes.c_void_p  # its address
     return {
         "mst_sharded_open": (ctypes.c_uint32, ctypes.c_uint32, text, size, hand, size),
         "mst_sharded_close": (hand,),
@@ -93,6 +94,9 @@ def _sharded_signatures() -> Dict[str, Tuple[Any, ...]]:
         "mst_sharded_prove": (hand, text, size, text, size, pointer(size)),
         "mst_sharded_directory": (hand, text, size, pointer(size), pointer(size)),
         "mst_sharded_copy": (hand, hand, pointer(size), number),
+        "mst_sharded_group_open": (hand, pointer(group)),
+        "mst_sharded_group_apply": (group, text, size, pointer(size), pointer(size), number),
+        "mst_sharded_group_close": (group, hand),
     }
 
 

@@ -29,7 +29,7 @@ _REASONS = {
     BAD_KEY: "a key has 1 to 32 bytes",
     BAD_VALUE: "a value has 0 to 64 bytes",
     CLOSED: "the pass is closed",
-    WRONG_STATE: "the pass is pinned, or the writer has begun a block, or the part's has ended",
+    WRONG_STATE: "the pass is pinned, a block or a group has the writer, or the part's has ended",
     MEMORY: "a growth of memory was refused",
     BAD_SHAPE: "a store has 4 to 65535 rows and 1 to 32 passes",
     BUSY: "another pass writes",

@@ -3,22 +3,17 @@ from __future__ import annotations
 
 import ctypes
 import operator
-import os
-import threading
 import time
 from contextlib import contextmanager
-from typing import (
-    TYPE_CHECKING, Any, Callable, Dict, Iterable, Iterator, List, NoReturn, Optional, Tuple, Type,
-)
+from typing import TYPE_CHECKING, Any, Callable, Iterable, Iterator, List, NoReturn, Optional, Tuple
 
-from ._library import KEY_LONGEST, ROOT_LENGTH, SHARDED_HAND, VALUE_LONGEST, ShardedHand
+from ._group import ShardedGroup
+from ._hands import _NO_SHARD, _answer, _block, _block_of_edits, _Hand, _Held, _WriterHand
+from ._library import KEY_LONGEST, ShardedHand
 from ._library import lib as _lib
 from ._passes import Edit, Format, Octets, _format, _octets, _pairs, _word
 from ._passes import _packed as _packed_edits
-from ._refusals import (
-    ABSENT, BAD_KEY, BAD_VALUE, BUSY, CLOSED, MEMORY, MOVING, NO_FREE_ROWS, OVERTAKEN, SHORT_ROOM,
-    VERSIONS_SPENT, BusyShard, Moving, Overtaken, RefusedEdit, RefusedShard,
-)
+from ._refusals import BUSY, CLOSED, MOVING, Moving
 from ._refusals import refuse as _refuse
 
 if TYPE_CHECKING:
@@ -29,74 +24,6 @@ def _packed(splits: Iterable[Octets]) -> bytes:
     # A key that is too long is refused by its length, so that is enough.
     keys = map(_octets, splits)
     return b"".join(bytes((min(len(key), 255),)) + key[: KEY_LONGEST + 1] for key in keys)
-
-
-def _answer(code: int) -> int:
-    if code < 0:
-        _refuse(code)
-    return code
-
-
-class _Hand:
-    """A hand. It is in one call at a time, so who makes one has the lock."""
-
-    def __init__(self, hand: Any) -> None:
-        if not isinstance(hand, SHARDED_HAND):
-            raise TypeError("writers and readers come from open_sharded, parts from begin")
-        self.hand, self.process = hand, os.getpid()
-        self.lock = threading.Lock()
-
-    def __del__(self) -> None:
-        # As for a pass: no other call can be under way, and a forked child calls nothing by itself.
-        if _lib is not None and getattr(self, "process", None) == os.getpid():
-            _lib.mst_sharded_close(self.hand)
-
-
-class _Held(_Hand):
-    """A hand, and the rooms of its calls."""
-
-    def __init__(self, hand: Any) -> None:
-        super().__init__(hand)
-        self.room = ctypes.create_string_buffer(VALUE_LONGEST)
-        self.key_room = ctypes.create_string_buffer(KEY_LONGEST)
-        self.long_room = ctypes.create_string_buffer(4096)  # grows with the longest proof or range
-
-    def shards(self) -> int:
-        return _answer(_lib.mst_sharded_shards(self.hand))
-
-    def number(self) -> int:
-        number = ctypes.c_uint64()
-        _answer(_lib.mst_sharded_number(self.hand, ctypes.byref(number)))
-        return int(number.value)
-
-    def root(self) -> bytes:
-        _answer(_lib.mst_sharded_root(self.hand, self.room, VALUE_LONGEST))
-        return self.room.raw[:ROOT_LENGTH]
-
-    def value(self, code: int) -> Optional[bytes]:
-        return None if code == ABSENT else self.room.raw[: _answer(code)]
-
-    def get(self, key: bytes) -> Optional[bytes]:
-        return self.value(_lib.mst_sharded_get(
-            self.hand, key, len(key), self.room, VALUE_LONGEST))
-
-    def next(self, key: bytes) -> Optional[Tuple[bytes, bytes]]:
-        length = ctypes.c_size_t()
-        value = self.value(_lib.mst_sharded_next(
-            self.hand, key, len(key), self.key_room, KEY_LONGEST, ctypes.byref(length), self.room,
-            VALUE_LONGEST,
-        ))
-        return None if value is None else (self.key_room.raw[: length.value], value)
-
-    def longest(self, call: Callable[[Any, Any], Any]) -> bytes:
-        length = ctypes.c_size_t()
-        while True:
-            room = self.long_room
-            code = call(room, ctypes.byref(length))
-            if code != SHORT_ROOM:
-                _answer(code)
-                return ctypes.string_at(room, length.value)
-            self.long_room = ctypes.create_string_buffer(length.value)
 
 
 class ShardedSnapshot:
@@ -196,10 +123,10 @@ class ShardedSnapshot:
         if not isinstance(writer, ShardedWriter):
             raise TypeError("a snapshot is copied to a ShardedWriter")
         number, shard = ctypes.c_uint64(), ctypes.c_size_t()
-        # Nothing else takes two locks, so none takes these in the other order.
-        with self._taken() as held, writer._held.lock:
+        # Nothing else takes the locks of two hands, so none takes these in the other order.
+        with self._taken() as held, writer._held.taken() as other:
             code = _lib.mst_sharded_copy(
-                held.hand, writer._held.hand, ctypes.byref(shard), ctypes.byref(number))
+                held.hand, other.hand, ctypes.byref(shard), ctypes.byref(number))
         return _block(code, number, shard)
 
     def __reduce__(self) -> NoReturn:
@@ -337,12 +264,12 @@ class ShardedWriter:
     """The writer of a sharded map, from open_sharded, which alone makes its blocks."""
 
     def __init__(self, hand: Any) -> None:
-        self._held = _Held(hand)
+        self._held = _WriterHand(hand)
 
     def shards(self) -> int:
         """Returns how many shards there are."""
-        with self._held.lock:
-            return self._held.shards()
+        with self._held.taken() as held:
+            return held.shards()
 
     def apply(self, edits: Iterable[Edit]) -> int:
         """Makes edits of all shards, as Pass.apply takes them, as the next block, and returns its
@@ -366,10 +293,10 @@ class ShardedWriter:
     def _applied(self, call: Callable[..., int], edits: Iterable[Edit], *more: int) -> int:
         packed, number = _packed_edits(edits), ctypes.c_uint64()
         place, shard = ctypes.c_size_t(), ctypes.c_size_t()
-        with self._held.lock:
+        with self._held.taken() as held:
             code = call(
-                self._held.hand, packed, len(packed), *more, ctypes.byref(place),
-                ctypes.byref(shard), ctypes.byref(number))
+                held.hand, packed, len(packed), *more, ctypes.byref(place), ctypes.byref(shard),
+                ctypes.byref(number))
         return _block_of_edits(code, number, place, shard)
 
     @contextmanager
@@ -386,9 +313,9 @@ class ShardedWriter:
         packed, place, count = _packed_edits(edits), ctypes.c_size_t(), self.shards()
         hands = (ShardedHand * count)()
         parts = [ShardedPart(ctypes.pointer(hands[at]), at) for at in range(count)]
-        with self._held.lock:
+        with self._held.taken() as held:
             code = _lib.mst_sharded_begin(
-                self._held.hand, packed, len(packed), ctypes.byref(place), hands, count)
+                held.hand, packed, len(packed), ctypes.byref(place), hands, count)
         _block_of_edits(code, ctypes.c_uint64(), place, ctypes.c_size_t(count))
         block = ShardedBlock(self._held, parts)
         try:
@@ -396,29 +323,43 @@ class ShardedWriter:
         finally:
             block.cancel()
 
+    def group(self) -> ShardedGroup:
+        """Makes a group of the writer, by which any number of threads make blocks. Until the group
+        is closed, all other calls of the writer but close raise Refused with WRONG_STATE, and so
+        does this one while a block is begun. If memory is refused, Refused has MEMORY, and the
+        writer is as it was.
+
+            with writer.group() as group:
+                group.apply(edits)      # in any thread
+        """
+        return ShardedGroup(self._held)
+
     def get(self, key: Octets) -> Optional[bytes]:
         """Returns the value of the key in the last block, or None if the key is absent: so a block
         can depend on what the map has."""
         key = _octets(key)
-        with self._held.lock:
-            return self._held.get(key)
+        with self._held.taken() as held:
+            return held.get(key)
 
     def number(self) -> int:
         """Returns the number of the last block; 0 is that of the empty map."""
-        with self._held.lock:
-            return self._held.number()
+        with self._held.taken() as held:
+            return held.number()
 
     def root(self) -> bytes:
         """Returns the root digest of all shards after the last block, as a snapshot of it has
         it."""
-        with self._held.lock:
-            return self._held.root()
+        with self._held.taken() as held:
+            return held.root()
 
     def close(self) -> None:
-        """Closes the writer: then no more blocks are made, and readers go on. Later calls raise
-        Refused with CLOSED; a second close has no effect."""
+        """Closes the writer: then no more blocks are made, and readers go on. A group that has the
+        writer is closed too, once no call is in it. Later calls raise Refused with CLOSED; a second
+        close has no effect."""
         with self._held.lock:
-            _lib.mst_sharded_close(self._held.hand)
+            if self._held.calls is not None:
+                self._held.calls.end()
+            self._held.close()
 
     def __enter__(self) -> ShardedWriter:
         return self
@@ -429,35 +370,6 @@ class ShardedWriter:
     def __reduce__(self) -> NoReturn:
         # A copy would have the same hand.
         raise TypeError("a writer is neither copied nor pickled")
-
-
-# What a block that is not made tells of no shard.
-_NO_SHARD = ctypes.c_size_t(-1).value
-
-_REFUSALS_OF_A_SHARD: Dict[int, Type[RefusedShard]] = {
-    BUSY: BusyShard,
-    MEMORY: RefusedShard,
-    NO_FREE_ROWS: RefusedShard,
-    OVERTAKEN: Overtaken,
-    VERSIONS_SPENT: RefusedShard,
-}
-
-
-def _block(code: int, number: ctypes.c_uint64, shard: ctypes.c_size_t) -> int:
-    """Returns the number of a block that a call has made, or raises why it has not."""
-    if code in _REFUSALS_OF_A_SHARD:
-        raise _REFUSALS_OF_A_SHARD[code](code, shard.value)
-    _answer(code)
-    return int(number.value)
-
-
-def _block_of_edits(
-    code: int, number: ctypes.c_uint64, place: ctypes.c_size_t, shard: ctypes.c_size_t
-) -> int:
-    """The same, of a call that is given the edits."""
-    if code in (BAD_KEY, BAD_VALUE):
-        raise RefusedEdit(code, place.value)
-    return _block(code, number, shard)
 
 
 def open_sharded(

@@ -32,6 +32,12 @@ impl Drop for ShardedHand {
     }
 }
 
+/// A group, of which there are only addresses.
+#[repr(C)]
+pub(crate) struct ShardedGroup {
+    _opaque: [u8; 0],
+}
+
 pub(crate) const BUSY: i32 = -21;
 pub(crate) const MOVING: i32 = -30;
 
@@ -137,5 +143,21 @@ extern "C" {
         writer: *mut ShardedHand,
         shard: *mut usize,
         number: *mut u64,
+    ) -> i32;
+    pub(crate) fn mst_sharded_group_open(
+        writer: *mut ShardedHand,
+        group: *mut *mut ShardedGroup,
+    ) -> i32;
+    pub(crate) fn mst_sharded_group_apply(
+        group: *mut ShardedGroup,
+        edits: *const u8,
+        length: usize,
+        place: *mut usize,
+        shard: *mut usize,
+        number: *mut u64,
+    ) -> i32;
+    pub(crate) fn mst_sharded_group_close(
+        group: *mut ShardedGroup,
+        writer: *mut ShardedHand,
     ) -> i32;
 }

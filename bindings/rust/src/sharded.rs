@@ -3,7 +3,8 @@
 //! The [`Writer`] of a map alone makes blocks: a block is edits of all shards as one version of the
 //! whole map, with one number and one root digest, made whole or not at all. Each [`Reader`] takes
 //! snapshots, each of exactly one block, unless SHA-256 collides. They may be sent to other threads,
-//! one to each, and close when they are dropped. The map is freed with the last of them.
+//! one to each, and close when they are dropped. The map is freed with the last of them. By a
+//! [`Group`] several threads share a writer.
 //!
 //! ```
 //! use mst_store::sharded;
@@ -28,6 +29,10 @@
 //! readers[0].get(b"apple");
 //! drop(then);
 //! ```
+mod group;
+
+pub use group::{Group, GroupError};
+
 use crate::raw::SHORT_ROOM;
 use crate::raw_sharded::{self as raw, ShardedHand};
 use crate::{edits, reads, Edit, Error, Format, Pair, KEY_LONGEST, ROOT_LENGTH, VALUE_LONGEST};
@@ -82,6 +87,12 @@ pub struct BlockError {
 }
 
 impl BlockError {
+    /// Of a code that a call returns for a map of so many shards. The number of a shard that it has
+    /// not told is none of these.
+    fn of(code: i32, shard: usize, shards: usize) -> BlockError {
+        BlockError { shard: (shard < shards).then_some(shard), error: Error::of(code) }
+    }
+
     /// The same, with the place of the edit that was refused, if one was.
     fn at(self, place: usize) -> BlockError {
         BlockError { error: self.error.at(place), ..self }
@@ -250,15 +261,11 @@ impl Writer {
         &mut self.hand
     }
 
-    /// The number of a block that a call has made, or why it has not: one that it does not tell is
-    /// no shard's.
+    /// The number of a block that a call has made, or why it has not.
     fn made(&mut self, code: i32, number: u64, shard: usize) -> Result<u64, BlockError> {
         match code {
             0 => Ok(number),
-            code => {
-                let shard = (shard < self.shards()).then_some(shard);
-                Err(BlockError { shard, error: Error::of(code) })
-            }
+            code => Err(BlockError::of(code, shard, self.shards())),
         }
     }
 
@@ -276,6 +283,17 @@ impl Writer {
     /// Returns the root digest of all shards after the last block, as a snapshot of it has it.
     pub fn root(&mut self) -> [u8; ROOT_LENGTH] {
         root_of(self.ended())
+    }
+
+    /// Turns the writer into a [`Group`], by which any number of threads write.
+    ///
+    /// If memory is refused ([`Error::Memory`]), the error has the writer, as it was.
+    #[allow(clippy::result_large_err)] // the writer comes back without a box, which takes memory
+    pub fn into_group(self) -> Result<Group, GroupError> {
+        let mut writer = self;
+        let hand = writer.ended();
+        let shards = shards_of(hand);
+        Group::open(hand, shards).map_err(|error| GroupError { writer, error })
     }
 }
 
