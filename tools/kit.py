@@ -73,13 +73,11 @@ MEMORY = 3_000_000_000
 
 
 def lanes():
-    """How many checks can run side by side: one a processor, but for one of three or more, as far
-    as memory holds them. On four processors of a shared machine four checks of `mst_key` took 79
-    seconds each, and three took 58: the fourth lane gains nothing, and makes the longest chain of
-    crates wait."""
-    processors = rt.processors()
-    usable = processors if processors < 3 else processors - 1
-    return max(1, min(usable, int(rt.free() // MEMORY)))
+    """How many checks can run side by side: one a processor, as far as memory holds them. On four
+    processors of a shared machine four checks of `mst_key` took 61 seconds each where one alone
+    took 57; on a day when others used that machine 79, and three took 58. So the fourth lane gains
+    a third, or nothing."""
+    return max(1, min(rt.processors(), int(rt.free() // MEMORY)))
 
 
 def kept_work(name, what):
