@@ -6,21 +6,21 @@ FIRST, APART, HIGH = 70, 74, 46
 TITLE = "A group commit: what waits while one block is made becomes one block"
 # When each block is published.
 SEVEN, EIGHT, NINE = 460, 780, 1070
-# How much later the thread has woken others, and its call returns.
-WAKING = 26
+# How much later the thread has told others, and its call returns.
+TELLING = 26
 # Of each lane its name, and its parts: where each begins and ends, its style, and what it says.
 LANES = [
     ("thread A", [
-        (180, SEVEN + WAKING, "thick", "makes block 7: A's edits"),
-        (640, EIGHT + WAKING, "dashed", "sleeps"),
-        (EIGHT + WAKING + 10, NINE + WAKING, "thick", "makes block 9: A's"),
+        (180, SEVEN + TELLING, "thick", "makes block 7: A's edits"),
+        (640, EIGHT + TELLING, "dashed", "waits"),
+        (EIGHT + TELLING + 10, NINE + TELLING, "thick", "makes block 9: A's"),
     ]),
     ("thread B", [
-        (250, SEVEN + WAKING, "dashed", "sleeps"),
-        (SEVEN + WAKING + 10, EIGHT + WAKING, "thick", "makes block 8: B's, C's"),
+        (250, SEVEN + TELLING, "dashed", "waits"),
+        (SEVEN + TELLING + 10, EIGHT + TELLING, "thick", "makes block 8: B's, C's"),
     ]),
     ("thread C", [
-        (330, EIGHT + WAKING, "dashed", "sleeps: B makes its edits"),
+        (330, EIGHT + TELLING, "dashed", "waits, and once asked helps with block 8"),
     ]),
     ("the map", [
         (NAMES, SEVEN, "thin", "block 6"), (SEVEN, EIGHT, "thin", "block 7"),
@@ -31,15 +31,15 @@ LANES = [
 PUBLISHED = [(SEVEN, 0), (EIGHT, 1), (NINE, 0)]
 # What a thread is told when its call returns: the lane, the block's moment, and the number.
 TOLD = [(0, SEVEN, 7), (1, EIGHT, 8), (2, EIGHT, 8), (0, NINE, 9)]
-# Who wakes whom: after which moment, and the two lanes.
-WAKES = [(SEVEN, 0, 1), (EIGHT, 1, 0), (EIGHT, 1, 2)]
+# Who posts to whom: after which moment, and the two lanes.
+POSTS = [(SEVEN, 0, 1), (EIGHT, 1, 0), (EIGHT, 1, 2)]
 LOWER = FIRST + len(LANES) * APART
 LOOKS = [
     ("thick", "in mst_sharded_group_apply, and makes a block: one thread at a time"),
-    ("dashed", "in mst_sharded_group_apply, and sleeps until it leads or its edits are made"),
+    ("dashed", "in mst_sharded_group_apply, and waits until it leads or its edits are made"),
     ("thin", "what a snapshot taken now shows"),
 ]
-NOTES = ["At a dotted line a block is published; after that an arrow wakes a thread."]
+NOTES = ["At a dotted line a block is published; after that an arrow calls a thread or tells it."]
 
 
 def picture():
@@ -57,14 +57,14 @@ def picture():
     for at, lane in PUBLISHED:
         top = FIRST + lane * APART
         canvas.line([(at, top + 4), (at, top + HIGH - 4)], "dotted")
-    for at, waker, woken in WAKES:
-        down = waker < woken
-        ends = [FIRST + waker * APART + HIGH * down, FIRST + woken * APART + HIGH * (not down)]
-        x = at + WAKING / 2 + 1
+    for at, poster, posted in POSTS:
+        down = poster < posted
+        ends = [FIRST + poster * APART + HIGH * down, FIRST + posted * APART + HIGH * (not down)]
+        x = at + TELLING / 2 + 1
         canvas.line([(x, ends[0]), (x, ends[1])], arrow=True)
     for lane, at, number in TOLD:
         top = FIRST + lane * APART
-        x = at + WAKING + 10
+        x = at + TELLING + 10
         canvas.text(x, top + HIGH / 2 + 6, f"told {number}", 16, bold=True, halo=True)
     canvas.lines(LEFT, canvas.legend(LEFT, LOWER + 34, LOOKS) + 4, NOTES)
     return canvas
