@@ -24,17 +24,23 @@ void unlock_group(mst_sharded_group *group) {
     pthread_mutex_unlock(&group->lock);
 }
 
-/* Looks for a post for a moment. Returns whether it has taken one. */
+/*
+ * Looks for a moment whether there is a post. No other thread takes one of these, so take_post then
+ * returns at once. (It is no sem_trywait, which helgrind does not know.)
+ */
 static int has_post(sem_t *posts) {
+    int count = 0;
     for (int looks = 0; looks < LOOKS; looks++) {
-        if (sem_trywait(posts) == 0)
+        sem_getvalue(posts, &count);
+        if (count > 0)
             return 1;
         sched_yield();
     }
     return 0;
 }
 
-static void sleep_until_post(sem_t *posts) {
+/* Takes a post, and sleeps until there is one. */
+static void take_post(sem_t *posts) {
     while (sem_wait(posts) != 0) /* a signal may cut it short */
         ;
 }
@@ -59,8 +65,10 @@ static void close_parts(mst_sharded_group *group, const struct request *own) {
     group->is_open = 0;
     int is_last = group->helping == 0;
     unlock_group(group);
-    if (!is_last && !has_post(own->posts))
-        sleep_until_post(own->posts);
+    if (is_last)
+        return;
+    has_post(own->posts);
+    take_post(own->posts);
 }
 
 /* Whether the post that was taken asks for help. Then the thread has helped. */
@@ -83,12 +91,12 @@ static int has_helped(mst_sharded_group *group, struct request *own) {
 
 /* Waits for a post: first awake, then asleep. */
 static void await_post(mst_sharded_group *group, struct request *own) {
-    if (has_post(own->posts))
-        return;
-    lock_group(group);
-    own->is_awake = 0;
-    unlock_group(group);
-    sleep_until_post(own->posts);
+    if (!has_post(own->posts)) {
+        lock_group(group);
+        own->is_awake = 0;
+        unlock_group(group);
+    }
+    take_post(own->posts);
 }
 
 void await(mst_sharded_group *group, struct request *own) {
