@@ -76,7 +76,8 @@ static int has_helped(mst_sharded_group *group, struct request *own) {
     lock_group(group);
     int is_asked = own->is_asked && !own->has_heard, helps = is_asked && group->is_open;
     own->has_heard = own->has_heard || is_asked;
-    group->helping += helps;
+    if (helps)
+        group->helping++;
     unlock_group(group);
     if (!helps)
         return is_asked;
