@@ -3,7 +3,9 @@ and in those below.
 
 A *part* is a function's clauses, a type with its models, a definition, or what a lemma states. A
 text leads to the parts that it names, as the imports of its file tell whose they are, and each of
-these leads on. Names of methods have no import: one leads to each method of that name."""
+these leads on; so does a name that a crate hands on. An impl of a trait stands under its type, and
+under its trait if that is of this repository. Names of methods have no import: one leads to each
+method of that name."""
 import collections
 import functools
 import glob
@@ -11,6 +13,7 @@ import hashlib
 import os
 import re
 
+from kit import ROOT
 from wrong_bodies.sources import WORD, blocks, is_inherent, named_in, read
 
 ITEM = re.compile(
@@ -21,10 +24,13 @@ METHOD = re.compile(r"    (?:pub(?:\(\w+\))? )?(?:unsafe )?fn (\w+)")
 FIELD = re.compile(r"(?m)^\s+(?:pub )?(\w+) :")
 IMPORT = re.compile(r"(?m)^\s*(?:pub |ghost )*use Rattle\.(\w+)\.([\w.]+?)(?:\.\{(.*)\})?(?: as (\w+))?;?$")
 CODE_IMPORT = re.compile(r"(?ms)^\s*(?:pub )?use (crate|super|mst_\w+)::([^;]*);")
+HANDED_ON = re.compile(r"(?ms)^pub use (mst_\w+)::([^;]*);")
 OUTSIDE = ("use ", "pub use ", "mod ", "pub mod ", "ghost use ", "#![")
 
-# what follows the parameters of an impl
-OWNER = re.compile(r"(?:unsafe )?impl(?:<(?:[^<>]|<[^<>]*>)*>)? (?:.* for )?&?(?:'\w+ )?(\w+)")
+# what follows the parameters of an impl: its trait, if it has one, and its type
+OWNER = re.compile(
+    r"(?:unsafe )?impl(?:<(?:[^<>]|<[^<>]*>)*>)? (?:([\w:]+).* for )?&?(?:'\w+ )?(\w+)"
+)
 
 # own: the name of the type that a part is, or of whose method it is
 Part = collections.namedtuple("Part", "crate names kind own words made scope")
@@ -87,6 +93,13 @@ def names_of(listed):
 # ---- the parts of one file
 
 
+@functools.lru_cache(maxsize=None)
+def traits():
+    """The traits of this repository."""
+    found = glob.glob(f"{ROOT}/crates/*/src/**/*.rt", recursive=True)
+    return {it for path in found for it in re.findall(r"(?m)^(?:pub )?trait (\w+)", read(path))}
+
+
 def items_of(text):
     """The items of code, each with all its lines."""
     found, lines = [], []
@@ -120,7 +133,9 @@ def parts_of_code(text):
             for name, method in methods_of(item):
                 yield {name}, "method", method
         else:
-            yield named_in(item.split("{")[0]), "type", item
+            # who names a trait of the kit, or of a bound, leads to no type that has it
+            trait, own = OWNER.match(item).groups()
+            yield {own, trait.split("::")[-1]} & ({own} | traits()), "type", item
 
 
 def parts_of_definitions(text):
@@ -137,13 +152,16 @@ def parts_of_definitions(text):
 
 @functools.lru_cache(maxsize=None)
 def parts_of(crate, is_own):
-    """The parts of a crate, as it or a crate above can cite them, and what each module of its
-    definitions hands on from others."""
+    """The parts of a crate, as it or a crate above can cite them, and what its code and each module
+    of its definitions hand on from others."""
     from wrong_bodies.record import shown_code, shown_definitions
 
     found, handed = [], {}
     for path, text in shown_code(crate, is_own):
         scope = Scope(crate.name, None, read(path))
+        for of, listed in HANDED_ON.findall(read(path)):
+            for name, alias in re.findall(r"(\w+)(?: as (\w+))?", listed):
+                handed.setdefault(("code", alias or name), []).append(("code", of, name))
         for names, kind, part in parts_of_code(text):
             found.append(part_of(crate, names, kind, part, scope))
     for path, text in shown_definitions(crate, is_own):
@@ -158,7 +176,7 @@ def parts_of(crate, is_own):
 def part_of(crate, names, kind, text, scope):
     made = hash_of(f"{crate.name} {kind} {plain(text)}")
     head = OWNER.match(text)
-    own = head[1] if head else min(names)
+    own = head[2] if head else min(names)
     return Part(crate.name, names, kind, own, named_in(plain(text)), made, scope)
 
 
@@ -202,7 +220,10 @@ class Cited:
         if kind == "module":
             return [it for word in words for it in self.definitions(crate, rest[0], word)]
         found = list(self.types.get((crate, rest[0]), ()))
-        return found + (list(self.called.get((crate, rest[0]), ())) if is_body else [])
+        found += self.called.get((crate, rest[0]), ()) if is_body else []
+        for other in self.handed.get((crate, ("code", rest[0])), ()):
+            found += self.named(other, words, is_body)
+        return found
 
     def led_to(self, words, scope, is_body):
         """The parts that words in a scope name; those of a body name functions too."""
