@@ -1,30 +1,17 @@
 """What the tools of this folder share: the crates as the toolchain's command `rt` sees them, and a
 check of one of them."""
-import functools
-import importlib.machinery
-import importlib.util
 import os
 import re
 import resource
-import shutil
 import subprocess
 import sys
 
 sys.dont_write_bytecode = True
+import rt_command  # noqa: E402
 from wrong_bodies.sources import owner_of  # noqa: E402
 
 
-def load_rt():
-    """Loads the toolchain's command as a module, so that an edit is judged by the gate's own
-    code."""
-    path = os.path.realpath(shutil.which("rt"))
-    loader = importlib.machinery.SourceFileLoader("rt_command", path)
-    module = importlib.util.module_from_spec(importlib.util.spec_from_loader("rt_command", loader))
-    loader.exec_module(module)
-    return module
-
-
-rt = load_rt()
+rt = rt_command.load()
 # some versions of the kit let the clones of a machine share what their checks kept
 if hasattr(rt, "share_work"):
     rt.share_work(is_alone=False)
@@ -34,10 +21,8 @@ ROOT = subprocess.run(
 
 
 def remember_stamps():
-    """Has each crate work out the sum of its texts once: `rt` does so anew for each crate above,
-    which takes minutes at the top."""
-    if not hasattr(rt.rtlib.Crate.stamp, "cache_info"):
-        rt.rtlib.Crate.stamp = functools.lru_cache(maxsize=None)(rt.rtlib.Crate.stamp)
+    """Has each crate work out the sum of its texts once."""
+    rt_command.remember_stamps(rt)
 
 
 def crates_of_root():
