@@ -16,10 +16,11 @@ use Rattle.mst_words.specs.Notes.{IsOfPasses}
 use Rattle.mst_words.specs.Steps.{IsFree}
 use Rattle.mst_batching.specs.declared.preparing.Preparation.{Preparation}
 use Rattle.mst_versions.specs.declared.turn.Turn.{Turn}
-use Rattle.mst_versions.specs.Known.{StoreId, Known, store_of, known, AtSeat, Looks, made_by}
+use Rattle.mst_versions.specs.Known.{StoreId, Known, store_of, known, AtSeat, made_by}
 use Rattle.mst_batching.specs.Preparing.{batch_of, IsPrepared, Prepares, published}
 use Rattle.mst_versions.specs.Turns.{SeatState, Begun, HasMade, StaysMade, IsFilled, Added}
-use Rattle.mst_versions.specs.Writes.{made_at_seat, rows_of, rows_taken, FindsRoom, Made, KeepsPass, Wrote, WroteAtSeat}
+use Rattle.mst_versions.specs.Revealing.{closed}
+use Rattle.mst_versions.specs.Writes.{made_at_seat, rows_of, rows_taken, Made, KeepsPass, Wrote, WroteAtSeat}
 use Rattle.mst_versions.proofs.Shown.{at_seat, store_is}
 use Rattle.mst_versions.proofs.Written.{room_left, format_now, finds_room, looks_back, one_event, one_longer}
 
@@ -116,14 +117,15 @@ module _ {A : Type 0} (s z : Seated) (t : Turn A) (m1 : SeatState) (b : Begun s.
         asked = b.asked;
       }
 
--- ---- what is published
+-- ---- what is published, while the pass still has the turn
 
 module _ {A : Type 0} (number : ℕ) (edits : List Edit) (p : Preparation A) (s z : Seated)
-    (h : IsPrepared number edits p s.me) (added : Added (batch_of number edits) s.me z.me) where
+    (h : IsPrepared number edits p s.me)
+    (added : Added (batch_of number edits) s.me (closed z.me)) where
   pub published_keeps : KeepsPass s.me z.me
   published_keeps = (added.free.3, added.free.4, added.free.5, added.free.6, added.free.7)
 
-  pub published_free : IsFree number z.me
+  pub published_free : IsFree number (closed z.me)
   published_free = (
     added.free.0,
     added.free.1,
@@ -160,6 +162,23 @@ module _ {A : Type 0} (number : ℕ) (edits : List Edit) (p : Preparation A) (s 
       ∙ ap (λ (x : ℕ). known_of (store_of s) number (m.seen ++ batch_of number edits ∷ [])
       (m.mine ++ batch_of number edits ∷ []) (m.asked + 1) m.missed m.found (Some x))
       (v_is ∙ ap (λ (log : History). length log) added.seen)
+
+-- ---- the turn is given back
+
+module _ (number : ℕ) (s z : Seated) (same : IsSameSeat s z) (is : z.me ≡ closed s.me) where
+  -- what the pass shows stays
+  pub closed_known : (made : Option ℕ) → known number made z ≡ known number made s
+  closed_known made = ap (known number made) (at_seat s z (closed s.me) same is)
+
+  pub closed_keeps : (m : SeatState) → KeepsPass m s.me → KeepsPass m z.me
+  closed_keeps m keeps = subst (λ (n : SeatState). KeepsPass m n) (sym is) keeps
+
+  pub closed_free : IsFree number (closed s.me) → IsFree number z.me
+  closed_free free = subst (λ (n : SeatState). IsFree number n) (sym is) free
+
+  pub closed_own : events_of number s.me.0.seen ≡ s.me.0.mine
+      → events_of number z.me.0.seen ≡ z.me.0.mine
+  closed_own own = subst (λ (n : SeatState). events_of number n.0.seen ≡ n.0.mine) (sym is) own
 
 -- a batch that was prepared and published was written
 pub prepared_wrote : (edits : List Edit) (p r : Known) → Prepares edits p r

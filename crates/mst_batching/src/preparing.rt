@@ -9,6 +9,7 @@ ghost use Rattle.mst_words.specs.Steps.{IsFree, Misses};
 ghost use Rattle.mst_versions.specs.Resting.{IsResting};
 ghost use Rattle.mst_versions.specs.Known.{known, AtSeat};
 ghost use Rattle.mst_versions.specs.Turns.{HasTurn, Spent};
+ghost use Rattle.mst_versions.specs.Revealing.{IsRevealed, closed};
 ghost use Rattle.mst_versions.specs.Writes.{Made, KeepsPass};
 ghost use Rattle.mst_batching.specs.Applying.{LacksEdits, RefusesBatch};
 ghost use Rattle.mst_batching.specs.Preparing.{IsPrepared, Prepares, published};
@@ -17,6 +18,7 @@ use crate::faults::ApplyFault;
 use mst_arena::Root;
 use mst_batch::NotApplied;
 use mst_key::{Batch, Change, Edit, Event};
+use mst_versions::finishing::PublishedTurn;
 use mst_versions::turn::{BeginFault, Turn, begin_write, give_back};
 use mst_versions::{PassParameters, finishing};
 use mst_words::PassSeat;
@@ -104,8 +106,35 @@ pub fn prepare<A: Allocator + Copy, B: Allocator + Copy>(
     }
 }
 
-/// Publishes what was prepared as the next version, by one swap, and gives the turn back. Returns
-/// the number of the version. It takes no memory, and nothing can refuse it.
+/// Publishes what was prepared as the next version, by one swap: readers find it. The turn is kept
+/// until [`finishing::close`]. It takes no memory, and nothing can refuse it.
+pub fn reveal<A: Allocator + Copy>(
+    seat: &mut PassSeat<'_, A>,
+    parameters: PassParameters,
+    prepared: Preparation<A>,
+    edits: &[Edit],
+) -> PublishedTurn<A>
+    requires prepared { IsPrepared parameters.number edits.now prepared seat.old.me }
+    ensures same { IsSameSeat seat.old seat.new }
+    ensures pass { KeepsPass seat.old.me seat.new.me }
+    ensures revealed { IsRevealed result seat.new.me }
+    ensures free { IsFree parameters.number (closed seat.new.me) }
+    ensures published { (made : Option ℕ) → known parameters.number (Some result.version) seat.new
+        ≡ published edits.now (known parameters.number made seat.old) }
+    ensures own { events_of parameters.number seat.new.me.0.seen ≡ seat.new.me.0.mine }
+    ensures version { result.version ≡ length seat.new.me.0.seen }
+{
+    let Preparation { turn, root: _ } = prepared;
+    let event = Event {
+        pass: parameters.number,
+        change: Change::Batch(Batch::new(edits)),
+    };
+    finishing::reveal(seat, turn, &event)
+}
+
+/// Publishes what was prepared as the next version, and gives the turn back: [`reveal`] and
+/// [`finishing::close`]. Returns the number of the version. It takes no memory, and nothing can
+/// refuse it.
 pub fn publish<A: Allocator + Copy>(
     seat: &mut PassSeat<'_, A>,
     parameters: PassParameters,
@@ -121,12 +150,10 @@ pub fn publish<A: Allocator + Copy>(
     ensures own { events_of parameters.number seat.new.me.0.seen ≡ seat.new.me.0.mine }
     ensures version { result ≡ length seat.new.me.0.seen }
 {
-    let Preparation { turn, root: _ } = prepared;
-    let event = Event {
-        pass: parameters.number,
-        change: Change::Batch(Batch::new(edits)),
-    };
-    finishing::finish(seat, turn, &event)
+    let revealed = reveal(seat, parameters, prepared, edits);
+    let version = revealed.version;
+    finishing::close(seat, revealed);
+    version
 }
 
 /// Takes back what was prepared, and gives the turn back with the history as it was: one exchange

@@ -322,6 +322,11 @@ goes_mapped {X} {Y} f all front left rest t q new is next same pushed =
     ∙ ap (λ (x : Y). (front ++ x ∷ []) ++ map f rest) (sym same)
     ∙ ap (λ (l : List Y). l ++ map f rest) (sym pushed)
 
+pub mapped_more : {X Y : Type 0} (f : X → Y) (front : List X) (t : X)
+    → map f (front ++ t ∷ []) ≡ map f front ++ f t ∷ []
+mapped_more {X} {Y} f [] t = refl
+mapped_more {X} {Y} f (x ∷ front) t = ap (λ (l : List Y). f x ∷ l) (mapped_more f front t)
+
 pub mapped_gone : {X Y : Type 0} (f : X → Y) (all front : List Y) (left : List X)
     → all ≡ front ++ map f left → length left ≡ 0 → front ≡ all
 mapped_gone {X} {Y} f all front [] is none = sym (is ∙ append-nil front)

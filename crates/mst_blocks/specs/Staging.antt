@@ -14,6 +14,8 @@ use Rattle.mst_blocks.specs.declared.faults.BlockFault.{BlockFault}
 use Rattle.mst_blocks.specs.declared.faults.PartFault.{PartFault}
 use Rattle.mst_blocks.specs.declared.blocks.Stage.{Stage}
 use Rattle.mst_blocks.specs.declared.blocks.Stage.TheVariants.{Idle, Ready}
+use Rattle.mst_blocks.specs.declared.publishing.Shown.{Shown}
+use Rattle.mst_blocks.specs.declared.publishing.Shown.TheVariants as shown
 
 -- A pass has prepared edits on the version that it made last. The map then is one that a store can
 -- have
@@ -45,7 +47,12 @@ abbrev pub published_stage : {A B : Type 0} → Stage A B → Known
 published_stage (Idle q) = q
 published_stage (Ready w) = published w.edits w.known
 
--- and once it is taken back
+-- what its pass knows while the others are published
+abbrev pub shown_pass : {A : Type 0} → Shown A → Known
+shown_pass (shown.Idle q) = q
+shown_pass (shown.Revealed q) = q
+
+-- what its pass knows once what was prepared is taken back
 abbrev pub canceled_stage : {A B : Type 0} → Stage A B → Known
 canceled_stage (Idle q) = q
 canceled_stage (Ready w) = w.known

@@ -1,8 +1,7 @@
 //! A block: the edits of all shards, made as one change of the whole map, or not at all.
 //!
 //! Each shard makes its part in free rows and hashes it (`Pass::prepare`). If one of them, or the
-//! directory, is refused, all is taken back. Otherwise all are published, one swap after the other,
-//! and the directory last.
+//! directory, is refused, all is taken back. Otherwise all are published.
 ghost use Rattle.std.specs.Prelude.{◌≡◌, ◌≢◌, ◌≤◌, ◌<◌, ◌+◌, ◌++◌, List, [], map, length, vec_len, vec_capacity, Some, IfOk, IfErr, OnOk, OnErr, IfNone, IfSome, IsNone, IsSome};
 ghost use Rattle.mst_key.specs.declared.history.Edit.{Edit};
 ghost use Rattle.mst_key.specs.History.{after};
@@ -12,11 +11,12 @@ ghost use Rattle.mst_sharded_proof.specs.Shards.{shards as shards_at};
 ghost use Rattle.mst_shards.specs.Sharding.{AllStep};
 ghost use Rattle.mst_shards.specs.Entries.{shard_at};
 ghost use Rattle.mst_blocks.specs.Blocks.{last_made, MakesBlock, MakesNothing, LeavesAll, RefusesPart, RefusedAt, RefusesParts};
-ghost use Rattle.mst_blocks.specs.Staging.{PreparesNext, Staged, AllStaged, IsStaged, Concludes, published_stage, canceled_stage, listed_stage, listed_stages};
+ghost use Rattle.mst_blocks.specs.Staging.{PreparesNext, Staged, AllStaged, IsStaged, Concludes, canceled_stage, listed_stage, listed_stages};
 
 use crate::faults::{BlockFault, PartFault};
+use crate::publishing::{Shown, publish_all};
 use mst_key::{Edit, Key, Memory};
-use mst_shards::{high_key, listing, low_key};
+use mst_shards::{high_key, list_with_room, listing, low_key};
 use mst_store::{Pass, Prepared};
 use std::alloc::Allocator;
 use std::collections::VecDeque;
@@ -179,16 +179,6 @@ fn prepare_all<'a, A: Allocator + Copy, B: Allocator, C: Allocator, D: Allocator
     (stages, left.into_vec(), stopped)
 }
 
-// Publishes what is prepared of one shard.
-fn publish_one<'a, A: Allocator + Copy, B: Allocator>(stage: Stage<'a, A, B>) -> Pass<'a, A>
-    ensures published { result ≡ published_stage stage.entry }
-{
-    match stage {
-        Stage::Idle(pass) => pass,
-        Stage::Ready(prepared) => prepared.publish(),
-    }
-}
-
 // Takes back what is prepared of one shard.
 fn cancel_one<'a, A: Allocator + Copy, B: Allocator>(stage: Stage<'a, A, B>) -> Pass<'a, A>
     ensures canceled { result ≡ canceled_stage stage.entry }
@@ -197,23 +187,6 @@ fn cancel_one<'a, A: Allocator + Copy, B: Allocator>(stage: Stage<'a, A, B>) -> 
         Stage::Idle(pass) => pass,
         Stage::Ready(prepared) => prepared.cancel(),
     }
-}
-
-// Publishes what is prepared, one shard after the other.
-fn publish_all<'a, A: Allocator + Copy, B: Allocator, C: Allocator>(
-    stages: Vec<Stage<'a, A, B>, C>,
-    room: Vec<Pass<'a, A>, C>,
-) -> Vec<Pass<'a, A>, C>
-    requires empty { room.items ≡ [] }
-    requires fits { vec_len stages ≤ vec_capacity room }
-    ensures published { result.items ≡ map published_stage stages.entry.items }
-{
-    let mut left = VecDeque::from_vec(stages);
-    let mut passes = room;
-    while let Some(stage) = left.pop_front() {
-        passes.push_reserved(publish_one(stage));
-    }
-    passes
 }
 
 // Takes back what is prepared.
@@ -273,8 +246,26 @@ fn list_stages<'a, A: Allocator + Copy, B: Allocator, C: Allocator>(
     Ok(edits)
 }
 
+// What a block takes memory for once its shards have prepared their parts: the directory's edits,
+// and the list of the shards while they are published.
+fn plan_listing<'a, A: Allocator + Copy, B: Allocator, C: Allocator + Copy>(
+    alloc: C,
+    splits: &[Key],
+    stages: &[Stage<'a, A, B>],
+) -> Result<(Vec<Edit, C>, Vec<Shown<'a, A>, C>), Memory>
+    requires count { length stages.now ≡ length splits.now + 1 }
+    ensures listed { IfOk result
+        (λ plan. plan.0.items ≡ listed_stages (shards_at splits.now) stages.now) }
+    ensures empty { IfOk result (λ plan. plan.1.items ≡ []) }
+    ensures fits { IfOk result (λ plan. length stages.now ≤ vec_capacity plan.1) }
+{
+    let edits = list_stages(alloc, splits, stages)?;
+    let shown = list_with_room(alloc, stages.len())?;
+    Ok((edits, shown))
+}
+
 /// Makes a block of what its shards have prepared: the directory lists their new root digests, and
-/// all are published, the directory last. If a shard was refused its part, or the directory is
+/// all are published ([`publish_all`]). If a shard was refused its part, or the directory is
 /// refused these edits, all is taken back. Returns the directory's new root digest.
 pub fn conclude<'a, A: Allocator + Copy, B: Allocator, C: Allocator, D: Allocator + Copy>(
     alloc: D,
@@ -302,8 +293,8 @@ pub fn conclude<'a, A: Allocator + Copy, B: Allocator, C: Allocator, D: Allocato
         let passes = cancel_all(stages, room);
         return (passes, directory, Err(BlockFault::Shard(place, fault)));
     }
-    let edits = match list_stages(alloc, splits, stages.as_slice()) {
-        Ok(edits) => edits,
+    let (edits, shown) = match plan_listing(alloc, splits, stages.as_slice()) {
+        Ok(plan) => plan,
         Err(refused) => {
             let passes = cancel_all(stages, room);
             return (passes, directory, Err(BlockFault::Memory(refused)));
@@ -312,8 +303,8 @@ pub fn conclude<'a, A: Allocator + Copy, B: Allocator, C: Allocator, D: Allocato
     match prepare_next(alloc, directory, edits) {
         Ok(listing) => {
             let digest = listing.root();
-            let passes = publish_all(stages, room);
-            (passes, listing.publish(), Ok(digest))
+            let (passes, directory) = publish_all(stages, listing, shown, room);
+            (passes, directory, Ok(digest))
         }
         Err((fault, directory)) => {
             let passes = cancel_all(stages, room);

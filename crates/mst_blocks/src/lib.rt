@@ -12,8 +12,9 @@
 //!
 //! Each shard makes its part in free rows and hashes it. If one of them, or the directory, is
 //! refused, all is taken back, and nothing has changed. Otherwise all are published, one swap after
-//! the other, and the directory last: so a reader that pins the directory first, and then finds
-//! each shard with the root digest that is listed, has one block.
+//! the other, and the directory last; only then do they give their turns back. So a reader that
+//! pins the directory first, and then finds each shard with the root digest that is listed, has one
+//! block.
 //!
 //! Several threads can make a block in parts: `mst_parts` has them. For it stands here what both
 //! ways of making a block share ([`deal_edits`], [`stage_next`], [`prepare_next`], [`conclude`]),
@@ -28,6 +29,7 @@ mod faults;
 mod held;
 mod making;
 mod parting;
+mod publishing;
 mod writer;
 
 pub use blocks::{Part, Stage, conclude, prepare_next, stage_next};

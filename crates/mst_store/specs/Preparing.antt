@@ -5,8 +5,11 @@ use Rattle.mst_words.specs.Access.{Seated}
 use Rattle.mst_words.specs.Layout.{most_passes}
 use Rattle.mst_versions.specs.declared.parameters.PassParameters.{PassParameters}
 use Rattle.mst_batching.specs.declared.preparing.Preparation.{Preparation}
+use Rattle.mst_versions.specs.declared.finishing.PublishedTurn.{PublishedTurn}
 use Rattle.mst_versions.specs.Known.{Known, known, most_rows}
+use Rattle.mst_versions.specs.Revealing.{IsRevealed, closed}
 use Rattle.mst_batching.specs.Preparing.{IsPrepared}
+use Rattle.mst_store.specs.Passes.{IsAtRest}
 pub use Rattle.mst_batching.specs.Preparing.{Prepares, published}
 
 pub record Waiting : Type 0 where
@@ -24,3 +27,9 @@ pub record IsWaiting {A : Type 0} (n : PassParameters) (edits : List Edit) (p : 
   pub few : n.passes ≤ most_passes
   pub rows_is : s.me.0.rows ≡ n.rows
   pub few_rows : n.rows ≤ most_rows
+
+-- the batch is published, and once the turn is given back the pass has neither that nor a pin
+pub record IsClosing {A : Type 0} (n : PassParameters) (r : PublishedTurn A) (s : Seated) : Type 0
+  where
+    pub revealed : IsRevealed r s.me
+    pub rest : IsAtRest n (record s { me = closed s.me })

@@ -47,6 +47,6 @@ pub use mst_versions::{Busy, MigrateFault, WriteFault};
 pub use mst_words::Shape;
 pub use pass::Pass;
 pub use pinned::Pinned;
-pub use preparing::Prepared;
+pub use preparing::{Prepared, Revealed};
 pub use settling::{meet, settle};
 pub use store::{Seats, Store, is_shape};

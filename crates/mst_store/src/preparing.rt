@@ -11,7 +11,7 @@ ghost use Rattle.mst_batching.specs.Applying.{RefusesBatch};
 use crate::pass::Pass;
 use mst_batching::{ApplyFault, Preparation, preparing};
 use mst_key::Edit;
-use mst_versions::PassParameters;
+use mst_versions::{PassParameters, finishing};
 use mst_words::PassSeat;
 use std::alloc::Allocator;
 use std::marker::Model;
@@ -38,6 +38,29 @@ impl<'a, A: Allocator + Copy, B: Allocator> Model for Prepared<'a, A, B> {
     ghost view = { λ p. waiting p.parameters.number p.made p.edits.items p.seat };
 
     ghost invariant = { λ p. IsWaiting p.parameters p.edits.items p.prepared p.seat };
+}
+
+/// A batch that is published, whose pass still has the turn: readers find its version, and other
+/// passes are refused the turn until [`Revealed::close`], which cannot fail. One that is dropped
+/// keeps the turn for good.
+#[derive(Drop)]
+pub struct Revealed<'a, A: Allocator + Copy> {
+    seat: PassSeat<'a, A>,
+    turn: finishing::PublishedTurn<A>,
+    parameters: PassParameters,
+}
+
+/// Contracts see what the pass knows.
+impl<'a, A: Allocator + Copy> Model for Revealed<'a, A> {
+    ghost use Rattle.std.specs.Prelude.{Some};
+    ghost use Rattle.mst_store.specs.Passes.{Known, known};
+    ghost use Rattle.mst_store.specs.Preparing.{IsClosing};
+
+    ghost Value = { Known };
+
+    ghost view = { λ r. known r.parameters.number (Some r.turn.version) r.seat };
+
+    ghost invariant = { λ r. IsClosing r.parameters r.turn r.seat };
 }
 
 impl<'a, A: Allocator + Copy> Pass<'a, A> {
@@ -104,9 +127,9 @@ impl<'a, A: Allocator + Copy, B: Allocator> Prepared<'a, A, B> {
         version
     }
 
-    /// Publishes the batch as one version, by one swap, and gives the turn back. It takes no
-    /// memory. With [`Pass::prepare`] it is one [`Pass::try_apply`] (`preparing_laws`).
-    pub fn publish(self) -> Pass<'a, A>
+    /// Publishes the batch as one version, by one swap, and keeps the turn. So batches of several
+    /// stores are published soon after one another. It takes no memory.
+    pub fn reveal(self) -> Revealed<'a, A>
         ensures published { result ≡ published self.entry.edits self.entry.known }
     {
         let Prepared {
@@ -116,12 +139,21 @@ impl<'a, A: Allocator + Copy, B: Allocator> Prepared<'a, A, B> {
             made: _,
             edits,
         } = self;
-        let version = preparing::publish(&mut seat, parameters, prepared, edits.as_slice());
-        Pass {
+        let turn = preparing::reveal(&mut seat, parameters, prepared, edits.as_slice());
+        Revealed {
             seat,
+            turn,
             parameters,
-            made: Some(version),
         }
+    }
+
+    /// Publishes the batch as one version, by one swap, and gives the turn back: [`Self::reveal`]
+    /// and [`Revealed::close`]. It takes no memory. With [`Pass::prepare`] it is one
+    /// [`Pass::try_apply`] (`preparing_laws`).
+    pub fn publish(self) -> Pass<'a, A>
+        ensures published { result ≡ published self.entry.edits self.entry.known }
+    {
+        self.reveal().close()
     }
 
     /// Takes all of it back, and gives the turn back: nothing was added to the history, and each
@@ -141,6 +173,26 @@ impl<'a, A: Allocator + Copy, B: Allocator> Prepared<'a, A, B> {
             seat,
             parameters,
             made,
+        }
+    }
+}
+
+impl<'a, A: Allocator + Copy> Revealed<'a, A> {
+    /// Gives the turn back: one xor, one exchange and one store.
+    pub fn close(self) -> Pass<'a, A>
+        ensures same { result ≡ self.entry }
+    {
+        let Revealed {
+            mut seat,
+            turn,
+            parameters,
+        } = self;
+        let version = turn.version;
+        finishing::close(&mut seat, turn);
+        Pass {
+            seat,
+            parameters,
+            made: Some(version),
         }
     }
 }

@@ -16,7 +16,6 @@ use Rattle.mst_arena.specs.declared.row.Root.{Root}
 use Rattle.mst_arena.specs.Lists.{In}
 use Rattle.mst_path.specs.Reached.{ReachesExactly, advanced}
 use Rattle.mst_words.specs.Layout.{row_word}
-use Rattle.mst_words.specs.declared.view.View.{View}
 use Rattle.mst_words.specs.declared.view.DeskState.{DeskState}
 use Rattle.mst_words.specs.Access.{content_of}
 use Rattle.mst_words.specs.Records.{row, known_row, field, Standing, Agrees}

@@ -1,5 +1,5 @@
 -- The turn, after what was made in it is taken back.
-use Rattle.std.proofs.Common.{◌≡◌, ℕ, ◌+◌, ◌<◌, ◌≤◌, length, map, sym, ap, subst, ◌∙◌, arith}
+use Rattle.std.proofs.Common.{◌≡◌, ℕ, ◌+◌, ◌<◌, ◌≤◌, sym, subst, ◌∙◌, arith}
 use Rattle.std.proofs.lemmas.List.{length-map}
 use Rattle.mst_arena.specs.Lives.{State, version, next, reaches, IsSettled}
 use Rattle.mst_arena.specs.Undone.{undone_life, undone}

@@ -4,10 +4,11 @@ ghost use Rattle.std.specs.Prelude.{◌≡◌, ◌+◌, ◌<◌, length};
 ghost use Rattle.mst_arena.specs.Lives.{last_version};
 ghost use Rattle.mst_words.specs.Access.{IsSameSeat, with_words};
 ghost use Rattle.mst_versions.specs.Turns.{HoldsDesk, HasMade, StaysMade, IsFilled, CanPublish, Added};
+ghost use Rattle.mst_versions.specs.Revealing.{IsRevealed, closed};
 
 use crate::roots::write_root;
 use crate::turn::Turn;
-use mst_arena::Root;
+use mst_arena::{Desk, Root};
 use mst_key::{Event, Format};
 use mst_words::PassSeat;
 use mst_words::layout::MASKS;
@@ -33,24 +34,75 @@ pub fn fill<A: Allocator + Copy>(
     write_root(seat, turn.into, made, root, format);
 }
 
-/// Publishes the version to come with its event, and gives the turn back: the filled record becomes
-/// the current one by one swap, the mask of the pins of the one before is moved by one xor, and
-/// desk and turn go back. Returns the number of the version.
-pub fn finish<A: Allocator + Copy>(seat: &mut PassSeat<'_, A>, turn: Turn<A>, event: &Event) -> u64
+/// A turn whose version is published: readers find it. What is left is to move the mask of the pins
+/// of the version before, and to give desk and turn back.
+#[derive(Drop)]
+pub struct PublishedTurn<A: Allocator> {
+    /// The number of the version.
+    pub version: u64,
+    desk: Desk<A>,
+    /// The record of the version before.
+    old: u32,
+    /// The mask of its pins.
+    mask: u64,
+}
+
+/// Publishes the version to come with its event: the filled record becomes the current one by one
+/// swap. The turn is kept until [`close`].
+pub fn reveal<A: Allocator + Copy>(
+    seat: &mut PassSeat<'_, A>,
+    turn: Turn<A>,
+    event: &Event,
+) -> PublishedTurn<A>
     requires ready { CanPublish turn event.now seat.old.me }
     ensures same { IsSameSeat seat.old seat.new }
-    ensures added { Added event.now seat.old.me seat.new.me }
-    ensures version { result ≡ length seat.new.me.0.seen }
+    ensures revealed { IsRevealed result seat.new.me }
+    ensures added { Added event.now seat.old.me (closed seat.new.me) }
+    ensures version { result.version ≡ length seat.new.me.0.seen }
 {
     let Turn { mut desk, into, .. } = turn;
     let (old, version) = desk.current();
     let made = version + 1;
     desk.advance(into);
     let found = seat.publish::<Brand>(into, event, &desk);
-    seat.transfer(old, found % MASKS);
+    PublishedTurn {
+        version: made,
+        desk,
+        old,
+        mask: found % MASKS,
+    }
+}
+
+/// Gives the turn back once its version is published: the mask of the pins of the version before is
+/// moved by one xor, and desk and turn go back, by one exchange and one store.
+pub fn close<A: Allocator + Copy>(seat: &mut PassSeat<'_, A>, revealed: PublishedTurn<A>)
+    requires revealed { IsRevealed revealed seat.old.me }
+    ensures same { IsSameSeat seat.old seat.new }
+    ensures closed { seat.new.me ≡ closed seat.old.me }
+{
+    let PublishedTurn {
+        desk,
+        old,
+        mask,
+        ..
+    } = revealed;
+    seat.transfer(old, mask);
     seat.return_desk(desk);
     seat.give_turn();
-    made
+}
+
+/// Publishes the version to come with its event, and gives the turn back: [`reveal`] and [`close`].
+/// Returns the number of the version.
+pub fn finish<A: Allocator + Copy>(seat: &mut PassSeat<'_, A>, turn: Turn<A>, event: &Event) -> u64
+    requires ready { CanPublish turn event.now seat.old.me }
+    ensures same { IsSameSeat seat.old seat.new }
+    ensures added { Added event.now seat.old.me seat.new.me }
+    ensures version { result ≡ length seat.new.me.0.seen }
+{
+    let revealed = reveal(seat, turn, event);
+    let version = revealed.version;
+    close(seat, revealed);
+    version
 }
 
 /// Fills the record of the version to come, and publishes that version. Returns its number.

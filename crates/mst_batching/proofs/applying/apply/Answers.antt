@@ -1,4 +1,3 @@
-use Rattle.std.proofs.Common.{rules}
 use Rattle.mst_batching.proofs.Prepared.{prepared_wrote_at}
 use Rattle.mst_batching.proofs.applying.apply.Goals as goal
 

@@ -1,6 +1,5 @@
-use Rattle.std.proofs.Common.{◌≡◌, List, ap, subst, rules}
+use Rattle.std.proofs.Common.{◌≡◌, ap, subst, rules}
 use Rattle.mst_key.specs.declared.history.Change.TheVariants.{Batch}
-use Rattle.mst_key.specs.declared.history.Edit.{Edit}
 use Rattle.mst_key.specs.History.{done}
 use Rattle.mst_words.specs.Access.{Seated, IsSameSeat}
 use Rattle.mst_batch.specs.declared.faults.NotApplied.{NotApplied}

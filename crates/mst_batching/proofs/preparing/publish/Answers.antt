@@ -1,53 +1,40 @@
-use Rattle.std.proofs.Common.{List, sym, subst}
-use Rattle.mst_key.specs.declared.history.Edit.{Edit}
-use Rattle.mst_batching.specs.Preparing.{batch_of}
-use Rattle.mst_versions.specs.Turns.{HasMade, Added}
-use Rattle.mst_batching.proofs.Prepared.{published_keeps, published_free, published_own, published_at}
-use Rattle.mst_batching.proofs.preparing.publish.Given.{Over}
-use Rattle.mst_batching.proofs.preparing.publish.Goals.{After-finish}
+use Rattle.std.proofs.Common.{rules, ◌∙◌, Some}
+use Rattle.mst_batching.proofs.Prepared.{closed_known, closed_keeps, closed_free, closed_own}
 use Rattle.mst_batching.proofs.preparing.publish.Goals as goal
 
-pub finish-requires : goal.finish-requires
-finish-requires g c =
-    let p = c.args.prepared in
-    record {
-      ready = (
-        p.root,
-        p.turn.format,
-        subst (λ (es : List Edit). HasMade p.turn p.root p.turn.format
-            (batch_of c.args.parameters.number es) c.args.seat.now.me) (sym c.new.ensures.edits)
-            c.requires.prepared.made,
-        c.requires.prepared.filled,
-      );
-    }
+pub reveal-revealed-requires : goal.reveal-revealed-requires
+reveal-revealed-requires g c = search rules
 
-module _ (g : Over) (c : After-finish g) where
-  added : Added (batch_of c.args.parameters.number c.args.edits.now) c.args.seat.now.me
-      c.finish.new.seat.me
-  added = subst (λ (es : List Edit). Added (batch_of c.args.parameters.number es)
-      c.args.seat.now.me c.finish.new.seat.me) c.new.ensures.edits c.finish.ensures.added
+pub close-requires : goal.close-requires
+close-requires g c = search rules
+
+pub returns-clause-same : goal.returns-clause-same
+returns-clause-same g c = search rules
 
 pub returns-clause-pass : goal.returns-clause-pass
 returns-clause-pass g c =
-    published_keeps c.args.parameters.number c.args.edits.now c.args.prepared c.args.seat.now
-    c.finish.new.seat c.requires.prepared
-    (added g (goal.at.returns-clause-pass g c).After-finish)
+    closed_keeps c.args.parameters.number c.reveal-revealed.new.seat c.close.new.seat
+    c.close.ensures.same
+    c.close.ensures.closed c.args.seat.now.me c.reveal-revealed.ensures.pass
 
 pub returns-clause-free : goal.returns-clause-free
 returns-clause-free g c =
-    published_free c.args.parameters.number c.args.edits.now c.args.prepared c.args.seat.now
-    c.finish.new.seat c.requires.prepared
-    (added g (goal.at.returns-clause-free g c).After-finish)
+    closed_free c.args.parameters.number c.reveal-revealed.new.seat c.close.new.seat
+    c.close.ensures.same
+    c.close.ensures.closed c.reveal-revealed.ensures.free
+
+pub returns-clause-published : goal.returns-clause-published
+returns-clause-published g c made =
+    closed_known c.args.parameters.number c.reveal-revealed.new.seat c.close.new.seat
+    c.close.ensures.same
+    c.close.ensures.closed (Some c.reveal-revealed.result.version)
+    ∙ c.reveal-revealed.ensures.published made
 
 pub returns-clause-own : goal.returns-clause-own
 returns-clause-own g c =
-    published_own c.args.parameters.number c.args.edits.now c.args.prepared c.args.seat.now
-    c.finish.new.seat c.requires.prepared
-    (added g (goal.at.returns-clause-own g c).After-finish)
+    closed_own c.args.parameters.number c.reveal-revealed.new.seat c.close.new.seat
+    c.close.ensures.same
+    c.close.ensures.closed c.reveal-revealed.ensures.own
 
-pub returns-clause-published : goal.returns-clause-published
-returns-clause-published g c =
-    published_at c.args.parameters.number c.args.edits.now c.args.prepared c.args.seat.now
-    c.finish.new.seat c.requires.prepared
-    (added g (goal.at.returns-clause-published g c).After-finish) c.finish.ensures.same
-    c.finish.result c.finish.ensures.version
+pub returns-clause-version : goal.returns-clause-version
+returns-clause-version g c = search rules

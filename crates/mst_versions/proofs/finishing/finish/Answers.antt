@@ -1,58 +1,20 @@
-use Rattle.std.proofs.Common.{rules, arith}
-use Rattle.std.proofs.lemmas.Grind.{elements}
-use Rattle.std.proofs.Common.{Some, None, [], ◌∷◌, ap, ◌∙◌}
-use Rattle.mst_arena.specs.Lives.{State}
-use Rattle.mst_versions.specs.Turns.{SeatState}
-use Rattle.mst_versions.proofs.Ready.{readying, giving}
+use Rattle.std.proofs.Common.{rules, sym, subst}
+use Rattle.mst_versions.specs.Turns.{SeatState, Added}
 use Rattle.mst_versions.proofs.finishing.finish.Goals as goal
 
-pub publish-found-requires-clause-ready : goal.publish-found-requires-clause-ready
-publish-found-requires-clause-ready g c =
-    let r = c.requires.ready in
-    readying c.args.turn r.0 r.1 c.args.event.now c.args.seat.now.me r.2 r.3 c.advance.new.self
-    c.advance.ensures.current
+pub reveal-revealed-requires : goal.reveal-revealed-requires
+reveal-revealed-requires g c = search rules
 
-pub give_turn-requires : goal.give_turn-requires
-give_turn-requires g c =
-    let r = c.requires.ready in
-    let s : State = c.advance.new.self in
-    let p = c.publish-found.ensures.published in record {
-      giving = giving c.args.turn r.0 r.1 c.args.event.now c.args.seat.now.me r.2 r.3 s p.mask
-          c.return_desk.new.self.me c.advance.ensures.current
-          (c.return_desk.ensures.returned ∙ ap (λ (z : SeatState). (z.0, (0, Some s) ∷ []))
-          c.transfer.ensures.settled
-          ∙ ap (λ (z : SeatState). (record z.0 { due = None }, (0, Some s) ∷ [])) p.is);
-    }
-
-pub overflow_add-made : goal.overflow_add-made
-overflow_add-made g c = search rules
-
-pub advance-requires-clause-there : goal.advance-requires-clause-there
-advance-requires-clause-there g c = search rules
-
-pub advance-requires-clause-other : goal.advance-requires-clause-other
-advance-requires-clause-other g c = search rules
-
-pub advance-requires-clause-more : goal.advance-requires-clause-more
-advance-requires-clause-more g c = search rules
-
-pub publish-found-requires-clause-named : goal.publish-found-requires-clause-named
-publish-found-requires-clause-named g c = search rules
-
-pub transfer-requires-clause-there : goal.transfer-requires-clause-there
-transfer-requires-clause-there g c = search rules
-
-pub transfer-requires-clause-due : goal.transfer-requires-clause-due
-transfer-requires-clause-due g c = search rules
-
-pub return_desk-requires : goal.return_desk-requires
-return_desk-requires g c = search rules
+pub close-requires : goal.close-requires
+close-requires g c = search rules
 
 pub returns-clause-same : goal.returns-clause-same
 returns-clause-same g c = search rules
 
 pub returns-clause-added : goal.returns-clause-added
-returns-clause-added g c = search rules
+returns-clause-added g c =
+    subst (λ (z : SeatState). Added c.args.event.now c.args.seat.now.me z)
+    (sym c.close.ensures.closed) c.reveal-revealed.ensures.added
 
 pub returns-clause-version : goal.returns-clause-version
-returns-clause-version g c = grind (arith, elements)
+returns-clause-version g c = search rules

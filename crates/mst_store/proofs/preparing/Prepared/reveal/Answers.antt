@@ -2,13 +2,13 @@ use Rattle.std.proofs.Common.{List, ap, ◌∙◌}
 use Rattle.mst_key.specs.declared.history.Edit.{Edit}
 use Rattle.mst_store.specs.Passes.{known}
 use Rattle.mst_store.specs.Preparing.{Waiting, published}
-use Rattle.mst_store.proofs.preparing.Prepared.publish.Goals as goal
+use Rattle.mst_store.proofs.preparing.Prepared.reveal.Goals as goal
 
 pub returns : goal.returns
 returns g c =
     let i = c.self.inside in
     record {
-      published = c.publish-version.ensures.published i.made
+      published = c.reveal-turn.ensures.published i.made
           ∙ ap (λ (es : List Edit). published es (known i.parameters.number i.made i.seat))
           c.as_slice.ensures.value
           ∙ ap (λ (w : Waiting). published w.edits w.known) c.self.view_is;

@@ -1,5 +1,5 @@
 use Rattle.mst_words.specs.Stored.{desk_state}
-use Rattle.mst_versions.proofs.finishing.finish.Given as goal
+use Rattle.mst_versions.proofs.finishing.reveal.Given as goal
 
 -- the event that is added, and what the desk then knows
 abbrev pub ghosts-publish : goal.ghosts-publish
