@@ -1,6 +1,6 @@
 //! The publication of a block. All swaps come first, the directory's last, and then each shard
-//! gives its turn back: so a reader that comes between the first swap and the last waits for swaps
-//! alone.
+//! gives its turn back: so a reader that comes between the first swap and the last waits for no
+//! turn to be given back.
 ghost use Rattle.std.specs.Prelude.{◌≡◌, ◌≤◌, [], map, vec_len, vec_capacity};
 ghost use Rattle.mst_store.specs.Preparing.{published};
 ghost use Rattle.mst_blocks.specs.Staging.{published_stage, shown_pass};
