@@ -48,7 +48,7 @@ published_stage (Idle q) = q
 published_stage (Ready w) = published w.edits w.known
 
 -- what its pass knows while the others are published
-abbrev pub shown_pass : {A : Type 0} → Shown A → Known
+abbrev pub shown_pass : {A B : Type 0} → Shown A B → Known
 shown_pass (shown.Idle q) = q
 shown_pass (shown.Revealed q) = q
 

@@ -252,7 +252,7 @@ fn plan_listing<'a, A: Allocator + Copy, B: Allocator, C: Allocator + Copy>(
     alloc: C,
     splits: &[Key],
     stages: &[Stage<'a, A, B>],
-) -> Result<(Vec<Edit, C>, Vec<Shown<'a, A>, C>), Memory>
+) -> Result<(Vec<Edit, C>, Vec<Shown<'a, A, B>, C>), Memory>
     requires count { length stages.now ≡ length splits.now + 1 }
     ensures listed { IfOk result
         (λ plan. plan.0.items ≡ listed_stages (shards_at splits.now) stages.now) }

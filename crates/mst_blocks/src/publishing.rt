@@ -12,15 +12,15 @@ use std::collections::VecDeque;
 
 /// A shard while a block is published.
 #[derive(Drop)]
-pub enum Shown<'a, A: Allocator + Copy> {
+pub enum Shown<'a, A: Allocator + Copy, B: Allocator> {
     /// The block has no edits of it.
     Idle(Pass<'a, A>),
     /// Its part is published, and it has the turn.
-    Revealed(Revealed<'a, A>),
+    Revealed(Revealed<'a, A, B>),
 }
 
 // Publishes what is prepared of one shard.
-fn reveal_one<'a, A: Allocator + Copy, B: Allocator>(stage: Stage<'a, A, B>) -> Shown<'a, A>
+fn reveal_one<'a, A: Allocator + Copy, B: Allocator>(stage: Stage<'a, A, B>) -> Shown<'a, A, B>
     ensures published { shown_pass result ≡ published_stage stage.entry }
 {
     match stage {
@@ -30,7 +30,7 @@ fn reveal_one<'a, A: Allocator + Copy, B: Allocator>(stage: Stage<'a, A, B>) -> 
 }
 
 // Has one shard give its turn back.
-fn close_one<'a, A: Allocator + Copy>(shown: Shown<'a, A>) -> Pass<'a, A>
+fn close_one<'a, A: Allocator + Copy, B: Allocator>(shown: Shown<'a, A, B>) -> Pass<'a, A>
     ensures same { result ≡ shown_pass shown.entry }
 {
     match shown {
@@ -42,8 +42,8 @@ fn close_one<'a, A: Allocator + Copy>(shown: Shown<'a, A>) -> Pass<'a, A>
 // Publishes what is prepared, one swap after the other.
 fn reveal_all<'a, A: Allocator + Copy, B: Allocator, C: Allocator, D: Allocator>(
     stages: Vec<Stage<'a, A, B>, C>,
-    room: Vec<Shown<'a, A>, D>,
-) -> Vec<Shown<'a, A>, D>
+    room: Vec<Shown<'a, A, B>, D>,
+) -> Vec<Shown<'a, A, B>, D>
     requires empty { room.items ≡ [] }
     requires fits { vec_len stages ≤ vec_capacity room }
     ensures published { map shown_pass result.items ≡ map published_stage stages.entry.items }
@@ -57,8 +57,8 @@ fn reveal_all<'a, A: Allocator + Copy, B: Allocator, C: Allocator, D: Allocator>
 }
 
 // Has each shard give its turn back.
-fn close_all<'a, A: Allocator + Copy, B: Allocator, C: Allocator>(
-    shown: Vec<Shown<'a, A>, B>,
+fn close_all<'a, A: Allocator + Copy, B: Allocator, C: Allocator, D: Allocator>(
+    shown: Vec<Shown<'a, A, B>, D>,
     room: Vec<Pass<'a, A>, C>,
 ) -> Vec<Pass<'a, A>, C>
     requires empty { room.items ≡ [] }
@@ -78,7 +78,7 @@ fn close_all<'a, A: Allocator + Copy, B: Allocator, C: Allocator>(
 pub fn publish_all<'a, A: Allocator + Copy, B: Allocator, C: Allocator, D: Allocator>(
     stages: Vec<Stage<'a, A, B>, C>,
     directory: Prepared<'a, A, D>,
-    shown: Vec<Shown<'a, A>, D>,
+    shown: Vec<Shown<'a, A, B>, D>,
     room: Vec<Pass<'a, A>, C>,
 ) -> (Vec<Pass<'a, A>, C>, Pass<'a, A>)
     requires empty { (shown.items ≡ []) × (room.items ≡ []) }

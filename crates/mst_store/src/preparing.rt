@@ -44,14 +44,17 @@ impl<'a, A: Allocator + Copy, B: Allocator> Model for Prepared<'a, A, B> {
 /// passes are refused the turn until [`Revealed::close`], which cannot fail. One that is dropped
 /// keeps the turn for good.
 #[derive(Drop)]
-pub struct Revealed<'a, A: Allocator + Copy> {
+pub struct Revealed<'a, A: Allocator + Copy, B: Allocator> {
     seat: PassSeat<'a, A>,
     turn: finishing::PublishedTurn<A>,
     parameters: PassParameters,
+    /// Kept to be freed later: while one store's batch is published and another's is not yet,
+    /// readers of both wait.
+    edits: Vec<Edit, B>,
 }
 
 /// Contracts see what the pass knows.
-impl<'a, A: Allocator + Copy> Model for Revealed<'a, A> {
+impl<'a, A: Allocator + Copy, B: Allocator> Model for Revealed<'a, A, B> {
     ghost use Rattle.std.specs.Prelude.{Some};
     ghost use Rattle.mst_store.specs.Passes.{Known, known};
     ghost use Rattle.mst_store.specs.Preparing.{IsClosing};
@@ -128,8 +131,8 @@ impl<'a, A: Allocator + Copy, B: Allocator> Prepared<'a, A, B> {
     }
 
     /// Publishes the batch as one version, by one swap, and keeps the turn. So batches of several
-    /// stores are published soon after one another. It takes no memory.
-    pub fn reveal(self) -> Revealed<'a, A>
+    /// stores are published soon after one another. It takes no memory, and gives none back.
+    pub fn reveal(self) -> Revealed<'a, A, B>
         ensures published { result ≡ published self.entry.edits self.entry.known }
     {
         let Prepared {
@@ -144,6 +147,7 @@ impl<'a, A: Allocator + Copy, B: Allocator> Prepared<'a, A, B> {
             seat,
             turn,
             parameters,
+            edits,
         }
     }
 
@@ -177,8 +181,8 @@ impl<'a, A: Allocator + Copy, B: Allocator> Prepared<'a, A, B> {
     }
 }
 
-impl<'a, A: Allocator + Copy> Revealed<'a, A> {
-    /// Gives the turn back: one xor, one exchange and one store.
+impl<'a, A: Allocator + Copy, B: Allocator> Revealed<'a, A, B> {
+    /// Gives the turn back: one xor, one exchange and one store. The list of the edits is freed.
     pub fn close(self) -> Pass<'a, A>
         ensures same { result ≡ self.entry }
     {
@@ -186,9 +190,11 @@ impl<'a, A: Allocator + Copy> Revealed<'a, A> {
             mut seat,
             turn,
             parameters,
+            edits,
         } = self;
         let version = turn.version;
         finishing::close(&mut seat, turn);
+        drop(edits);
         Pass {
             seat,
             parameters,
