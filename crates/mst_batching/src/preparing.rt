@@ -108,6 +108,7 @@ pub fn prepare<A: Allocator + Copy, B: Allocator + Copy>(
 
 /// Publishes what was prepared as the next version, by one swap: readers find it. The turn is kept
 /// until [`finishing::close`]. It takes no memory, and nothing can refuse it.
+#[inline(always)]
 pub fn reveal<A: Allocator + Copy>(
     seat: &mut PassSeat<'_, A>,
     parameters: PassParameters,

@@ -1,6 +1,7 @@
 //! The publication of a block. All swaps come first, the directory's last, and then each shard
 //! gives its turn back: so a reader that comes between the first swap and the last waits for no
-//! turn to be given back.
+//! turn to be given back. What a shard has prepared is some 400 bytes: the calls that move it are
+//! inlined, so that it is copied less often meanwhile.
 ghost use Rattle.std.specs.Prelude.{◌≡◌, ◌≤◌, [], map, vec_len, vec_capacity};
 ghost use Rattle.mst_store.specs.Preparing.{published};
 ghost use Rattle.mst_blocks.specs.Staging.{published_stage, shown_pass};
@@ -20,6 +21,7 @@ pub enum Shown<'a, A: Allocator + Copy, B: Allocator> {
 }
 
 // Publishes what is prepared of one shard.
+#[inline(always)]
 fn reveal_one<'a, A: Allocator + Copy, B: Allocator>(stage: Stage<'a, A, B>) -> Shown<'a, A, B>
     ensures published { shown_pass result ≡ published_stage stage.entry }
 {
@@ -30,6 +32,7 @@ fn reveal_one<'a, A: Allocator + Copy, B: Allocator>(stage: Stage<'a, A, B>) -> 
 }
 
 // Has one shard give its turn back.
+#[inline(always)]
 fn close_one<'a, A: Allocator + Copy, B: Allocator>(shown: Shown<'a, A, B>) -> Pass<'a, A>
     ensures same { result ≡ shown_pass shown.entry }
 {

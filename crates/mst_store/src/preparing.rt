@@ -132,6 +132,7 @@ impl<'a, A: Allocator + Copy, B: Allocator> Prepared<'a, A, B> {
 
     /// Publishes the batch as one version, by one swap, and keeps the turn. So batches of several
     /// stores are published soon after one another. It takes no memory, and gives none back.
+    #[inline(always)]
     pub fn reveal(self) -> Revealed<'a, A, B>
         ensures published { result ≡ published self.entry.edits self.entry.known }
     {
@@ -183,6 +184,7 @@ impl<'a, A: Allocator + Copy, B: Allocator> Prepared<'a, A, B> {
 
 impl<'a, A: Allocator + Copy, B: Allocator> Revealed<'a, A, B> {
     /// Gives the turn back: one xor, one exchange and one store. The list of the edits is freed.
+    #[inline(always)]
     pub fn close(self) -> Pass<'a, A>
         ensures same { result ≡ self.entry }
     {

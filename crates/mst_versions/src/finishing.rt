@@ -49,6 +49,7 @@ pub struct PublishedTurn<A: Allocator> {
 
 /// Publishes the version to come with its event: the filled record becomes the current one by one
 /// swap. The turn is kept until [`close`].
+#[inline(always)]
 pub fn reveal<A: Allocator + Copy>(
     seat: &mut PassSeat<'_, A>,
     turn: Turn<A>,
@@ -75,6 +76,7 @@ pub fn reveal<A: Allocator + Copy>(
 
 /// Gives the turn back once its version is published: the mask of the pins of the version before is
 /// moved by one xor, and desk and turn go back, by one exchange and one store.
+#[inline(always)]
 pub fn close<A: Allocator + Copy>(seat: &mut PassSeat<'_, A>, revealed: PublishedTurn<A>)
     requires revealed { IsRevealed revealed seat.old.me }
     ensures same { IsSameSeat seat.old seat.new }
