@@ -162,11 +162,20 @@ static int goes_on(struct call *call, int32_t told) {
     return 0;
 }
 
+/*
+ * Without a room the caller does not want the old value: then it goes into a room of the call's
+ * own, which is long enough for each value.
+ */
 int32_t mst_put_within(mst_pass *pass, const uint8_t *key, size_t key_length,
                        const uint8_t *value, size_t value_length,
                        uint8_t *room, size_t room_length, uint64_t microseconds) {
     struct call call = call_of(pass, microseconds);
+    uint8_t unwanted[MST_VALUE_LONGEST];
     int32_t told;
+    if (room == NULL) {
+        room = unwanted;
+        room_length = sizeof unwanted;
+    }
     do {
         look(&call);
         told = mst_try_put(pass, key, key_length, value, value_length, room, room_length);
@@ -177,7 +186,12 @@ int32_t mst_put_within(mst_pass *pass, const uint8_t *key, size_t key_length,
 int32_t mst_remove_within(mst_pass *pass, const uint8_t *key, size_t key_length,
                           uint8_t *room, size_t room_length, uint64_t microseconds) {
     struct call call = call_of(pass, microseconds);
+    uint8_t unwanted[MST_VALUE_LONGEST];
     int32_t told;
+    if (room == NULL) {
+        room = unwanted;
+        room_length = sizeof unwanted;
+    }
     do {
         look(&call);
         told = mst_try_remove(pass, key, key_length, room, room_length);

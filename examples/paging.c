@@ -42,7 +42,7 @@ static int32_t load(mst_pass *writer) {
 
 /* Reads all pairs by pages. Returns MST_OK or the refusal of a call. */
 static int32_t read_pages(mst_pass *reader, mst_pass *writer) {
-    uint8_t room[PAGE * MST_PAIR_LONGEST], last[MST_KEY_LONGEST], old[MST_VALUE_LONGEST];
+    uint8_t room[PAGE * MST_PAIR_LONGEST], last[MST_KEY_LONGEST];
     size_t last_length = 0, count, length, pages = 0, pairs = 0;
     for (;;) {
         int32_t told = mst_page_after(reader, last, last_length, NULL, 0, PAGE,
@@ -58,7 +58,7 @@ static int32_t read_pages(mst_pass *reader, mst_pass *writer) {
         memcpy(last, pair.key, last_length);
         pages++;
         pairs += count;
-        told = mst_remove(writer, last, last_length, old, sizeof old);
+        told = mst_remove(writer, last, last_length, NULL, 0);
         if (told < 0)
             return told;
     }

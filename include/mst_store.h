@@ -16,10 +16,10 @@
  * its like wait for a time that is given. The store is freed when its last pass is closed.
  *
  *     mst_pass passes[2] = {MST_PASS_CLOSED, MST_PASS_CLOSED};
- *     uint8_t old[MST_VALUE_LONGEST], root[MST_ROOT_LENGTH];
+ *     uint8_t root[MST_ROOT_LENGTH];
  *     if (mst_open(1, 1000, passes, 2) != MST_OK)    // format 1, 1,000 rows, two passes
  *         give_up();
- *     mst_put(&passes[0], key, key_length, value, value_length, old, sizeof old);
+ *     mst_put(&passes[0], key, key_length, value, value_length, NULL, 0); // no old value wanted
  *     mst_root(&passes[1], root, sizeof root);       // in another thread, say
  *     mst_close(&passes[0]);
  *     mst_close(&passes[1]);                         // the store is gone
@@ -42,7 +42,8 @@
  *     with the start or the end of a thread, or with a sequentially consistent atomic;
  *   - pointers are valid for their lengths, that of mst_open for its count of hands, and what a
  *     call writes overlaps nothing else that it is given. If a length is 0, the pointer is not read
- *     and may be null;
+ *     and may be null. A null room of mst_put, mst_remove, mst_put_within and mst_remove_within may
+ *     have any length;
  *   - during a call no other thread writes what the call reads (key, value, bounds, edits), or
  *     touches what it may write (the hand, rooms, and where it tells lengths and numbers);
  *   - malloc, posix_memalign, realloc and free are of one allocator, and malloc and realloc align to
@@ -136,7 +137,7 @@ typedef struct mst_pass {
 /*
  * A room, the caller's buffer for an answer, is too short. A put or a remove has been made all the
  * same, and only the old value is lost: a room of MST_VALUE_LONGEST bytes is never too short for
- * it.
+ * it. mst_put and mst_remove take a null room from a caller that does not want the old value.
  */
 #define MST_SHORT_ROOM (-2)
 
@@ -460,11 +461,15 @@ size_t mst_edit_remove(uint8_t *room, size_t at, const uint8_t *key, size_t key_
  * gives no sign of it for 50 milliseconds, such as one of a thread that was stopped or has died,
  * holds nobody up any longer. Calls that try leave the turn to nobody, and of no call it is
  * promised when it gets the turn.
+ *
+ * A null room says that the old value is not wanted. Whatever room_length is, the call then returns
+ * what it returns with a room of MST_VALUE_LONGEST bytes, and so never MST_SHORT_ROOM. To
+ * mst_try_put and mst_try_remove a null room is one of 0 bytes, and has to have that length.
  */
 int32_t mst_put(mst_pass *pass, const uint8_t *key, size_t key_length,
                 const uint8_t *value, size_t value_length, uint8_t *room, size_t room_length);
 
-/* As mst_try_remove, but waits as mst_put does. */
+/* As mst_try_remove, but waits, and takes a null room, as mst_put does. */
 int32_t mst_remove(mst_pass *pass, const uint8_t *key, size_t key_length,
                    uint8_t *room, size_t room_length);
 

@@ -105,14 +105,12 @@ static int is_equal(mst_pass *ours, mst_pass *theirs) {
 
 /* Opens a store with the keys of the numbers from one up to below another. */
 static int32_t fill(mst_pass *pass, int from, int to) {
-    uint8_t old[MST_VALUE_LONGEST];
     char name[16];
 
     int32_t told = mst_open(1, 1000, pass, 1);
     for (int number = from; told >= MST_ABSENT && number < to; number++) {
         size_t length = (size_t)snprintf(name, sizeof name, "user %d", number);
-        told = mst_put(pass, (const uint8_t *)name, length, (const uint8_t *)"new", 3,
-                       old, sizeof old);
+        told = mst_put(pass, (const uint8_t *)name, length, (const uint8_t *)"new", 3, NULL, 0);
     }
     return told < MST_ABSENT ? told : MST_OK;
 }

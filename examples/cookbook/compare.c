@@ -46,17 +46,16 @@ static const char *is_equal(mst_pass *ours, mst_pass *theirs) {
 
 int main(void) {
     mst_pass ours = MST_PASS_CLOSED, theirs = MST_PASS_CLOSED;
-    uint8_t old[MST_VALUE_LONGEST];
 
     if (mst_open(1, 100, &ours, 1) != MST_OK || mst_open(1, 100, &theirs, 1) != MST_OK)
         return 1;
-    mst_put(&ours, TEXT("apple"), TEXT("30"), old, sizeof old);
-    mst_put(&ours, TEXT("plum"), TEXT("12"), old, sizeof old);
-    mst_put(&theirs, TEXT("plum"), TEXT("12"), old, sizeof old);
-    mst_put(&theirs, TEXT("apple"), TEXT("30"), old, sizeof old);
+    mst_put(&ours, TEXT("apple"), TEXT("30"), NULL, 0);
+    mst_put(&ours, TEXT("plum"), TEXT("12"), NULL, 0);
+    mst_put(&theirs, TEXT("plum"), TEXT("12"), NULL, 0);
+    mst_put(&theirs, TEXT("apple"), TEXT("30"), NULL, 0);
     printf("equal: %s\n", is_equal(&ours, &theirs));
-    mst_put(&theirs, TEXT("apple"), TEXT("35"), old, sizeof old);
-    mst_put(&theirs, TEXT("pear"), TEXT("20"), old, sizeof old);
+    mst_put(&theirs, TEXT("apple"), TEXT("35"), NULL, 0);
+    mst_put(&theirs, TEXT("pear"), TEXT("20"), NULL, 0);
     mst_pin(&ours); /* so that neither changes on the way */
     mst_pin(&theirs);
     printf("equal: %s\n", is_equal(&ours, &theirs));

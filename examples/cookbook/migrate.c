@@ -21,14 +21,13 @@ static void tell(const char *whose, mst_pass *pass) {
 int main(void) {
     mst_pass passes[2] = {MST_PASS_CLOSED, MST_PASS_CLOSED};
     mst_pass *writer = &passes[0], *reader = &passes[1];
-    uint8_t value[32] = {0}, old[MST_VALUE_LONGEST];
+    uint8_t value[32] = {0};
     char name[16];
 
     int32_t told = mst_open(1, BOTH_TREES + 400, passes, 2);
     for (int number = 0; told >= MST_ABSENT && number < KEYS; number++) {
         size_t length = (size_t)snprintf(name, sizeof name, "user %d", number);
-        told = mst_put(writer, (const uint8_t *)name, length, value, sizeof value,
-                       old, sizeof old);
+        told = mst_put(writer, (const uint8_t *)name, length, value, sizeof value, NULL, 0);
     }
     mst_pin(reader);
     told = mst_migrate(writer, 2);

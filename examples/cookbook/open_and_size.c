@@ -12,7 +12,6 @@ enum {
 
 int main(void) {
     mst_pass passes[2] = {MST_PASS_CLOSED, MST_PASS_CLOSED};
-    uint8_t old[MST_VALUE_LONGEST];
     uint32_t taken = 0;
     char name[16];
 
@@ -20,7 +19,7 @@ int main(void) {
     for (int number = 0; told >= MST_ABSENT && number < KEYS; number++) {
         size_t length = (size_t)snprintf(name, sizeof name, "user %d", number);
         told = mst_put(&passes[0], (const uint8_t *)name, length, (const uint8_t *)"new", 3,
-                       old, sizeof old);
+                       NULL, 0);
     }
     if (told >= MST_ABSENT)
         told = mst_rows(&passes[0], &taken);

@@ -21,12 +21,12 @@ static void check(uint32_t format, const uint8_t *root, const uint8_t *key, size
 
 int main(void) {
     mst_pass pass = MST_PASS_CLOSED;
-    uint8_t old[MST_VALUE_LONGEST], root[MST_ROOT_LENGTH], of_apple[4096], of_pear[4096];
+    uint8_t root[MST_ROOT_LENGTH], of_apple[4096], of_pear[4096];
     size_t apples = 0, pears = 0;
 
     if (mst_open(2, 100, &pass, 1) != MST_OK)
         return 1;
-    mst_put(&pass, TEXT("apple"), TEXT("30"), old, sizeof old);
+    mst_put(&pass, TEXT("apple"), TEXT("30"), NULL, 0);
     mst_pin(&pass); /* format, root digest and proofs must be of one version */
     uint32_t format = (uint32_t)mst_format(&pass);
     mst_root(&pass, root, sizeof root);

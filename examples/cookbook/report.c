@@ -27,15 +27,14 @@ static void report(mst_pass *pinned) {
 int main(void) {
     mst_pass passes[2] = {MST_PASS_CLOSED, MST_PASS_CLOSED};
     mst_pass *writer = &passes[0], *reader = &passes[1];
-    uint8_t old[MST_VALUE_LONGEST];
 
     if (mst_open(1, 100, passes, 2) != MST_OK)
         return 1;
-    mst_put(writer, TEXT("ann"), TEXT("60"), old, sizeof old);
-    mst_put(writer, TEXT("bob"), TEXT("40"), old, sizeof old);
+    mst_put(writer, TEXT("ann"), TEXT("60"), NULL, 0);
+    mst_put(writer, TEXT("bob"), TEXT("40"), NULL, 0);
     mst_pin(reader);
-    mst_put(writer, TEXT("ann"), TEXT("10"), old, sizeof old);
-    mst_put(writer, TEXT("bob"), TEXT("90"), old, sizeof old);
+    mst_put(writer, TEXT("ann"), TEXT("10"), NULL, 0);
+    mst_put(writer, TEXT("bob"), TEXT("90"), NULL, 0);
     report(reader);
     mst_unpin(reader);
     mst_pin(reader);

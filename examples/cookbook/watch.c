@@ -109,15 +109,13 @@ static void watch_pins(mst_pass *passes) {
  */
 static int32_t put(mst_pass *pass, const uint8_t *key, size_t key_length, const uint8_t *value,
                    size_t value_length) {
-    uint8_t old[MST_VALUE_LONGEST];
     uint64_t before, now = 0;
     int32_t told;
 
     mst_version(pass, &now);
     do {
         before = now;
-        told = mst_put_within(pass, key, key_length, value, value_length, old, sizeof old,
-                              LONGEST_WRITE);
+        told = mst_put_within(pass, key, key_length, value, value_length, NULL, 0, LONGEST_WRITE);
         mst_version(pass, &now);
     } while (told == MST_BUSY && now != before);
     return told;

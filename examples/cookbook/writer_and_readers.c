@@ -7,10 +7,9 @@ enum { READERS = 3, CALLS = 1000 };
 
 /* Counts up at one key. Returns the pass if a put was refused, otherwise null. */
 static void *write_all(void *pass) {
-    uint8_t old[MST_VALUE_LONGEST];
     for (int number = 0; number < CALLS; number++) {
         uint8_t value[2] = {(uint8_t)(number >> 8), (uint8_t)number};
-        if (mst_put(pass, (const uint8_t *)"count", 5, value, 2, old, sizeof old) < MST_ABSENT)
+        if (mst_put(pass, (const uint8_t *)"count", 5, value, 2, NULL, 0) < MST_ABSENT)
             return pass;
     }
     return NULL;
