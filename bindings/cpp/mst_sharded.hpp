@@ -220,6 +220,12 @@ public:
         });
     }
 
+    // Returns the pairs with from <= key < to, for a loop, which reads them in pages. An empty
+    // bound does not bind.
+    mst::items<snapshot> items(std::string_view from = {}, std::string_view to = {}) & {
+        return mst::items<snapshot>(this, from, to);
+    }
+
     // Returns of each shard its lower bound, with its root digest of 32 bytes and its upper bound,
     // which is empty if there is none: the pairs whose root digest is that of the snapshot.
     std::vector<pair> directory() {

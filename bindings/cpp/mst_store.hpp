@@ -198,6 +198,15 @@ public:
         return listing(mst_page_after, after, to, limit);
     }
 
+    // Returns the pairs with from <= key < to, for a loop, which reads them in pages. An empty
+    // bound does not bind. Those of a pinned pass are of one version; those of a free pass are not,
+    // if another pass writes between two pages.
+    //
+    //     for (auto &&[key, value] : then.items()) use(key, value);
+    mst::items<reader> items(std::string_view from = {}, std::string_view to = {}) & {
+        return mst::items<reader>(this, from, to);
+    }
+
     // Returns the root digest of the version. It depends on its pairs and its format alone.
     digest root() {
         digest root;

@@ -3,6 +3,8 @@ package mst
 // #include "mst_store.h"
 import "C"
 
+import "bytes"
+
 // Reads are the reads that a Pass and a Pinned have: of the current version, or of the pinned one.
 // They wait for no other pass. After a close the error is ErrClosed, and so it is by a Pinned after
 // its pin.
@@ -84,6 +86,64 @@ func (r *Reads) PageAfter(after, to []byte, limit int) ([]Pair, error) {
 		return C.mst_page_after(&s.hand, at(after), size(after), at(to), size(to), word(limit),
 			at(room), size(room), count, length)
 	})
+}
+
+// Items returns an iterator over the pairs whose keys are at least from and below to, by rising
+// keys, for a loop, which reads them in pages of at most 64. An empty bound does not bind. Those of
+// a Pinned are of one version; those of a Pass are not, if another pass writes between two pages.
+// Each loop begins anew, takes memory for one page, and may end at any pair. If Range returns an
+// error for a page, that is the last that a loop is given, with an empty Pair.
+//
+//	for pair, err := range then.Items(nil, nil) { // from Go 1.23 on
+//		if err != nil {
+//			return err
+//		}
+//		use(pair.Key, pair.Value)
+//	}
+//
+// Before Go 1.23, call it with the body of the loop, which returns whether to go on:
+//
+//	then.Items(nil, nil)(func(pair mst.Pair, err error) bool {
+//		..
+//	})
+func (r *Reads) Items(from, to []byte) func(yield func(Pair, error) bool) {
+	return itemsOf(r.Range, from, to)
+}
+
+// pageMost is the most pairs of a page of Items.
+const pageMost = 64
+
+// itemsOf is an iterator over what a range finds. No lock is held while a loop has a pair.
+func itemsOf(
+	list func(from, to []byte, limit int) ([]Pair, error), from, to []byte,
+) func(yield func(Pair, error) bool) {
+	from, to = copied(from), copied(to)
+	return func(yield func(Pair, error) bool) {
+		low, isFirst := from, true
+		for {
+			page, err := list(low, to, pageMost)
+			if err != nil {
+				yield(Pair{}, err)
+				return
+			}
+			isLast := len(page) < pageMost
+			// A page begins with the last pair of the one before, if it is still there.
+			if !isFirst && len(page) > 0 && bytes.Equal(page[0].Key, low) {
+				page = page[1:]
+			}
+			if !isLast {
+				low, isFirst = copied(page[len(page)-1].Key), false
+			}
+			for _, pair := range page {
+				if !yield(pair, nil) {
+					return
+				}
+			}
+			if isLast {
+				return
+			}
+		}
+	}
 }
 
 // pairs are those that a call finds.

@@ -477,6 +477,12 @@ func (s *ShardedSnapshot) Range(from, to []byte, limit int) ([]Pair, error) {
 	return pairsIn(listing, int(count)), nil
 }
 
+// Items returns an iterator over the pairs whose keys are at least from and below to, by rising
+// keys, for a loop, which reads them in pages. It is as that of Reads.
+func (s *ShardedSnapshot) Items(from, to []byte) func(yield func(Pair, error) bool) {
+	return itemsOf(s.Range, from, to)
+}
+
 // Directory returns of each shard its lower bound, with its root digest of 32 bytes and its upper
 // bound, which is empty if there is none: the pairs whose root digest is that of the snapshot. The
 // error is ErrClosed or ErrMemory.

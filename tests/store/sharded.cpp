@@ -66,6 +66,10 @@ block made(mst::sharded::writer &writer, const block &before, std::mt19937 &chan
     return next;
 }
 
+bool is_pair(const mst::pair &one, const known::value_type &other) {
+    return one.first == other.first && one.second == other.second;
+}
+
 // Whether a snapshot is of this block.
 bool shows(mst::sharded::snapshot &then, const block &of) {
     bool is = then.number() == of.number && then.root() == of.root;
@@ -76,7 +80,11 @@ bool shows(mst::sharded::snapshot &then, const block &of) {
         is = is && then.get(key) == found(of.map, key)
             && (above == of.map.end() ? !next : next == mst::pair(above->first, above->second));
     }
-    return is && then.range() == std::vector<mst::pair>(of.map.begin(), of.map.end());
+    auto all = then.items(), some = then.items("0", "p");
+    return is && then.range() == std::vector<mst::pair>(of.map.begin(), of.map.end())
+        && std::equal(all.begin(), all.end(), of.map.begin(), of.map.end(), is_pair)
+        && std::equal(some.begin(), some.end(), of.map.lower_bound("0"), of.map.lower_bound("p"),
+                      is_pair);
 }
 
 // Whether the verifier accepts the proofs of a snapshot.
@@ -219,6 +227,8 @@ void ends() {
     moved.release();
     EXPECT(is_refused(MST_CLOSED, [&] { (void)moved.get("a"); }));
     EXPECT(reader.get("a") == "1" && is_refused(MST_BAD_KEY, [&] { (void)reader.get(""); }));
+    auto none = moved.items();
+    EXPECT(is_refused(MST_CLOSED, [&] { none.begin(); }) && none.begin() == none.end());
     auto last = reader.snapshot();
     reader.close();
     EXPECT(is_refused(MST_CLOSED, [&] { (void)last.number(); }));

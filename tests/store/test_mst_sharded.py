@@ -49,6 +49,7 @@ class Blocks(unittest.TestCase):
         self.assertEqual(then.range(), sorted(known.items()))
         some = sorted(pair for pair in known.items() if b"0" <= pair[0] < b"p")
         self.assertEqual(then.range(b"0", b"p", 20), some[:20])
+        self.assertEqual((list(then.items()), list(then.items(b"0", b"p"))), (then.range(), some))
         for key in KEYS:
             self.assertEqual(then.get(key), known.get(key))
             above = min((other for other in known if other > key), default=None)
@@ -77,6 +78,26 @@ class Blocks(unittest.TestCase):
                     self.shows(then, told, kept)
                     self.proves(then, format, kept)
                 self.assertEqual(keeper.get(KEYS[3]), known.get(KEYS[3]))
+
+    def test_items_are_the_pairs_of_their_pages(self):
+        pairs = [(bytes((number,)), b"%d" % number) for number in range(256)]
+        for count in (0, 1, 63, 64, 65, 127, 128, 190, 256):
+            writer, reader = open_sharded(256, 1, SPLITS)
+            writer.apply(pairs[:count])
+            with reader.snapshot() as then:
+                writer.apply((key, None) for key, _ in pairs)
+                self.assertEqual(list(then.items()), pairs[:count])
+                self.assertEqual(list(then.items(b"\x05")), pairs[5:count])
+                self.assertEqual(list(then.items(b"\x05", b"\xc8")), pairs[5:min(count, 200)])
+                items = then.items()
+                if count > 64:
+                    next(items)
+            if count > 64:
+                self.assertEqual([next(items) for _ in range(63)], pairs[1:64])
+            self.refused(mst_store.CLOSED, next, items)
+            with reader.snapshot() as then:
+                self.assertEqual(list(then.items()), [])
+                self.refused(mst_store.BAD_KEY, next, then.items(bytes(33)))
 
     def test_a_refused_block_changes_no_shard(self):
         writer, reader, other = open_sharded(12, 2, [b"b", b"c", b"d"], Format.TWO)

@@ -6,7 +6,7 @@ import sys
 import threading
 import unittest
 
-from mst_store import NO_FREE_ROWS, Format, Pass, Refused, open_store
+from mst_store import BAD_KEY, CLOSED, NO_FREE_ROWS, Format, Pass, Refused, open_store
 
 HERE = os.path.dirname(os.path.abspath(__file__))
 sys.path.append(os.path.join(HERE, "..", "..", "verifiers", "python"))
@@ -72,6 +72,45 @@ class Answers(unittest.TestCase):
         store.apply((key, key) for key in keys)
         self.assertEqual([key for page in store.pages(3) for key, _ in page], sorted(keys))
         self.assertEqual(store.page_after(b"\xff" * 32), [])
+
+    def test_items_are_the_pairs_of_their_pages(self):
+        chance = random.Random(12)
+        keys = [b"\xff" * 30 + bytes(divmod(number, 256)) for number in range(301)]
+        for count in (0, 1, 63, 64, 65, 127, 128, 190, 300):
+            reader, writer = open_store(2000, 2)
+            pairs = [(key, key[30:]) for key in keys[:count]]
+            writer.apply(pairs)
+            with reader.pinned() as then:
+                self.empties(writer, then, pairs)
+                self.assertEqual(list(then.items()), pairs)
+                for _ in range(9):
+                    start, stop = chance.randrange(301), chance.randrange(301)
+                    self.assertEqual(list(then.items(keys[start], keys[stop])), pairs[start:stop])
+                    self.assertEqual(list(then.items(keys[start])), pairs[start:])
+                    self.assertEqual(list(then.items(stop=keys[stop])), pairs[:stop])
+            # A free pass goes on behind a pair that is gone.
+            writer.apply(pairs)
+            self.empties(writer, reader, pairs)
+
+    def empties(self, writer, reader, pairs):
+        """Takes out each pair that a reader comes to."""
+        for at, (key, value) in enumerate(reader.items()):
+            self.assertEqual((key, value), pairs[at])
+            self.assertEqual(writer.remove(key), value)
+        self.assertEqual(list(writer.items()), [])
+
+    def test_items_end_with_their_pass(self):
+        store, seen = one(), 0
+        store.apply((bytes((number,)), b"") for number in range(100))
+        with self.assertRaises(Refused) as caught:
+            for _ in store.items():
+                seen += 1
+                store.close()
+        self.assertEqual((caught.exception.code, seen), (CLOSED, 64))
+        for bounds in ((bytes(33),), (b"", bytes(33))):
+            with self.assertRaises(Refused) as caught:
+                next(one().items(*bounds))
+            self.assertEqual(caught.exception.code, BAD_KEY)
 
     def test_each_proof_is_taken_by_the_verifier(self):
         chance, store, known = random.Random(8), one(4000), {}

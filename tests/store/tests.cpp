@@ -2,8 +2,13 @@
 #include "mst_store.hpp"
 #include "mst_verifier.h"
 #include <iostream>
+#include <iterator>
 #include <thread>
 #include <type_traits>
+#if __cplusplus >= 202002L
+#include <ranges>
+static_assert(std::ranges::input_range<mst::items<mst::reader>>);
+#endif
 
 static int wrong = 0;
 
@@ -86,6 +91,76 @@ static void pages() {
     EXPECT(found == all && then.page_after("").size() == all.size());
     EXPECT(then.page_after("k", std::string(31, 'k') + '\0', 7).empty());
     EXPECT(code_of([&] { then.page_after(std::string(33, 'k')); }) == MST_BAD_KEY);
+}
+
+// A key of 32 bytes, by its number.
+static std::string long_key(int number) {
+    return std::string(30, '\xFF') + char(number / 256) + char(number % 256);
+}
+
+// Takes out each pair that a reader comes to, and returns these pairs.
+static std::vector<mst::pair> emptied(mst::pass &writer, mst::reader &reader) {
+    std::vector<mst::pair> found;
+    for (auto &&pair : reader.items()) {
+        EXPECT(writer.remove(pair.first) == pair.second);
+        found.push_back(std::move(pair));
+    }
+    EXPECT(writer.range().empty());
+    return found;
+}
+
+// As many pages as there may be, within bounds, of a pinned pass and of a free one.
+static void items() {
+    for (int count : {0, 1, 63, 64, 65, 127, 128, 190, 300}) {
+        auto passes = mst::open(2000, 2);
+        mst::batch edits;
+        std::vector<mst::pair> all;
+        for (int i = 0; i < count; i++) {
+            all.emplace_back(long_key(i), std::to_string(i));
+            edits.put(all.back().first, all.back().second);
+        }
+        passes[0].apply(edits);
+        auto then = passes[1].pin();
+        EXPECT(emptied(passes[0], then) == all);
+        for (int from = 0; from <= count; from += 63) {
+            auto some = then.items(long_key(from)), others = then.items("", long_key(from));
+            std::vector<mst::pair> above(some.begin(), some.end());
+            std::vector<mst::pair> below(others.begin(), others.end());
+            EXPECT(above == std::vector<mst::pair>(all.begin() + from, all.end()));
+            EXPECT(below == std::vector<mst::pair>(all.begin(), all.begin() + from));
+            auto none = then.items(long_key(from), long_key(from));
+            EXPECT(none.begin() == none.end());
+        }
+        then.unpin();
+        passes[0].apply(edits);
+        // it goes on behind a pair that is gone
+        EXPECT(emptied(passes[0], passes[1]) == all);
+    }
+}
+
+// Loops that end early, an iterator by itself, and refusals, after which no pair is left.
+static void items_that_end() {
+    auto pass = std::move(mst::open(2000, 1).front());
+    for (int i = 0; i < 200; i++) pass.put(long_key(i), std::to_string(i));
+    auto then = pass.pin();
+    auto all = then.items();
+    for (auto &&[key, value] : all)
+        if (value == "99") break;
+    auto at = all.begin();
+    EXPECT(at->second == "99" && (*at++).second == "99" && (*at).second == "100");
+    EXPECT(std::distance(at, all.end()) == 100 && all.begin() == all.end());
+    auto long_one = then.items(std::string(33, 'k'));
+    EXPECT(code_of([&] { long_one.begin(); }) == MST_BAD_KEY && long_one.begin() == long_one.end());
+    auto rest = then.items();
+    int seen = 0;
+    EXPECT(code_of([&] {
+        for (auto &&pair : rest) {
+            if (pair.second == "7") then.unpin();
+            seen++;
+        }
+    }) == MST_CLOSED);
+    EXPECT(seen == 64 && rest.begin() == rest.end());
+    EXPECT(code_of([&] { then.items().begin(); }) == MST_CLOSED);
 }
 
 // Proofs that are longer than the first room, and shorter ones after them.
@@ -252,6 +327,8 @@ int main() {
     reads_and_writes(passes[0]);
     long_range();
     pages();
+    items();
+    items_that_end();
     long_proofs();
     refusals(passes[0]);
     pins(passes[0], passes[1]);

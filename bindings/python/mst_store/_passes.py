@@ -146,13 +146,11 @@ class Pass:
                 # A free pass may have more pairs by the next try, so this is a loop.
                 self._long_room = ctypes.create_string_buffer(length.value)
 
-    def items(self) -> Iterator[Tuple[bytes, bytes]]:
-        """Yields the pairs by rising keys: of one version while the pass is pinned; otherwise it
-        asks anew for each."""
-        pair = self.next()
-        while pair is not None:
-            yield pair
-            pair = self.next(pair[0])
+    def items(self, start: Octets = b"", stop: Octets = b"") -> Iterator[Tuple[bytes, bytes]]:
+        """Yields the pairs with start <= key < stop by rising keys, and reads them in pages of at
+        most 64: of one version while the pass is pinned; otherwise each page is of one. An empty
+        bound does not bind. Where it reads a page, it raises Refused as range does."""
+        return _items(self.range, _octets(start), _octets(stop))
 
     def root(self) -> bytes:
         """Returns the root digest, of 32 bytes, in the format of the version."""
@@ -354,6 +352,22 @@ def _pairs(listing: bytes) -> Iterator[Tuple[bytes, bytes]]:
         middle = at + 4 + key_length
         yield listing[at + 4 : middle], listing[middle : middle + value_length]
         at = middle + value_length
+
+
+# The most pairs of a page of items.
+_PAGE_MOST = 64
+
+
+def _items(
+    listing: Callable[[bytes, bytes, int], List[Tuple[bytes, bytes]]], start: bytes, stop: bytes
+) -> Iterator[Tuple[bytes, bytes]]:
+    page = listing(start, stop, _PAGE_MOST)
+    yield from page
+    while len(page) == _PAGE_MOST:
+        last = page[-1][0]
+        page = listing(last, stop, _PAGE_MOST)
+        # It begins with the last pair of the page before, if that is still there.
+        yield from (pair for pair in page if pair[0] != last)
 
 
 def _format(code: int) -> Format:

@@ -11,7 +11,7 @@ from ._group import ShardedGroup
 from ._hands import _NO_SHARD, _answer, _block, _block_of_edits, _Hand, _Held, _WriterHand
 from ._library import KEY_LONGEST, ShardedHand
 from ._library import lib as _lib
-from ._passes import Edit, Format, Octets, _format, _octets, _pairs, _word
+from ._passes import Edit, Format, Octets, _format, _items, _octets, _pairs, _word
 from ._passes import _packed as _packed_edits
 from ._refusals import BUSY, CLOSED, MOVING, Moving
 from ._refusals import refuse as _refuse
@@ -91,6 +91,12 @@ class ShardedSnapshot:
             return list(_pairs(held.longest(lambda room, length: _lib.mst_sharded_range(
                 held.hand, start, len(start), stop, len(stop), limit, room, len(room),
                 ctypes.byref(count), length))))
+
+    def items(self, start: Octets = b"", stop: Octets = b"") -> Iterator[Tuple[bytes, bytes]]:
+        """Yields the pairs with start <= key < stop by rising keys, and reads them in pages of at
+        most 64. An empty bound does not bind. Where it reads a page, it raises Refused as range
+        does."""
+        return _items(self.range, _octets(start), _octets(stop))
 
     def directory(self) -> List[Tuple[bytes, bytes]]:
         """Returns of each shard its lower bound, with its root digest of 32 bytes and its upper

@@ -20,7 +20,8 @@ fn main() -> Result<(), Error> {
     assert_eq!(then.root(), root);
     println!("a proof of {} bytes", then.prove(b"apple")?.len());
     drop(then);
-    for (key, value) in reader.items() {
+    for pair in reader.items(b"", b"") {
+        let (key, value) = pair?;
         println!("{} {}", String::from_utf8_lossy(&key), String::from_utf8_lossy(&value));
     }
     Ok(())

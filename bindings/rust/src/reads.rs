@@ -2,6 +2,7 @@
 use crate::raw::{self, Hand};
 use crate::{Error, Format, KEY_LONGEST, ROOT_LENGTH, VALUE_LONGEST};
 use std::iter::FusedIterator;
+use std::vec;
 
 /// What holds a hand. It is this crate's alone, so that no other type has [`Reads`].
 ///
@@ -158,13 +159,35 @@ pub trait Reads: Held {
         listing(self.hand(), raw::mst_page_after, after, to, limit)
     }
 
-    /// The pairs by rising keys. Those of a pinned pass are of one version; a free pass asks anew
-    /// for each.
-    fn items(&mut self) -> Items<'_, Self>
+    /// Goes over the pairs whose keys are at least `from` and below `to`, by rising keys, and reads
+    /// them in pages of at most 64. An empty bound does not bind. Those of a [`Pinned`] are of one
+    /// version; those of a free pass are not, if another pass writes between two pages.
+    ///
+    /// An [`Error`] is the last item: `BadKey` at once if a bound has more than 32 bytes, and
+    /// `Memory` at a page for which there is none.
+    ///
+    /// ```
+    /// use mst_store::Reads;
+    ///
+    /// let mut pass = mst_store::open(1000, 1)?.remove(0);
+    /// pass.put(b"apple", b"30")?;
+    /// pass.put(b"pear", b"12")?;
+    /// let mut then = pass.pin();
+    /// let mut keys = Vec::new();
+    /// for pair in then.items(b"b", b"") {
+    ///     let (key, _value) = pair?;
+    ///     keys.push(key);
+    /// }
+    /// assert_eq!(keys, [b"pear"]);
+    /// # Ok::<(), mst_store::Error>(())
+    /// ```
+    ///
+    /// [`Pinned`]: crate::Pinned
+    fn items(&mut self, from: &[u8], to: &[u8]) -> Items<'_, Self>
     where
         Self: Sized,
     {
-        Items { of: self, last: Some(Vec::new()) }
+        Items::new(self, from, to)
     }
 
     /// Returns the root digest, in the format of the version.
@@ -229,27 +252,75 @@ pub trait Reads: Held {
     }
 }
 
-/// The pairs by rising keys.
-#[derive(Debug)]
-#[must_use = "an iterator asks for no pair before it is used"]
-pub struct Items<'a, R: Reads> {
-    of: &'a mut R,
-    last: Option<Vec<u8>>,
+/// What lists pairs: each of [`Reads`], and a snapshot. It is this crate's alone, as [`Held`] is.
+pub trait Listing {
+    /// The first pairs, as of a range.
+    #[doc(hidden)]
+    fn list(&mut self, from: &[u8], to: &[u8], limit: usize) -> Result<Vec<Pair>, Error>;
 }
 
-impl<R: Reads> Iterator for Items<'_, R> {
-    type Item = Pair;
-
-    fn next(&mut self) -> Option<Pair> {
-        let last = self.last.take()?;
-        // The key is empty or one that the store gave, so it is not refused.
-        let pair = self.of.next(&last).ok()??;
-        self.last = Some(pair.0.clone());
-        Some(pair)
+impl<R: Reads> Listing for R {
+    fn list(&mut self, from: &[u8], to: &[u8], limit: usize) -> Result<Vec<Pair>, Error> {
+        self.range(from, to, limit)
     }
 }
 
-impl<R: Reads> FusedIterator for Items<'_, R> {}
+/// The most pairs of a page of [`Items`]. The first room of a range is long enough for them.
+const PAGE_MOST: usize = 64;
+
+/// The pairs by rising keys, of [`Reads::items`] or of a snapshot. It takes memory for one page,
+/// and may be dropped at any pair.
+#[derive(Debug)]
+#[must_use = "an iterator asks for no pair before it is used"]
+pub struct Items<'a, L: Listing> {
+    of: &'a mut L,
+    from: Vec<u8>,
+    to: Vec<u8>,
+    /// The last key of the page, empty before the first page.
+    last: Vec<u8>,
+    page: vec::IntoIter<Pair>,
+    /// No page follows.
+    is_last: bool,
+}
+
+impl<'a, L: Listing> Items<'a, L> {
+    pub(crate) fn new(of: &'a mut L, from: &[u8], to: &[u8]) -> Self {
+        let (from, to) = (from.to_vec(), to.to_vec());
+        Items { of, from, to, last: Vec::new(), page: Vec::new().into_iter(), is_last: false }
+    }
+
+    /// Reads the next page. It begins with the last pair of the one before, if that is still there.
+    fn turn(&mut self) -> Result<(), Error> {
+        self.is_last = true; // also after an error
+        let from = if self.last.is_empty() { &self.from } else { &self.last };
+        let page = self.of.list(from, &self.to, PAGE_MOST)?;
+        self.is_last = page.len() < PAGE_MOST;
+        let is_known = page.first().is_some_and(|(key, _)| *key == self.last);
+        if let Some((key, _)) = page.last() {
+            self.last.clone_from(key);
+        }
+        self.page = page.into_iter();
+        if is_known {
+            self.page.next();
+        }
+        Ok(())
+    }
+}
+
+impl<L: Listing> Iterator for Items<'_, L> {
+    type Item = Result<Pair, Error>;
+
+    fn next(&mut self) -> Option<Self::Item> {
+        if self.page.len() == 0 && !self.is_last {
+            if let Err(error) = self.turn() {
+                return Some(Err(error));
+            }
+        }
+        self.page.next().map(Ok)
+    }
+}
+
+impl<L: Listing> FusedIterator for Items<'_, L> {}
 
 /// The pairs that a call lists. A snapshot stays, so the second room is long enough.
 pub(crate) fn listed(
@@ -265,5 +336,33 @@ pub(crate) fn listed(
     match code {
         0 => Ok(pairs(&room, count)),
         code => Err(Error::of(code)),
+    }
+}
+
+#[cfg(test)]
+mod tests {
+    use super::*;
+
+    /// Lists full pages of ever greater keys, of which the third is refused.
+    struct Refusing(u8);
+
+    impl Listing for Refusing {
+        fn list(&mut self, _: &[u8], _: &[u8], limit: usize) -> Result<Vec<Pair>, Error> {
+            self.0 += 1;
+            let page = self.0;
+            match page {
+                3 => Err(Error::Memory),
+                _ => Ok((0..limit).map(|at| (vec![page, at as u8], Vec::new())).collect()),
+            }
+        }
+    }
+
+    #[test]
+    fn an_error_is_the_last_item() {
+        let mut of = Refusing(0);
+        let mut items = Items::new(&mut of, b"", b"");
+        assert!((0..128).all(|_| items.next().is_some_and(|pair| pair.is_ok())));
+        assert_eq!(items.next(), Some(Err(Error::Memory)));
+        assert_eq!((items.next(), items.next()), (None, None));
     }
 }

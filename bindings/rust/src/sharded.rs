@@ -35,7 +35,9 @@ pub use group::{Group, GroupError};
 
 use crate::raw::SHORT_ROOM;
 use crate::raw_sharded::{self as raw, ShardedHand};
-use crate::{edits, reads, Edit, Error, Format, Pair, KEY_LONGEST, ROOT_LENGTH, VALUE_LONGEST};
+use crate::{
+    edits, reads, Edit, Error, Format, Items, Pair, KEY_LONGEST, ROOT_LENGTH, VALUE_LONGEST,
+};
 use std::fmt;
 use std::thread;
 
@@ -500,6 +502,13 @@ impl Snapshot<'_> {
         })
     }
 
+    /// Goes over the pairs whose keys are at least `from` and below `to`, by rising keys, and reads
+    /// them in pages of at most 64. An empty bound does not bind. An [`Error`] is the last item, as
+    /// of [`Reads::items`](crate::Reads::items).
+    pub fn items(&mut self, from: &[u8], to: &[u8]) -> Items<'_, Self> {
+        Items::new(self, from, to)
+    }
+
     /// Returns of each shard its lower bound, with its root digest of 32 bytes and its upper bound,
     /// which is empty if there is none: the pairs whose root digest is that of the snapshot.
     pub fn directory(&mut self) -> Result<Vec<Pair>, Error> {
@@ -562,6 +571,12 @@ impl Snapshot<'_> {
             raw::mst_sharded_copy(&mut self.0.hand, writer.ended(), &mut shard, &mut number)
         };
         writer.made(code, number, shard)
+    }
+}
+
+impl reads::Listing for Snapshot<'_> {
+    fn list(&mut self, from: &[u8], to: &[u8], limit: usize) -> Result<Vec<Pair>, Error> {
+        self.range(from, to, limit)
     }
 }
 

@@ -70,6 +70,9 @@ fn shows(then: &mut Snapshot<'_>, told: Told, map: &Map) {
     let pairs: Vec<_> = map.clone().into_iter().collect();
     assert_eq!(then.next(b""), Ok(pairs.first().cloned()));
     assert_eq!(then.range(b"0", b"p", 9).unwrap().len(), pairs_within(map).min(9));
+    assert_eq!(then.items(b"0", b"p").count(), pairs_within(map));
+    assert!(then.items(b"", b"").eq(pairs.iter().cloned().map(Ok)));
+    assert!(then.items(&[1; 33], b"").eq([Err(Error::BadKey)]));
     assert_eq!(then.range(b"", b"", usize::MAX), Ok(pairs));
 }
 

@@ -60,9 +60,11 @@ fn answers_are_those_of_a_map() {
         let above = map.range(asked.clone()..).find(|(key, _)| **key > asked);
         assert_eq!(pass.next(&asked), Ok(above.map(|(key, value)| (key.clone(), value.clone()))));
     }
-    assert!(pass.items().eq(map.clone()));
+    assert!(pass.items(b"", b"").eq(map.clone().into_iter().map(Ok)));
     for limit in 0..120 {
         let (from, to) = (random.key(), random.key());
+        let within = map.clone().into_iter().filter(|(key, _)| *key >= from && *key < to);
+        assert!(pass.items(&from, &to).eq(within.map(Ok)));
         let within = map.iter().filter(|(key, _)| **key >= from && **key < to);
         let wanted: Vec<_> =
             within.take(limit).map(|(key, value)| (key.clone(), value.clone())).collect();
@@ -77,6 +79,44 @@ fn answers_are_those_of_a_map() {
     assert!(pass.page_after(&[], &[], usize::MAX).unwrap().into_iter().eq(map.clone()));
     assert!(pass.range(&[], &[], usize::MAX).unwrap().into_iter().eq(map.clone()));
     assert!(pass.try_rows().unwrap() as usize >= map.len());
+}
+
+/// Takes out each pair that a reader comes to, which are all.
+fn empty(writer: &mut Pass, reader: &mut impl Reads, map: &BTreeMap<Vec<u8>, Vec<u8>>) {
+    let removed = reader.items(b"", b"").map(|pair| {
+        let (key, value) = pair.unwrap();
+        assert_eq!(writer.remove(&key), Ok(Some(value.clone())));
+        (key, value)
+    });
+    assert!(removed.eq(map.clone()));
+    assert_eq!(writer.next(b""), Ok(None));
+}
+
+#[test]
+fn items_are_the_pairs_of_their_pages() {
+    for count in [0, 1, 63, 64, 65, 127, 128, 190, 300_u16] {
+        let mut passes = open(2000, 2).unwrap();
+        let (mut reader, mut writer) = (passes.pop().unwrap(), passes.pop().unwrap());
+        let key = |number: u16| [&[255; 30][..], &number.to_be_bytes()].concat();
+        let map: BTreeMap<_, _> = (0..count).map(|number| (key(number), vec![7])).collect();
+        let edits: Vec<_> = map.iter().map(|(key, value)| Put(key, value)).collect();
+        writer.apply(&edits).unwrap();
+        let mut then = reader.pin();
+        empty(&mut writer, &mut then, &map);
+        for from in (0..=count).step_by(9) {
+            let wanted = map.range(key(from)..key(from + 130));
+            let wanted = wanted.map(|(key, value)| Ok((key.clone(), value.clone())));
+            assert!(then.items(&key(from), &key(from + 130)).eq(wanted));
+            let mut items = then.items(&key(from), b"");
+            assert_eq!(items.by_ref().count(), usize::from(count - from));
+            assert_eq!(items.next(), None);
+            assert_eq!(then.items(b"", b"").take(from.into()).count(), from.into());
+        }
+        drop(then);
+        // a free pass goes on behind a pair that is gone
+        writer.apply(&edits).unwrap();
+        empty(&mut writer, &mut reader, &map);
+    }
 }
 
 #[test]
@@ -184,7 +224,7 @@ fn a_migration_gives_the_root_of_a_store_in_that_format() {
         assert_eq!((twin.format(), twin.root()), (format, pass.root()), "step {step}");
         assert_eq!(pass.prove(&asked), twin.prove(&asked));
     }
-    assert!(pass.items().eq(map));
+    assert!(pass.items(b"", b"").eq(map.into_iter().map(Ok)));
 }
 
 #[test]
@@ -223,10 +263,10 @@ fn a_pinned_version_stays_while_another_thread_writes() {
         for _ in 0..200 {
             let mut then = reader.pin();
             let (version, root) = (then.version(), then.root());
-            let pairs: Vec<_> = then.items().collect();
+            let pairs: Vec<_> = then.items(b"", b"").collect();
             assert_eq!(pairs.len(), 50);
             thread::yield_now();
-            assert!(then.items().eq(pairs));
+            assert!(then.items(b"", b"").eq(pairs));
             assert_eq!((then.version(), then.root()), (version, root));
         }
     });
@@ -271,6 +311,11 @@ fn refusals_have_their_errors() {
     assert_eq!(pass.page_after(&[], &[1; 33], 1), Err(Error::BadKey));
     assert_eq!(pass.page_after(&[1; 33], &[], 1), Err(Error::BadKey));
     assert_eq!(pass.page_after(&[255; 32], &[], 1), Ok(vec![]));
+    for (from, to) in [(33, 0), (0, 33), (5000, 1)] {
+        let bounds = (vec![1; from], vec![1; to]);
+        let items = pass.items(&bounds.0, &bounds.1);
+        assert!(items.eq([Err(Error::BadKey)]));
+    }
     assert_eq!(pass.put(b"key", &[1; 65]), Err(Error::BadValue));
     assert_eq!(pass.try_put(b"key", &[1; 65]), Err(TryError::Refused(Error::BadValue)));
     assert_eq!(pass.put(&[255; 32], &[1; 64]), Ok(None));
@@ -303,8 +348,8 @@ fn passes_are_shown_and_refusals_lifted() {
     assert_eq!(open(3, 1).unwrap_err(), Error::BadShape);
     assert!(format!("{pass:?}").starts_with("Pass"));
     assert!(format!("{:?}", pass.pin()).starts_with("Pinned"));
-    assert!(format!("{:?}", pass.items()).starts_with("Items"));
-    assert_eq!(fused(pass.items()), 0);
+    assert!(format!("{:?}", pass.items(b"", b"")).starts_with("Items"));
+    assert_eq!(fused(pass.items(b"", b"")), 0);
 }
 
 #[test]

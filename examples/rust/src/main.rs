@@ -44,7 +44,8 @@ fn main() -> Result<(), Error> {
     assert_eq!(then.root(), root);
     println!("the pinned value is 30, its proof has {} bytes", then.prove(b"apple")?.len());
     drop(then);
-    for (key, value) in auditor.items() {
+    for pair in auditor.items(b"", b"") {
+        let (key, value) = pair?;
         println!("{} {}", String::from_utf8_lossy(&key), String::from_utf8_lossy(&value));
     }
     Ok(())
