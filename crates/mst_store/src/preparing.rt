@@ -48,8 +48,8 @@ pub struct Revealed<'a, A: Allocator + Copy, B: Allocator> {
     seat: PassSeat<'a, A>,
     turn: finishing::PublishedTurn<A>,
     parameters: PassParameters,
-    /// Kept to be freed later: while one store's batch is published and another's is not yet,
-    /// readers of both wait.
+    /// Kept, to be freed by [`Revealed::close`]: who reads several stores as one has to try again
+    /// while some of them are published and others are not.
     edits: Vec<Edit, B>,
 }
 
