@@ -24,7 +24,7 @@ use Rattle.mst_blocks.specs.Staging.{PreparesNext, Staged, AllStaged, IsStaged, 
 use Rattle.mst_blocks.specs.declared.faults.PartFault.{PartFault}
 use Rattle.mst_blocks.specs.declared.faults.PartFault.TheVariants as part_fault
 use Rattle.mst_blocks.specs.declared.blocks.Stage.{Stage}
-use Rattle.mst_blocks.specs.declared.blocks.Stage.TheVariants.{Idle, Ready}
+use Rattle.mst_blocks.specs.declared.blocks.Stage.TheVariants.{Idle, Ready, Revealed}
 use Rattle.mst_shards.proofs.Intervals.{drop_shards, length-shards}
 use Rattle.std.proofs.Math.ListN.{drop_of_length-le}
 
@@ -174,8 +174,10 @@ adds_one : {A B : Type 0} (part : List Edit) (p : Known) (t : Stage A B) → Sta
     → AddsPart part p (published_stage t)
 adds_one [] p (Idle q) staged = staged
 adds_one [] p (Ready w) staged = absurd staged
+adds_one [] p (Revealed q) staged = absurd staged
 adds_one (e ∷ part) p (Idle q) staged = absurd staged
 adds_one (e ∷ part) p (Ready w) staged = batch_added (e ∷ part) p w staged
+adds_one (e ∷ part) p (Revealed q) staged = absurd staged
 
 pub adds_all : {A B : Type 0} (parts : List (List Edit)) (ps : List Known)
     (ts : List (Stage A B)) → AllStaged parts ps ts → AllAdd parts ps (map published_stage ts)
@@ -194,7 +196,9 @@ lists_one : {A B : Type 0} (s : Shard) (part : List Edit) (p : Known) (t : Stage
     → listed_stage s t ≡ listed_part s part (published_stage t)
 lists_one s [] p (Idle q) staged = refl
 lists_one s [] p (Ready w) staged = absurd staged
+lists_one s [] p (Revealed q) staged = absurd staged
 lists_one s (e ∷ part) p (Idle q) staged = absurd staged
+lists_one s (e ∷ part) p (Revealed q) staged = absurd staged
 lists_one s (e ∷ part) p (Ready w) staged =
     let event = made_by w.known (Batch w.edits) in
     ap (λ (f : Format). Put s.low (root_of f (batched (after w.known.seen) w.edits)
@@ -321,11 +325,6 @@ goes_mapped {X} {Y} f all front left rest t q new is next same pushed =
     ∙ sym (append_assoc front (f t ∷ []) (map f rest))
     ∙ ap (λ (x : Y). (front ++ x ∷ []) ++ map f rest) (sym same)
     ∙ ap (λ (l : List Y). l ++ map f rest) (sym pushed)
-
-pub mapped_more : {X Y : Type 0} (f : X → Y) (front : List X) (t : X)
-    → map f (front ++ t ∷ []) ≡ map f front ++ f t ∷ []
-mapped_more {X} {Y} f [] t = refl
-mapped_more {X} {Y} f (x ∷ front) t = ap (λ (l : List Y). f x ∷ l) (mapped_more f front t)
 
 pub mapped_gone : {X Y : Type 0} (f : X → Y) (all front : List Y) (left : List X)
     → all ≡ front ++ map f left → length left ≡ 0 → front ≡ all

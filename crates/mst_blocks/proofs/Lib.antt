@@ -8,3 +8,4 @@ pub mod Ordered
 pub mod PartsDealt
 pub mod Reading
 pub mod Relisted
+pub mod Revealing

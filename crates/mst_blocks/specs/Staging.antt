@@ -13,9 +13,7 @@ use Rattle.mst_blocks.specs.Blocks.{last_made, MakesBlock, MakesNothing, LeavesA
 use Rattle.mst_blocks.specs.declared.faults.BlockFault.{BlockFault}
 use Rattle.mst_blocks.specs.declared.faults.PartFault.{PartFault}
 use Rattle.mst_blocks.specs.declared.blocks.Stage.{Stage}
-use Rattle.mst_blocks.specs.declared.blocks.Stage.TheVariants.{Idle, Ready}
-use Rattle.mst_blocks.specs.declared.publishing.Shown.{Shown}
-use Rattle.mst_blocks.specs.declared.publishing.Shown.TheVariants as shown
+use Rattle.mst_blocks.specs.declared.blocks.Stage.TheVariants.{Idle, Ready, Revealed}
 
 -- A pass has prepared edits on the version that it made last. The map then is one that a store can
 -- have
@@ -30,8 +28,10 @@ pub record PreparesNext (edits : List Edit) (p : Known) (w : Waiting) : Type 0 w
 abbrev pub Staged : {A B : Type 0} → List Edit → Known → Stage A B → Type 0
 Staged [] p (Idle q) = q ≡ p
 Staged [] p (Ready w) = ⊥
+Staged [] p (Revealed q) = ⊥
 Staged (e ∷ edits) p (Idle q) = ⊥
 Staged (e ∷ edits) p (Ready w) = PreparesNext (e ∷ edits) p w
+Staged (e ∷ edits) p (Revealed q) = ⊥
 
 -- each shard was, one after the other
 abbrev pub AllStaged : {A B : Type 0} → List (List Edit) → List Known → List (Stage A B) → Type 0
@@ -46,22 +46,32 @@ AllStaged (part ∷ parts) (p ∷ ps) (t ∷ stages) = Staged part p t × AllSta
 abbrev pub published_stage : {A B : Type 0} → Stage A B → Known
 published_stage (Idle q) = q
 published_stage (Ready w) = published w.edits w.known
+published_stage (Revealed q) = q
 
--- what its pass knows while the others are published
-abbrev pub shown_pass : {A B : Type 0} → Shown A B → Known
-shown_pass (shown.Idle q) = q
-shown_pass (shown.Revealed q) = q
+-- the shard while the others are published
+abbrev pub revealed_stage : {A B : Type 0} → Stage A B → Stage A B
+revealed_stage (Idle q) = Idle q
+revealed_stage (Ready w) = Revealed (published w.edits w.known)
+revealed_stage (Revealed q) = Revealed q
 
--- what its pass knows once what was prepared is taken back
+-- it has nothing prepared that is not published
+abbrev pub IsShown : {A B : Type 0} → Stage A B → Type 0
+IsShown (Idle q) = Unit {0}
+IsShown (Ready w) = ⊥
+IsShown (Revealed q) = Unit {0}
+
+-- what its pass knows once what was prepared is taken back, unless it is published
 abbrev pub canceled_stage : {A B : Type 0} → Stage A B → Known
 canceled_stage (Idle q) = q
 canceled_stage (Ready w) = w.known
+canceled_stage (Revealed q) = q
 
 -- the edit by which the directory lists the map that waits at a shard, if one does
 abbrev pub listed_stage : {A B : Type 0} → Shard → Stage A B → List Edit
 listed_stage s (Idle q) = []
 listed_stage s (Ready w) = Put s.low
     (root_of (format_seen w.known) (batched (after w.known.seen) w.edits) ++ bound_text s.high) ∷ []
+listed_stage s (Revealed q) = []
 
 abbrev pub listed_stages : {A B : Type 0} → List Shard → List (Stage A B) → List Edit
 listed_stages [] stages = []

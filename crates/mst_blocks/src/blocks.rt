@@ -14,10 +14,10 @@ ghost use Rattle.mst_blocks.specs.Blocks.{last_made, MakesBlock, MakesNothing, L
 ghost use Rattle.mst_blocks.specs.Staging.{PreparesNext, Staged, AllStaged, IsStaged, Concludes, canceled_stage, listed_stage, listed_stages};
 
 use crate::faults::{BlockFault, PartFault};
-use crate::publishing::{Shown, publish_all};
+use crate::publishing::publish_all;
 use mst_key::{Edit, Key, Memory};
-use mst_shards::{high_key, list_with_room, listing, low_key};
-use mst_store::{Pass, Prepared};
+use mst_shards::{high_key, listing, low_key};
+use mst_store::{Pass, Prepared, Revealed};
 use std::alloc::Allocator;
 use std::collections::VecDeque;
 use std::marker::Model;
@@ -29,6 +29,8 @@ pub enum Stage<'a, A: Allocator + Copy, B: Allocator> {
     Idle(Pass<'a, A>),
     /// Its part is prepared.
     Ready(Prepared<'a, A, B>),
+    /// Its part is published, and it has the turn.
+    Revealed(Revealed<'a, A, B>),
 }
 
 /// The edits of one shard.
@@ -95,28 +97,26 @@ pub fn prepare_next<'a, A: Allocator + Copy, B: Allocator, C: Allocator + Copy>(
     }
 }
 
-// Prepares the part of one shard, if it has edits.
+// Prepares the part of one shard, which has edits. It is a function of its own, so that no shard
+// without edits pays for filling with zeros what is held here.
 fn stage_one<'a, A: Allocator + Copy, B: Allocator, C: Allocator + Copy>(
     alloc: C,
     pass: Pass<'a, A>,
     part: Part<B>,
 ) -> (Stage<'a, A, B>, Option<PartFault>)
+    requires some { 0 < length part }
     ensures staged { IfNone result.1 (Staged part pass.entry result.0) }
     ensures refused { IfSome result.1 (λ fault. (0 < length part)
         × RefusesPart fault part pass.entry (canceled_stage result.0)) }
     ensures left { MakesNothing pass.entry (canceled_stage result.0) }
 {
-    let Part { edits } = part;
-    if edits.is_empty() {
-        return (Stage::Idle(pass), None);
-    }
-    match prepare_next(alloc, pass, edits) {
+    match prepare_next(alloc, pass, part.edits) {
         Ok(prepared) => (Stage::Ready(prepared), None),
         Err((fault, pass)) => (Stage::Idle(pass), Some(fault)),
     }
 }
 
-/// Prepares the part of the next shard, unless one before it was refused.
+/// Prepares the part of the next shard, if it has edits, and unless one before it was refused.
 pub fn stage_next<'a, A: Allocator + Copy, B: Allocator, C: Allocator + Copy>(
     alloc: C,
     pass: Pass<'a, A>,
@@ -132,6 +132,9 @@ pub fn stage_next<'a, A: Allocator + Copy, B: Allocator, C: Allocator + Copy>(
     ensures left { MakesNothing pass.entry (canceled_stage result) }
 {
     if stopped.is_some() {
+        return Stage::Idle(pass);
+    }
+    if part.edits.is_empty() {
         return Stage::Idle(pass);
     }
     let (stage, fault) = stage_one(alloc, pass, part);
@@ -186,6 +189,7 @@ fn cancel_one<'a, A: Allocator + Copy, B: Allocator>(stage: Stage<'a, A, B>) -> 
     match stage {
         Stage::Idle(pass) => pass,
         Stage::Ready(prepared) => prepared.cancel(),
+        Stage::Revealed(revealed) => revealed.close(),
     }
 }
 
@@ -246,24 +250,6 @@ fn list_stages<'a, A: Allocator + Copy, B: Allocator, C: Allocator>(
     Ok(edits)
 }
 
-// What a block takes memory for once its shards have prepared their parts: the directory's edits,
-// and the list of the shards while they are published.
-fn plan_listing<'a, A: Allocator + Copy, B: Allocator, C: Allocator + Copy>(
-    alloc: C,
-    splits: &[Key],
-    stages: &[Stage<'a, A, B>],
-) -> Result<(Vec<Edit, C>, Vec<Shown<'a, A, B>, C>), Memory>
-    requires count { length stages.now ≡ length splits.now + 1 }
-    ensures listed { IfOk result
-        (λ plan. plan.0.items ≡ listed_stages (shards_at splits.now) stages.now) }
-    ensures empty { IfOk result (λ plan. plan.1.items ≡ []) }
-    ensures fits { IfOk result (λ plan. length stages.now ≤ vec_capacity plan.1) }
-{
-    let edits = list_stages(alloc, splits, stages)?;
-    let shown = list_with_room(alloc, stages.len())?;
-    Ok((edits, shown))
-}
-
 /// Makes a block of what its shards have prepared: the directory lists their new root digests, and
 /// all are published ([`publish_all`]). If a shard was refused its part, or the directory is
 /// refused these edits, all is taken back. Returns the directory's new root digest.
@@ -293,8 +279,8 @@ pub fn conclude<'a, A: Allocator + Copy, B: Allocator, C: Allocator, D: Allocato
         let passes = cancel_all(stages, room);
         return (passes, directory, Err(BlockFault::Shard(place, fault)));
     }
-    let (edits, shown) = match plan_listing(alloc, splits, stages.as_slice()) {
-        Ok(plan) => plan,
+    let edits = match list_stages(alloc, splits, stages.as_slice()) {
+        Ok(edits) => edits,
         Err(refused) => {
             let passes = cancel_all(stages, room);
             return (passes, directory, Err(BlockFault::Memory(refused)));
@@ -303,7 +289,7 @@ pub fn conclude<'a, A: Allocator + Copy, B: Allocator, C: Allocator, D: Allocato
     match prepare_next(alloc, directory, edits) {
         Ok(listing) => {
             let digest = listing.root();
-            let (passes, directory) = publish_all(stages, listing, shown, room);
+            let (passes, directory) = publish_all(stages, listing, room);
             (passes, directory, Ok(digest))
         }
         Err((fault, directory)) => {

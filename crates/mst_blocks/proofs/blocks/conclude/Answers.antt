@@ -17,8 +17,8 @@ returns-in-Some-clause-concludes g c parts ps staged = record {
       c.cancel_all-passes.ensures.canceled;
 }
 
-pub plan_listing-requires : goal.plan_listing-requires
-plan_listing-requires g c =
+pub list_stages-requires : goal.list_stages-requires
+list_stages-requires g c =
     let ok = c.args.stages.ok.0 in
     let want = c.requires.shards in
     let same = ap (λ l. length l) c.as_slice.ensures.value in
@@ -43,7 +43,7 @@ returns-in-Ok-prepare_next-clause-concludes g c parts ps staged =
       ok = block_made c.args.splits.now parts ps c.publish_all-passes.result.0.items
           c.args.stages.items c.args.directory c.publish_all-passes.result.1
           c.in-Ok-prepare_next.listing
-          c.in-Ok.plan.0.items (staged.all none) c.publish_all-passes.ensures.shards
+          c.in-Ok.edits.items (staged.all none) c.publish_all-passes.ensures.shards
           (c.in-Ok.ensures.listed ∙ ap (λ ts. listed_stages (shards_at c.args.splits.now) ts)
           c.as_slice.ensures.value) c.in-Ok-prepare_next.ensures.ok
           c.publish_all-passes.ensures.directory;
@@ -57,19 +57,19 @@ returns-in-Ok-prepare_next-clause-root g c =
     c.root-digest.ensures.root c.publish_all-passes.ensures.directory
 
 -- the directory was refused its edits
-pub returns-clause-concludes : goal.returns-clause-concludes
-returns-clause-concludes g c parts ps staged =
+pub returns-in-Err-prepare_next-clause-concludes : goal.returns-in-Err-prepare_next-clause-concludes
+returns-in-Err-prepare_next-clause-concludes g c parts ps staged =
     let none : IsNone c.args.stopped = ap is_some c.in_default.is in
     record {
       ok = tt;
       err = block_left ps c.cancel_all-passes-in-Err-prepare_next.result.items
           c.args.stages.items c.args.directory c.in-Err-prepare_next.directory staged.left
           c.cancel_all-passes-in-Err-prepare_next.ensures.canceled
-          (part_nothing c.in-Err-prepare_next.fault c.in-Ok.plan.0.items c.args.directory
+          (part_nothing c.in-Err-prepare_next.fault c.in-Ok.edits.items c.args.directory
           c.in-Err-prepare_next.directory c.in-Err-prepare_next.ensures.err);
       why = listing_refused c.in-Err-prepare_next.fault c.args.splits.now parts ps
           c.args.stages.items c.args.directory c.in-Err-prepare_next.directory
-          c.in-Ok.plan.0.items (staged.all none)
+          c.in-Ok.edits.items (staged.all none)
           (c.in-Ok.ensures.listed ∙ ap (λ ts. listed_stages (shards_at c.args.splits.now) ts)
           c.as_slice.ensures.value) c.in-Err-prepare_next.ensures.err;
     }

@@ -1,15 +1,25 @@
-use Rattle.std.proofs.Common.{List, vec_items, subst}
+use Rattle.std.proofs.Common.{List, vec_items, subst, arith}
+use Rattle.std.proofs.lemmas.List.{length-map}
 use Rattle.mst_key.specs.declared.history.Edit.{Edit}
 use Rattle.mst_store.specs.Passes.{Known}
 use Rattle.mst_shards.specs.BlockHistory.{whole}
 use Rattle.mst_blocks.specs.Blocks.{parts_of, MakesBlock, LeavesAll, RefusesParts}
-use Rattle.mst_blocks.specs.Writing.{RefusesBlock}
+use Rattle.mst_blocks.specs.Writing.{at_last, RefusesBlock}
 use Rattle.mst_blocks.specs.declared.faults.BlockFault.{BlockFault}
 use Rattle.mst_blocks.proofs.Blocked.{writes_again, adds_block, writes_still, refuses_block, refused_before}
 use Rattle.mst_blocks.proofs.Kept.{made_keeps, left_keeps, either_way, on_ok, if_err}
 use Rattle.mst_blocks.proofs.making.make_block.Given.{Over}
 use Rattle.mst_blocks.proofs.making.make_block.Goals.{After-commit}
 use Rattle.mst_blocks.proofs.making.make_block.Goals as goal
+
+-- there is room for all shards
+pub commit-requires-clause-fits : goal.commit-requires-clause-fits
+commit-requires-clause-fits g c =
+    let count = c.requires.writer.block.sharding_is.count in
+    let same = length-map (vec_items c.args.passes) at_last in
+    let now = c.args.passes.ok.0 in
+    let room = c.in-Ok.ensures.room in
+    omega (arith, count, same, now, room)
 
 -- ---- a block that was asked for
 
