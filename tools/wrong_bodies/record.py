@@ -53,10 +53,30 @@ def is_hidden(before, line):
     return not line.startswith(" ") or is_inherent(before)
 
 
+def is_seen(field, words):
+    """Whether crates above see a field of a type with a model of these words."""
+    return field.startswith("    pub ") or field.split(":")[0].strip() in words
+
+
+def without_unseen(text):
+    """Code without the fields of types with a model that neither are public nor stand in the model:
+    of such a value crates above know the model's value alone."""
+
+    def seen(struct):
+        models = re.findall(rf"(?ms)^impl\b[^{{]* Model for {struct[2]}\b.*?^\}}", text)
+        words = {*re.findall(r"\w+", "\n".join(models))}
+        fields = re.split(r"(?m)^(?=    (?:pub )?\w+:)", struct[3])
+        kept = [it for it in fields if not models or is_seen(it, words)]
+        return struct[1] + "".join(kept) + "}"
+
+    return re.sub(r"(?ms)^((?:pub )?struct (\w+)\b[^;{]*\{\n)(.*?)^\}", seen, text)
+
+
 def without_hidden(text):
-    """Code without what crates above cannot name: functions that are not public, and imports. Nor
-    can they tell a field of the crate from one of its module."""
-    lines = text.replace("pub(crate) ", "").split("\n")
+    """Code without what crates above cannot name: functions that are not public, fields that they
+    do not see, and imports. Nor can they tell a field of the crate from one of its module."""
+    text = without_unseen(re.sub(r"(?m)^ *//.*\n", "", text.replace("pub(crate) ", "")))
+    lines = text.split("\n")
     for it in functions_of("", text):
         first = it.first
         if is_hidden("\n".join(lines[:first]), lines[first]):
