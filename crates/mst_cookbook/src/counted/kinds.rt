@@ -26,10 +26,14 @@ pub enum Kind {
     Load,
     /// Gets of passes, one after the other, each of a store that has the keys of one shard.
     GetOfPasses,
+    /// Batches of passes, each of a store that has the keys of one shard: of so many puts in all.
+    BatchesOfPasses(u32),
     /// Gets of a reader of a map of shards.
     GetOfReader,
     /// Puts into a store that has what a directory has: a pair for each shard.
     PutOfListing,
+    /// Batches of a put of each pair of such a store.
+    BatchOfListings,
     /// Blocks of a map of shards, and snapshots of them.
     Blocks(Block),
 }
@@ -86,8 +90,13 @@ const KINDS: &[(Kind, &str)] = &[
     (Kind::Migrate, "migrate"),
     (Kind::Load, "load"),
     (Kind::GetOfPasses, "get in stores of one shard"),
+    (
+        Kind::BatchesOfPasses(LARGE.edits),
+        "batches in stores of one shard",
+    ),
     (Kind::GetOfReader, "get of a reader"),
     (Kind::PutOfListing, "put of a listing"),
+    (Kind::BatchOfListings, "batch of listings"),
     (Kind::Blocks(SEEN), "snapshot of a block"),
     (Kind::Blocks(ONE), "block of 1 edit"),
     (
@@ -112,7 +121,12 @@ impl Kind {
     pub fn is_sharded(self) -> bool {
         matches!(
             self,
-            Kind::GetOfPasses | Kind::GetOfReader | Kind::PutOfListing | Kind::Blocks(_)
+            Kind::GetOfPasses
+                | Kind::BatchesOfPasses(_)
+                | Kind::GetOfReader
+                | Kind::PutOfListing
+                | Kind::BatchOfListings
+                | Kind::Blocks(_)
         )
     }
 }
@@ -133,7 +147,8 @@ fn make_one_kind(alloc: Global, pass: &mut Pass<'_, Global>, keys: &[Key], of: &
     match of.kind {
         Kind::Put => changes::put(pass, keys, of.calls, false),
         Kind::PutOfListing => changes::put(pass, keys, of.calls, true),
-        Kind::PutInBatches(size) => batches::put(alloc, pass, keys, of.calls, size),
+        Kind::PutInBatches(size) => batches::put(alloc, pass, keys, of.calls, size, false),
+        Kind::BatchOfListings => batches::put_all(alloc, pass, keys, of.calls),
         Kind::RemoveAndPutBack => changes::remove_and_put_back(pass, keys, of.calls),
         Kind::Version => reads::version(pass, of.calls),
         Kind::Next => reads::next(pass, keys, of.calls),
@@ -150,6 +165,6 @@ fn make_one_kind(alloc: Global, pass: &mut Pass<'_, Global>, keys: &[Key], of: &
 pub fn make(alloc: Global, pass: &mut Pass<'_, Global>, keys: &[Key], of: &Calls) -> bool
     requires some { 0 < length keys.now }
 {
-    let lists = matches!(of.kind, Kind::PutOfListing);
+    let lists = matches!(of.kind, Kind::PutOfListing | Kind::BatchOfListings);
     changes::fill(pass, keys, lists) && make_one_kind(alloc, pass, keys, of)
 }

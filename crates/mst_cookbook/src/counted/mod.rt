@@ -45,8 +45,8 @@ fn make(rt: &HostRuntime, keys: &[Key], of: &Calls) -> Result<()>
 {
     match of.kind {
         Kind::Load => batches::load(rt, keys, of),
-        Kind::GetOfPasses => shards::run_passes(rt, keys, of),
-        Kind::PutOfListing => shards::run_listings(rt, keys, of),
+        Kind::GetOfPasses | Kind::BatchesOfPasses(_) => shards::run_passes(rt, keys, of),
+        Kind::PutOfListing | Kind::BatchOfListings => shards::run_listings(rt, keys, of),
         Kind::GetOfReader => blocks::run_gets(rt, keys, of),
         Kind::Blocks(each) => blocks::run(rt, keys, of, each),
         _ => alone::run(rt, keys, &[], of),

@@ -1,9 +1,10 @@
-//! The shape of the sharded map whose calls are counted; and gets of its keys in single stores, and
-//! puts into a store with the pairs of a directory.
+//! The shape of the sharded map whose calls are counted; and gets and batches of its keys in single
+//! stores, and puts into a store with the pairs of a directory.
 ghost use Rattle.std.specs.Prelude.{◌<◌, ◌≤◌, IfOk, length};
 ghost use Rattle.mst_store.specs.Passes.{most_rows};
 
 use super::alone;
+use super::kinds::Kind;
 use super::words::Calls;
 use anyhow::{Error, Result};
 use mst_key::{Format, Key};
@@ -40,16 +41,35 @@ pub fn shape(keys: &[Key], format: Format, passes: u32) -> Shape
     }
 }
 
-// Makes gets in a store that has the keys of this shard.
+// The calls in a store that has the keys of one shard: its part of the puts of a block, as a batch,
+// or of the gets.
+fn part(of: &Calls) -> Calls {
+    match of.kind {
+        Kind::BatchesOfPasses(puts) => {
+            let most = puts.div_ceil(SHARDS as u32);
+            let calls = of.calls.saturating_mul(puts) / SHARDS as u32;
+            Calls {
+                kind: Kind::PutInBatches(most),
+                calls,
+                ..*of
+            }
+        }
+        _ => Calls {
+            calls: of.calls / SHARDS as u32,
+            ..*of
+        },
+    }
+}
+
+// Makes calls in a store that has the keys of this shard.
 fn run_pass(rt: &HostRuntime, keys: &[Key], of: &Calls) -> Result<()> {
     if keys.is_empty() {
         return Err(Error::msg("each shard has a key"));
     }
-    let calls = of.calls / SHARDS as u32;
-    alone::run(rt, keys, &[], &Calls { calls, ..*of })
+    alone::run(rt, keys, &[], &part(of))
 }
 
-/// Makes gets in stores of their own, one after the other, each of which has the keys of a shard.
+/// Makes calls in stores of their own, one after the other, each of which has the keys of a shard.
 pub fn run_passes(rt: &HostRuntime, keys: &[Key], of: &Calls) -> Result<()> {
     let part = keys.len() / SHARDS;
     for shard in 0..SHARDS {
@@ -73,7 +93,8 @@ fn bounds(alloc: Global, keys: &[Key]) -> Result<Vec<Key>, AllocError>
     Ok(bounds)
 }
 
-/// Makes puts into a store that has what the directory has: a listing at each bound.
+/// Makes puts, alone or in batches, into a store that has what the directory has: a listing at each
+/// bound.
 pub fn run_listings(rt: &HostRuntime, keys: &[Key], of: &Calls) -> Result<()> {
     let bounds = bounds(rt.alloc(), keys)?;
     alone::run(rt, &bounds, &[], of)

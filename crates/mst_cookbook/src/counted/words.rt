@@ -23,7 +23,8 @@ KIND is one of: put, put in batches of N (1, 10, 100, 1000 or 10000; each put is
   remove and put back, version, get, get of a pinned version, next, range of 100, prove, verify,
   migrate (to the other format, and back); of a map of 32 shards, or of stores that have its keys:
   get of a reader, get in stores of one shard, put of a listing, snapshot of a block,
-  block of 1 edit, block of 1 edit and its snapshot, block of 1000 edits";
+  block of 1 edit, block of 1 edit and its snapshot, block of 1000 edits,
+  batches in stores of one shard (of 1000 edits in all), batch of listings";
 
 // The number that a word spells, if it is above 0.
 fn number(word: &str) -> Option<u32> {
