@@ -77,6 +77,27 @@ pub fn bit_in_use(words: &[u64], summary: &[u64], at: usize) -> Option<usize>
     Some(64 * word + words[word].trailing_zeros() as usize)
 }
 
+/// Whether a bit is set. None behind the last word is.
+pub fn is_set(words: &[u64], index: usize) -> bool
+    ensures set { result ≡ true ↔ bit words.now index ≡ 1 }
+{
+    index / 64 < words.len() && (words[index / 64] >> (index % 64)) % 2 == 1
+}
+
+/// Whether so many bits from this one on are set.
+pub fn are_set(words: &[u64], from: usize, count: usize) -> bool
+    requires few { from + count < 2 ^ 63 }
+    ensures set { result ≡ true
+        ↔ ((i : ℕ) → from ≤ i → i < from + count → bit words.now i ≡ 1) }
+{
+    for index in from..from + count {
+        if !is_set(words, index) {
+            return false;
+        }
+    }
+    true
+}
+
 /// Sets a bit, in the words and their summary.
 pub fn put_bit(words: &mut [u64], summary: &mut [u64], index: usize)
     requires sums { Sums words.old summary.old }

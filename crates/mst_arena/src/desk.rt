@@ -177,6 +177,37 @@ impl<A: Allocator> Desk<A> {
         Some(row)
     }
 
+    /// Takes a free row, as [`Desk::take`] does, for the head of a node that takes so many rows. If
+    /// it takes the place of a node whose head is in the row `replaced`, its rows are those where
+    /// an earlier version of it stood, if they are free.
+    pub fn take_head(&mut self, replaced: Option<u32>, count: u32) -> Option<u32>
+        ensures some { IfSome result (λ r. (slice_get self.old.lives r ≡ Some Free)
+            × (self.new ≡ with_life self.old r (Born (next self.old)))) }
+        ensures none { IfNone result ((free_count self.old.lives ≡ 0) × (self.new ≡ self.old)) }
+    {
+        let Some(replaced) = replaced else {
+            return self.take();
+        };
+        self.go_home(replaced, count);
+        let head = self.take()?;
+        self.note_home(head, replaced);
+        Some(head)
+    }
+
+    // Has the next rows be those where the node of this head stood before, if they are free.
+    fn go_home(&mut self, head: u32, count: u32)
+        ensures same { self.new ≡ self.old }
+    {
+        self.free.go_home(head, count);
+    }
+
+    // The node of this head takes the place of that of another.
+    fn note_home(&mut self, head: u32, before: u32)
+        ensures same { self.new ≡ self.old }
+    {
+        self.free.note_home(head, before);
+    }
+
     /// Frees a row that was taken in this write: it was born with the version to come.
     pub fn give_back(&mut self, row: u32)
         requires taken { slice_get self.old.lives row ≡ Some (Born (next self.old)) }

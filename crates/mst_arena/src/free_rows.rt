@@ -1,9 +1,11 @@
-//! The free rows: a bitmap of two levels, from which rows are handed out upwards.
-ghost use Rattle.std.specs.Prelude.{◌≡◌, ◌≤◌, ◌<◌, vec_capacity, true, false, Some, replicate, slice_get, slice_set, IfOk, IfSome, IfNone};
-ghost use Rattle.mst_arena.specs.Bits.{count_true};
+//! The free rows: a bitmap of two levels, from which rows are handed out upwards, or where a node
+//! stood before.
+ghost use Rattle.std.specs.Prelude.{◌≡◌, ◌≤◌, ◌<◌, ◌+◌, ◌/◌, ◌^◌, ℕ, length, vec_capacity, true, false, Some, replicate, slice_get, slice_index, slice_set, IfOk, IfSome, IfNone};
+ghost use Rattle.mst_arena.specs.Bits.{Sums, bit, count_true};
 ghost use Rattle.mst_arena.specs.Limits.{most_rows};
 
-use crate::bits::{bit_in_use, put_bit, take_bit};
+use crate::bits::{are_set, bit_in_use, is_set, put_bit, take_bit};
+use crate::homes::Homes;
 use mst_key::Memory;
 use std::alloc::Allocator;
 use std::marker::Model;
@@ -13,12 +15,18 @@ use std::marker::Model;
 pub struct FreeRows<A: Allocator> {
     rows: u32,
     count: u32,
-    /// The word of which a row was last taken.
+    /// The word of which a row was last taken, but for those of a run.
     at: usize,
+    /// The next row of a run, which is taken before others.
+    run: usize,
+    /// How many rows of the run are left.
+    left: u32,
     /// A bit for each row.
     words: Vec<u64, A>,
     /// A bit for each word that is not 0.
     summary: Vec<u64, A>,
+    /// Where nodes stood before.
+    homes: Homes<A>,
 }
 
 /// Contracts see for each row whether it is in the set.
@@ -45,6 +53,47 @@ fn zeros<A: Allocator>(alloc: A, count: usize) -> Result<Vec<u64, A>, Memory>
     Ok(words)
 }
 
+/// A bit that is set: if rows of a run are left, the next of them as long as it is in the set;
+/// otherwise the lowest of word `at`, or if that is 0, of the next word that is not 0.
+fn row_in_use(words: &[u64], summary: &[u64], at: usize, run: usize, left: u32) -> Option<usize>
+    requires sums { Sums words.now summary.now }
+    requires few { length words.now < 2 ^ 32 }
+    requires few_sums { length summary.now < 2 ^ 32 }
+    requires there { at < length words.now }
+    ensures some { IfSome result (λ i. bit words.now i ≡ 1) }
+    ensures none { IfNone result ((w : ℕ) → slice_index words.now w ≡ 0) }
+{
+    if left != 0 && is_set(words, run) {
+        return Some(run);
+    }
+    bit_in_use(words, summary, at)
+}
+
+/// The word at which the next search begins, once this row is taken: a row of a run leaves it.
+fn word_after(at: usize, left: u32, row: usize) -> usize
+    ensures within { (n : ℕ) → at < n → row / 64 < n → result < n }
+{
+    if left != 0 { at } else { row / 64 }
+}
+
+/// How many versions of a node are gone back.
+const STEPS: u32 = 8;
+
+/// Where the node of this head stood last, of the places with so many rows in the set.
+fn free_home<A: Allocator>(homes: &Homes<A>, words: &[u64], head: u32, count: u32) -> Option<usize>
+    ensures free { IfSome result
+        (λ home. (i : ℕ) → home ≤ i → i < home + count → bit words.now i ≡ 1) }
+{
+    let mut place = head;
+    for _ in 0..STEPS {
+        place = homes.before(place)?;
+        if are_set(words, place as usize, count as usize) {
+            return Some(place as usize);
+        }
+    }
+    None
+}
+
 impl<A: Allocator + Copy> FreeRows<A> {
     /// All of so many rows.
     pub fn new(alloc: A, rows: u32) -> Result<FreeRows<A>, Memory>
@@ -59,8 +108,11 @@ impl<A: Allocator + Copy> FreeRows<A> {
             rows,
             count: 0,
             at: 0,
+            run: 0,
+            left: 0,
             words,
             summary,
+            homes: Homes::new(alloc, rows)?,
         };
         for row in 0..rows {
             free.put(row);
@@ -77,15 +129,35 @@ impl<A: Allocator> FreeRows<A> {
         self.count
     }
 
+    /// Has the next rows be taken where the node of this head stood before, if so many rows from
+    /// there on are in the set.
+    pub fn go_home(&mut self, head: u32, count: u32)
+        ensures same { self.new ≡ self.old }
+    {
+        if let Some(home) = free_home(&self.homes, &self.words, head, count) {
+            self.run = home;
+            self.left = count;
+        }
+    }
+
+    /// The node of this head takes the place of that of another.
+    pub fn note_home(&mut self, head: u32, before: u32)
+        ensures same { self.new ≡ self.old }
+    {
+        self.homes.note(head, before);
+    }
+
     /// Takes a row out of the set.
     pub fn take(&mut self) -> Option<u32>
         ensures some { IfSome result (λ r. (slice_get self.old r ≡ Some true)
             × (self.new ≡ slice_set self.old r false)) }
         ensures none { IfNone result ((count_true self.old ≡ 0) × (self.new ≡ self.old)) }
     {
-        let row = bit_in_use(&self.words, &self.summary, self.at)?;
+        let row = row_in_use(&self.words, &self.summary, self.at, self.run, self.left)?;
         take_bit(&mut self.words, &mut self.summary, row);
-        self.at = row / 64;
+        self.at = word_after(self.at, self.left, row);
+        self.run = row + 1;
+        self.left = self.left.saturating_sub(1);
         self.count -= 1;
         Some(row as u32)
     }

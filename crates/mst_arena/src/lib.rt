@@ -29,6 +29,7 @@ mod desk;
 mod entry_text;
 mod entry_words;
 mod free_rows;
+mod homes;
 mod laws;
 mod life;
 mod parts;

@@ -185,6 +185,7 @@ fn sow_node<R: Rows, A: Allocator, B: Allocator>(
     let is_copy = begins_as_before(node.entries.as_slice());
     let mut writer = NodeWriter::begin(
         desk,
+        None,
         node.layer,
         node.entries.len() as u32,
         format,

@@ -89,7 +89,7 @@ fn fill<R: Rows, A: Allocator>(
         back: frame.back,
         tail: frame.tail,
     };
-    make_node(rows, desk, &parts, format)
+    make_node(rows, desk, Some(frame.head), &parts, format)
 }
 
 /// Makes the node of the frame with the tree in its gap, or returns that tree as it is if the frame

@@ -55,10 +55,12 @@ pub(crate) struct NodeParts {
     pub(crate) tail: u32,
 }
 
-/// Makes the node of the parts.
+/// Makes the node of the parts. It takes the place of the node whose head is in the row `head`, if
+/// there is one.
 pub(crate) fn make_node<R: Rows, A: Allocator>(
     rows: &mut R,
     desk: &mut Desk<A>,
+    head: Option<u32>,
     parts: &NodeParts,
     format: Format,
 ) -> Root
@@ -77,7 +79,7 @@ pub(crate) fn make_node<R: Rows, A: Allocator>(
     ensures beside { StaysBeside R.blank R.kept rows.old rows.new }
 {
     let count = parts.front.count + parts.back.count;
-    let mut writer = NodeWriter::begin(desk, parts.layer, count, format, true);
+    let mut writer = NodeWriter::begin(desk, head, parts.layer, count, format, true);
     move_run(
         rows,
         desk,
@@ -89,10 +91,12 @@ pub(crate) fn make_node<R: Rows, A: Allocator>(
 }
 
 /// Makes the node of the parts, with a new entry between the front and the seam, and a tree in the
-/// gap before it. The new entry takes the place of the one in the row `replaced`, if there is one.
+/// gap before it. It takes the place of the node whose head is in the row `head`, and the new entry
+/// that of the one in the row `replaced`, if there are such.
 pub(crate) fn make_node_with<R: Rows, A: Allocator>(
     rows: &mut R,
     desk: &mut Desk<A>,
+    head: Option<u32>,
     parts: &NodeParts,
     replaced: Option<u32>,
     child: &Root,
@@ -119,7 +123,7 @@ pub(crate) fn make_node_with<R: Rows, A: Allocator>(
     ensures beside { StaysBeside R.blank R.kept rows.old rows.new }
 {
     let count = parts.front.count + parts.back.count + 1;
-    let mut writer = NodeWriter::begin(desk, parts.layer, count, format, true);
+    let mut writer = NodeWriter::begin(desk, head, parts.layer, count, format, true);
     move_run(
         rows,
         desk,

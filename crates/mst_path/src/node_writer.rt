@@ -30,6 +30,18 @@ fn take_row<A: Allocator>(desk: &mut Desk<A>) -> u32
     }
 }
 
+/// Takes a free row for the head of a node of so many rows, which takes the place of the one whose
+/// head is in the row `replaced`, if there is one. A row is free.
+fn take_head<A: Allocator>(desk: &mut Desk<A>, replaced: Option<u32>, count: u32) -> u32
+    requires room { 0 < free_count desk.old.lives }
+    ensures takes { Takes desk.old desk.new (result ∷ []) }
+{
+    match desk.take_head(replaced, count) {
+        Some(row) => row,
+        None => unreachable!(),
+    }
+}
+
 /// Takes a free row for the next entry, if some are left.
 fn take_next<A: Allocator>(desk: &mut Desk<A>, left: u32) -> Option<u32>
     requires room { 0 < left → 0 < free_count desk.old.lives }
@@ -94,9 +106,11 @@ pub struct NodeWriter<A: Allocator> {
 
 impl<A: Allocator> NodeWriter<A> {
     /// A node of this layer and format with so many entries, none of them written yet, which is a
-    /// copy of another but for some entries, or all new. It takes two rows.
+    /// copy of another but for some entries, or all new. It takes two rows: if it takes the place
+    /// of a node whose head is in the row `replaced`, where that one stood before, if that is free.
     pub fn begin(
         desk: &mut Desk<A>,
+        replaced: Option<u32>,
         layer: u8,
         count: u32,
         format: Format,
@@ -112,7 +126,7 @@ impl<A: Allocator> NodeWriter<A> {
         ensures node { (result.layer ≡ layer) × (result.count ≡ count) × (result.left ≡ count) }
         ensures takes { Takes desk.old desk.new (result.head ∷ ahead result.next) }
     {
-        let head = take_row(desk);
+        let head = take_head(desk, replaced, count + 1);
         let first = take_row(desk);
         let mut hasher = hasher_for(desk, layer, is_copy);
         hasher.heading(format, layer, count as u16);

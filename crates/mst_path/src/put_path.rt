@@ -112,7 +112,7 @@ fn put_between<R: Rows, A: Allocator>(
         back: no_run(),
         tail: 0,
     };
-    make_node_with(rows, desk, &parts, None, lower, key, value, format)
+    make_node_with(rows, desk, None, &parts, None, lower, key, value, format)
 }
 
 /// Puts a new pair on top of a tree whose keys are all of lower layers: the tree is split, and the
@@ -175,7 +175,17 @@ fn close_with<R: Rows, A: Allocator>(
         back: frame.back,
         tail: frame.tail,
     };
-    let root = make_node_with(rows, desk, &parts, frame.other, lower, key, value, format);
+    let root = make_node_with(
+        rows,
+        desk,
+        Some(frame.head),
+        &parts,
+        frame.other,
+        lower,
+        key,
+        value,
+        format,
+    );
     kill_both(desk, frame.head, frame.other);
     root
 }

@@ -59,7 +59,7 @@ pub(crate) fn side<R: Rows, A: Allocator>(
     if parts.front.count + parts.back.count == 0 {
         return parts.seam;
     }
-    make_node(rows, desk, parts, format)
+    make_node(rows, desk, None, parts, format)
 }
 
 /// Makes both sides of a node, whose head dies.

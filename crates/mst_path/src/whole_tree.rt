@@ -83,7 +83,14 @@ fn plant_node<R: Rows, A: Allocator, B: Allocator>(
         (tree_of format node.now) result }
     ensures beside { StaysBeside R.blank R.kept rows.old rows.new }
 {
-    let mut writer = NodeWriter::begin(desk, node.layer, node.entries.len() as u32, format, false);
+    let mut writer = NodeWriter::begin(
+        desk,
+        None,
+        node.layer,
+        node.entries.len() as u32,
+        format,
+        false,
+    );
     for entry in &node.entries {
         let child = plant_child(rows, desk, &entry.child, format);
         writer.entry(rows, desk, None, &child, &entry.key, &entry.value);

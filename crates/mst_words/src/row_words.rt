@@ -23,15 +23,6 @@ use std::alloc::Allocator;
 /// The word of the lengths of a key of 16 bytes and a value of 32.
 pub(crate) const COMMON_LENGTHS: u64 = 16 + 256 * 32;
 
-/// Which words of a row are stored.
-#[derive(Clone, Copy)]
-enum Storing {
-    /// Each, with no look at the one that stands there.
-    Each,
-    /// Those alone that are other than the one that stands there: it is loaded first.
-    Changed,
-}
-
 impl<A: Allocator + Copy> Board<A> {
     /// How many rows the table has.
     #[inline(always)]
@@ -266,18 +257,11 @@ impl<A: Allocator + Copy> Board<A> {
         }
     }
 
-    /// Sets word k of a blank row to `value`. A store costs some twenty times as much as a load: so
-    /// it is dearer to store each word than those alone that change, unless almost all do.
+    /// Sets word k of a blank row to `value`. A store costs some twenty times as much as a load,
+    /// and a node that is written anew stands mostly where an earlier version of it stood: so the
+    /// word there is loaded first, and stored only if it is to be another.
     #[inline(always)]
-    fn store_word(
-        &self,
-        seat: &mut Token<A>,
-        rows: u32,
-        row: u32,
-        k: usize,
-        value: u64,
-        storing: Storing,
-    )
+    fn store_word(&self, seat: &mut Token<A>, rows: u32, row: u32, k: usize, value: u64)
         requires own { IsAt self.now seat.old.table_id seat.old.me.0.rows }
         requires wide { self.now.words ≡ table_words rows }
         requires blank { IsTrue (may_write seat.old.me.0 row) }
@@ -293,13 +277,8 @@ impl<A: Allocator + Copy> Board<A> {
         ensures room { (row < seat.old.me.0.rows)
             × (length seat.old.me.0.known_words ≡ table_words seat.old.me.0.rows) }
     {
-        match storing {
-            Storing::Each => self.store(seat, row_word(rows, row, k), value),
-            Storing::Changed => {
-                if self.word_of(seat, rows, row, k) != value {
-                    self.store(seat, row_word(rows, row, k), value);
-                }
-            }
+        if self.word_of(seat, rows, row, k) != value {
+            self.store(seat, row_word(rows, row, k), value);
         }
     }
 
@@ -323,7 +302,7 @@ impl<A: Allocator + Copy> Board<A> {
     {
         let rows = self.row_count();
         for k in 0..N {
-            self.store_word(seat, rows, row, k, words[k], Storing::Changed);
+            self.store_word(seat, rows, row, k, words[k]);
         }
     }
 
@@ -340,7 +319,6 @@ impl<A: Allocator + Copy> Board<A> {
         from: u32,
         to: u32,
         at: usize,
-        storing: Storing,
     ) -> [u64; N]
         requires own { IsAt self.now seat.old.table_id seat.old.me.0.rows }
         requires readable { may_read seat.old.me.0 from ≡ true }
@@ -364,17 +342,16 @@ impl<A: Allocator + Copy> Board<A> {
         for k in 0..N {
             let word = self.word_of(seat, rows, from, at + k);
             words[k] = word;
-            self.store_word(seat, rows, to, at + k, word, storing);
+            self.store_word(seat, rows, to, at + k, word);
         }
         for k in 0..M {
-            self.store_word(seat, rows, to, at + (N + k), 0, Storing::Changed);
+            self.store_word(seat, rows, to, at + (N + k), 0);
         }
         words
     }
 
     /// Copies the words of an entry's key and value into a blank row, and returns them. In an entry
-    /// with a key of 16 bytes and a value of 32, six of them are 0, and not loaded, and the others
-    /// are almost always other words than those of the blank row.
+    /// with a key of 16 bytes and a value of 32, six of them are 0, and not loaded.
     #[inline(always)]
     fn copy_bytes(
         &self,
@@ -401,14 +378,8 @@ impl<A: Allocator + Copy> Board<A> {
             seat.old.me.0.known_words seat.new.me.0.known_words }
     {
         if lengths == COMMON_LENGTHS {
-            let [a, b] = self.copy_part::<2, 2>(seat, from, to, FIRST_KEY_WORD, Storing::Each);
-            let [c, d, e, f] = self.copy_part::<4, 4>(
-                seat,
-                from,
-                to,
-                FIRST_VALUE_WORD,
-                Storing::Each,
-            );
+            let [a, b] = self.copy_part::<2, 2>(seat, from, to, FIRST_KEY_WORD);
+            let [c, d, e, f] = self.copy_part::<4, 4>(seat, from, to, FIRST_VALUE_WORD);
             ([a, b, 0, 0], [c, d, e, f, 0, 0, 0, 0])
         } else {
             let [a, b, c, d, e, f, g, h, i, j, k, l] = self.copy_part::<12, 0>(
@@ -416,7 +387,6 @@ impl<A: Allocator + Copy> Board<A> {
                 from,
                 to,
                 FIRST_KEY_WORD,
-                Storing::Changed,
             );
             ([a, b, c, d], [e, f, g, h, i, j, k, l])
         }

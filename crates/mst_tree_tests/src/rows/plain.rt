@@ -170,3 +170,27 @@ fn versions_at_the_limit(rt: HostRuntime) {
         && next_is(rt.alloc(), last - 1, Ok(last));
     confirm(&rt, next, "the last version");
 }
+
+/// The rows of a node of one entry, in place of the one whose head is in the row `replaced`.
+fn node_of(desk: &mut Desk<Global>, replaced: Option<u32>) -> Option<(u32, u32)> {
+    Some((desk.take_head(replaced, 2)?, desk.take()?))
+}
+
+// All rows are free again before the third node, row 0 among them. The fourth finds that home
+// taken, but not the one before it, and the fifth finds none.
+#[test]
+fn a_node_goes_home(rt: HostRuntime) {
+    let mut desk = Desk::new(rt.alloc(), 64, 2, 0).expect(&rt, "memory");
+    let lowest = desk.take() == Some(0);
+    let first = node_of(&mut desk, None) == Some((1, 2));
+    let second = node_of(&mut desk, Some(1)) == Some((3, 4));
+    confirm(&rt, lowest && first && second, "nodes side by side");
+    desk.undo();
+    confirm(&rt, node_of(&mut desk, Some(3)) == Some((1, 2)), "home");
+    confirm(
+        &rt,
+        node_of(&mut desk, Some(3)) == Some((3, 4)),
+        "an earlier home",
+    );
+    confirm(&rt, node_of(&mut desk, Some(3)) == Some((0, 5)), "no home");
+}

@@ -65,7 +65,8 @@ invariant_of-self g c =
     rw (words, sums)
     (set_take i.rows i.count i.at i.words.items i.summary.items _ _ c.self.invariant
     c.take_bit.new.words c.take_bit.new.summary c.in_ok-row.row _ has w c.take_bit.ensures.sums
-    len (omega (arith, within, c.self.invariant.room)))
+    len (c.word_after-self-inside.ensures.within (length i.words.items) c.self.invariant.cursor
+    (omega (arith, within, c.self.invariant.room))))
 
 pub returns-clause-some : goal.returns-clause-some
 returns-clause-some g c =

@@ -6,12 +6,12 @@ use Rattle.mst_path.proofs.node_writer.NodeWriter.begin.Goals as goal
 pub take_row-first-requires : goal.take_row-first-requires
 take_row-first-requires g c =
     record {
-      room = omega (arith, c.requires.room, takes_count _ _ _ c.take_row-head.ensures.takes);
+      room = omega (arith, c.requires.room, takes_count _ _ _ c.take_head-head.ensures.takes);
     }
 
 pub returns-clause-writer : goal.returns-clause-writer
 returns-clause-writer g c =
-    let both = takes_append _ _ _ _ _ c.take_row-head.ensures.takes c.take_row-first.ensures.takes
+    let both = takes_append _ _ _ _ _ c.take_head-head.ensures.takes c.take_row-first.ensures.takes
     in
     let small = takes_small _ _ _ both c.requires.rows in
     record {
@@ -25,12 +25,12 @@ returns-clause-writer g c =
 
 pub returns-clause-takes : goal.returns-clause-takes
 returns-clause-takes g c =
-    subst (λ s. Takes c.args.desk.now s (c.take_row-head.result ∷ c.take_row-first.result ∷ []))
+    subst (λ s. Takes c.args.desk.now s (c.take_head-head.result ∷ c.take_row-first.result ∷ []))
     (sym c.hasher_for-hasher.ensures.same)
-    (takes_append _ _ _ _ _ c.take_row-head.ensures.takes c.take_row-first.ensures.takes)
+    (takes_append _ _ _ _ _ c.take_head-head.ensures.takes c.take_row-first.ensures.takes)
 
-pub take_row-head-requires : goal.take_row-head-requires
-take_row-head-requires g c = search rules
+pub take_head-head-requires : goal.take_head-head-requires
+take_head-head-requires g c = search rules
 
 pub overflow_cast-count : goal.overflow_cast-count
 overflow_cast-count g c = search rules

@@ -26,34 +26,20 @@ pub word_of-requires-clause-readable : goal.word_of-requires-clause-readable
 word_of-requires-clause-readable g c =
     blank_may c.args.seat.now.me.0 c.args.row c.requires.blank
 
-pub store-requires-clause-there : goal.store-requires-clause-there
+pub store-requires-clause-there :
+    goal.store-requires-clause-there
 store-requires-clause-there g c = let v = c.args.seat.now.me.0 in
-    within v c.args.row c.args.k c.row_word.result c.requires.own c.requires.blank
-    c.requires.there
-    (there v c.args.rows c.args.row c.args.k c.row_word.result c.requires.own c.requires.wide
-    c.row_word.ensures.place)
-
-pub store-requires-clause-writable : goal.store-requires-clause-writable
-store-requires-clause-writable g c = let v = c.args.seat.now.me.0 in
-    subst (λ (i : ℕ). IsWritable (stored v.format) v i)
-    (sym (there v c.args.rows c.args.row c.args.k c.row_word.result c.requires.own c.requires.wide
-    c.row_word.ensures.place))
-    (writable v c.args.row c.args.k c.requires.blank c.requires.there)
-
-pub store-requires-then-word_of-value-clause-there :
-    goal.store-requires-then-word_of-value-clause-there
-store-requires-then-word_of-value-clause-there g c = let v = c.args.seat.now.me.0 in
-    within v c.args.row c.args.k c.row_word-then-word_of-value.result c.requires.own
+    within v c.args.row c.args.k c.row_word.result c.requires.own
     c.requires.blank c.requires.there
-    (there v c.args.rows c.args.row c.args.k c.row_word-then-word_of-value.result c.requires.own
-    c.requires.wide c.row_word-then-word_of-value.ensures.place)
+    (there v c.args.rows c.args.row c.args.k c.row_word.result c.requires.own
+    c.requires.wide c.row_word.ensures.place)
 
-pub store-requires-then-word_of-value-clause-writable :
-    goal.store-requires-then-word_of-value-clause-writable
-store-requires-then-word_of-value-clause-writable g c = let v = c.args.seat.now.me.0 in
+pub store-requires-clause-writable :
+    goal.store-requires-clause-writable
+store-requires-clause-writable g c = let v = c.args.seat.now.me.0 in
     subst (λ (i : ℕ). IsWritable (stored c.word_of.new.seat.me.0.format) c.word_of.new.seat.me.0 i)
-    (sym {A = ℕ} (there v c.args.rows c.args.row c.args.k c.row_word-then-word_of-value.result
-    c.requires.own c.requires.wide c.row_word-then-word_of-value.ensures.place))
+    (sym {A = ℕ} (there v c.args.rows c.args.row c.args.k c.row_word.result
+    c.requires.own c.requires.wide c.row_word.ensures.place))
     (subst (λ (z : Me (Option lives.State) View). IsWritable (stored z.0.format) z.0
     (row_word v.rows c.args.row c.args.k))
     (sym c.word_of.ensures.same.2)
