@@ -10,7 +10,7 @@ PROVED = os.path.join(MADE, "proved_store.o")
 # What they call for memory, and what heap.c gives them in its place.
 HEAP = {"malloc": "heap_take", "realloc": "heap_change", "free": "heap_give_back"}
 # After how many microseconds a call has waited long, and a time that no call waits.
-LONG, NEVER = "LONG = 30000,", "LONG = 2000000000,"
+LONG, NEVER = "LONG = 45000,", "LONG = 2000000000,"
 
 
 def run(*words: str) -> None:

@@ -26,7 +26,7 @@ enum {
     SPINS = 7,      /* tries with spins behind them: of 1, 2, 4 to 64 pauses */
     YIELDS = 16,    /* tries after which the processor is given up */
     LONGEST = 1000, /* the longest sleep, in microseconds */
-    LONG = 30000,   /* a call that has waited for so many microseconds has waited long */
+    LONG = 45000,   /* a call that has waited for so many microseconds has waited long */
     IN_LINE = 25,   /* the sleep to begin with of a call that stands in line */
     AWAY = 500      /* that of any other call which leaves the turn to one that stands there */
 };

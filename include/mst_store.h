@@ -455,7 +455,7 @@ size_t mst_edit_remove(uint8_t *room, size_t at, const uint8_t *key, size_t key_
  * As mst_try_put, but waits instead of returning MST_BUSY: it tries again after a moment, then
  * after giving the processor up, then after sleeps, from a microsecond up to a millisecond.
  *
- * A call that has waited for 30 milliseconds joins the queue. From then on each call of this store
+ * A call that has waited for 45 milliseconds joins the queue. From then on each call of this store
  * that waits, and has not waited as long, leaves the turn to it: it sleeps instead of trying. So a
  * thread that writes without a pause does not keep the turn from the others. A call that waits but
  * gives no sign of it for 50 milliseconds, such as one of a thread that was stopped or has died,
