@@ -15,7 +15,7 @@
 #include <time.h>
 #include <unistd.h>
 
-#define SLEEPS 100 /* how long a call that waits is kept waiting */
+#define SLEEPS 130 /* how long a call that waits is kept waiting */
 #define EARLY 10   /* of these the first ones are short */
 
 extern void *__libc_malloc(size_t size);
