@@ -55,7 +55,8 @@ def is_hidden(before, line):
 
 def is_seen(field, words):
     """Whether crates above see a field of a type with a model of these words."""
-    return field.startswith("    pub ") or field.split(":")[0].strip() in words
+    *before, name = field.split(":")[0].split() or [""]
+    return "pub" in before or name in words
 
 
 def without_unseen(text):
@@ -65,7 +66,7 @@ def without_unseen(text):
     def seen(struct):
         models = re.findall(rf"(?ms)^impl\b[^{{]* Model for {struct[2]}\b.*?^\}}", text)
         words = {*re.findall(r"\w+", "\n".join(models))}
-        fields = re.split(r"(?m)^(?=    (?:pub )?\w+:)", struct[3])
+        fields = re.split(r"(?m)^(?=    (?:pub |ghost )*\w+:)", struct[3])
         kept = [it for it in fields if not models or is_seen(it, words)]
         return struct[1] + "".join(kept) + "}"
 
