@@ -1,6 +1,7 @@
 //! Bits of words, 64 a word, the lowest of each word first, and a summary of them with a bit for
 //! each word that is not 0.
 ghost use Rattle.std.specs.Prelude.{◌≡◌, ◌≢◌, ◌↔◌, ◌≤◌, ◌<◌, ◌+◌, ◌*◌, ◌/◌, ◌^◌, ℕ, true, length, slice_index, IfSome, IfNone};
+ghost use Rattle.std.specs.Int.{bit_at};
 ghost use Rattle.mst_arena.specs.Bits.{bit, BitWritten, Sums};
 
 /// Sets a bit.
@@ -84,16 +85,35 @@ pub fn is_set(words: &[u64], index: usize) -> bool
     index / 64 < words.len() && (words[index / 64] >> (index % 64)) % 2 == 1
 }
 
+/// The lowest bit of a word from this one on that is not set; 64 if all of them are.
+#[inline(always)]
+fn clear_from(word: u64, from: usize) -> usize
+    requires within { from < 64 }
+    ensures set { (i : ℕ) → from ≤ i → i < result → bit_at word i ≡ 1 }
+    ensures clear { result < 64 → bit_at word result ≡ 0 }
+    ensures within { (from ≤ result) × (result ≤ 64) }
+{
+    (!word & (u64::MAX << from)).trailing_zeros() as usize
+}
+
 /// Whether so many bits from this one on are set.
 pub fn are_set(words: &[u64], from: usize, count: usize) -> bool
     requires few { from + count < 2 ^ 63 }
     ensures set { result ≡ true
         ↔ ((i : ℕ) → from ≤ i → i < from + count → bit words.now i ≡ 1) }
 {
-    for index in from..from + count {
-        if !is_set(words, index) {
+    let end = from + count;
+    let mut next = from;
+    while next < end {
+        let at = next / 64;
+        if at >= words.len() {
             return false;
         }
+        let clear = 64 * at + clear_from(words[at], next % 64);
+        if clear == next {
+            return false;
+        }
+        next = clear;
     }
     true
 }

@@ -165,18 +165,6 @@ impl<A: Allocator> Desk<A> {
         self.free.count()
     }
 
-    /// Takes a free row, born with the version to come. Returns `None` exactly if no row is free.
-    pub fn take(&mut self) -> Option<u32>
-        ensures some { IfSome result (λ r. (slice_get self.old.lives r ≡ Some Free)
-            × (self.new ≡ with_life self.old r (Born (next self.old)))) }
-        ensures none { IfNone result ((free_count self.old.lives ≡ 0) × (self.new ≡ self.old)) }
-    {
-        let birth = self.versions[self.current as usize] + 1;
-        let row = self.free.take()?;
-        self.lives[row as usize] = Life::Born { birth };
-        Some(row)
-    }
-
     /// Takes a free row, as [`Desk::take`] does, for the head of a node that takes so many rows. If
     /// it takes the place of a node whose head is in the row `replaced`, its rows are those where
     /// an earlier version of it stood, if they are free.
@@ -206,6 +194,19 @@ impl<A: Allocator> Desk<A> {
         ensures same { self.new ≡ self.old }
     {
         self.free.note_home(head, before);
+    }
+
+    /// Takes a free row, born with the version to come. Returns `None` exactly if no row is free.
+    #[inline(always)]
+    pub fn take(&mut self) -> Option<u32>
+        ensures some { IfSome result (λ r. (slice_get self.old.lives r ≡ Some Free)
+            × (self.new ≡ with_life self.old r (Born (next self.old)))) }
+        ensures none { IfNone result ((free_count self.old.lives ≡ 0) × (self.new ≡ self.old)) }
+    {
+        let row = self.free.take()?;
+        let birth = self.versions[self.current as usize] + 1;
+        self.lives[row as usize] = Life::Born { birth };
+        Some(row)
     }
 
     /// Frees a row that was taken in this write: it was born with the version to come.

@@ -1,6 +1,6 @@
 //! The free rows: a bitmap of two levels, from which rows are handed out upwards, or where a node
 //! stood before.
-ghost use Rattle.std.specs.Prelude.{◌≡◌, ◌≤◌, ◌<◌, ◌+◌, ◌/◌, ◌^◌, ℕ, length, vec_capacity, true, false, Some, replicate, slice_get, slice_index, slice_set, IfOk, IfSome, IfNone};
+ghost use Rattle.std.specs.Prelude.{◌≡◌, ◌≤◌, ◌<◌, ◌+◌, ◌*◌, ◌/◌, ◌^◌, ℕ, length, vec_capacity, true, false, Some, replicate, slice_get, slice_index, slice_set, IfOk, IfSome, IfNone};
 ghost use Rattle.mst_arena.specs.Bits.{Sums, bit, count_true};
 ghost use Rattle.mst_arena.specs.Limits.{most_rows};
 
@@ -51,22 +51,6 @@ fn zeros<A: Allocator>(alloc: A, count: usize) -> Result<Vec<u64, A>, Memory>
         words.push_reserved(0);
     }
     Ok(words)
-}
-
-/// A bit that is set: if rows of a run are left, the next of them as long as it is in the set;
-/// otherwise the lowest of word `at`, or if that is 0, of the next word that is not 0.
-fn row_in_use(words: &[u64], summary: &[u64], at: usize, run: usize, left: u32) -> Option<usize>
-    requires sums { Sums words.now summary.now }
-    requires few { length words.now < 2 ^ 32 }
-    requires few_sums { length summary.now < 2 ^ 32 }
-    requires there { at < length words.now }
-    ensures some { IfSome result (λ i. bit words.now i ≡ 1) }
-    ensures none { IfNone result ((w : ℕ) → slice_index words.now w ≡ 0) }
-{
-    if left != 0 && is_set(words, run) {
-        return Some(run);
-    }
-    bit_in_use(words, summary, at)
 }
 
 /// The word at which the next search begins, once this row is taken: a row of a run leaves it.
@@ -147,19 +131,50 @@ impl<A: Allocator> FreeRows<A> {
         self.homes.note(head, before);
     }
 
-    /// Takes a row out of the set.
+    /// Takes a row out of the set: the next one of the run, if rows of it are left and it is in the
+    /// set; otherwise the lowest one of the word of which a row was last taken, or of the next word
+    /// that has one.
+    #[inline(always)]
     pub fn take(&mut self) -> Option<u32>
         ensures some { IfSome result (λ r. (slice_get self.old r ≡ Some true)
             × (self.new ≡ slice_set self.old r false)) }
         ensures none { IfNone result ((count_true self.old ≡ 0) × (self.new ≡ self.old)) }
     {
-        let row = row_in_use(&self.words, &self.summary, self.at, self.run, self.left)?;
+        if self.left != 0 && is_set(&self.words, self.run) {
+            let (run, at) = (self.run, self.at);
+            Some(self.take_at(run, at))
+        } else {
+            self.take_elsewhere()
+        }
+    }
+
+    /// Takes a row that is not the next one of a run. It stands apart so that the compiled code
+    /// saves no registers for it in front of the other rows, which are almost all.
+    #[inline(never)]
+    fn take_elsewhere(&mut self) -> Option<u32>
+        ensures some { IfSome result (λ r. (slice_get self.old r ≡ Some true)
+            × (self.new ≡ slice_set self.old r false)) }
+        ensures none { IfNone result ((count_true self.old ≡ 0) × (self.new ≡ self.old)) }
+    {
+        let row = bit_in_use(&self.words, &self.summary, self.at)?;
+        let at = word_after(self.at, self.left, row);
+        Some(self.take_at(row, at))
+    }
+
+    /// Takes this row out of the set. The next search begins at word `at`.
+    #[inline(always)]
+    fn take_at(&mut self, row: usize, at: usize) -> u32
+        requires there { slice_get self.old row ≡ Some true }
+        requires at { 64 * at < length self.old }
+        ensures same { result ≡ row }
+        ensures taken { self.new ≡ slice_set self.old row false }
+    {
         take_bit(&mut self.words, &mut self.summary, row);
-        self.at = word_after(self.at, self.left, row);
+        self.at = at;
         self.run = row + 1;
         self.left = self.left.saturating_sub(1);
         self.count -= 1;
-        Some(row as u32)
+        row as u32
     }
 
     /// Puts a row into the set.

@@ -43,6 +43,7 @@ fn take_head<A: Allocator>(desk: &mut Desk<A>, replaced: Option<u32>, count: u32
 }
 
 /// Takes a free row for the next entry, if some are left.
+#[inline(always)]
 fn take_next<A: Allocator>(desk: &mut Desk<A>, left: u32) -> Option<u32>
     requires room { 0 < left → 0 < free_count desk.old.lives }
     ensures takes { Takes desk.old desk.new (ahead result) }

@@ -1,12 +1,18 @@
 -- Lists of which each element has a property, with an item put into them.
-use Rattle.std.proofs.Common.{◌≡◌, ℕ, zero, suc, List, [], ◌∷◌, Option, None, Some, IfSome, IfNone, subst, sym, inl, inr, arith}
+use Rattle.std.proofs.Common.{◌≡◌, ℕ, zero, suc, List, [], ◌∷◌, Option, None, Some, IfSome, IfNone, subst, sym, inl, inr}
 use Rattle.std.specs.Prelude.{slice_get, slice_set}
 use Rattle.std.specs.List.{AllByRecursion}
-use Rattle.std.proofs.lemmas.Option.{slice_get_within, get_or_from_slice_get}
+use Rattle.std.proofs.lemmas.Option.{same_Some}
 use Rattle.mst_key.proofs.Alls.{alls-append}
 use Rattle.mst_prefix.specs.Places.{IsPutAt}
 
 module _ {X : Type 0} where
+  pub all-at : (P : X → Type 0) (xs : List X) (i : ℕ) (x : X) → AllByRecursion P xs
+      → slice_get xs i ≡ Some x → P x
+  all-at P [] i x all at = cc
+  all-at P (y ∷ ys) zero x all at = subst P (same_Some y x at) all.0
+  all-at P (y ∷ ys) (suc i) x all at = all-at P ys i x all.1 at
+
   pub all-set : (P : X → Type 0) (xs : List X) (i : ℕ) (x : X) → AllByRecursion P xs → P x
       → AllByRecursion P (slice_set xs i x)
   all-set P [] i x all has = tt

@@ -1,5 +1,5 @@
 -- Bytes that are compared eight at once, as numbers.
-use Rattle.std.proofs.Common.{◌≡◌, ◌<◌, ◌+◌, true, false, nat_eq, Option, None, Some, IfSome, MatchOption, ℕ, List, [], ◌++◌, length, take, drop, get_or, refl, sym, ap, ◌∙◌}
+use Rattle.std.proofs.Common.{◌≡◌, ◌<◌, ◌+◌, true, false, nat_eq, Option, None, Some, IfSome, MatchOption, ℕ, List, ◌++◌, length, take, drop, get_or, sym, ap, ◌∙◌}
 use Rattle.std.specs.Int.{w64, from_le_bytes}
 use Rattle.std.specs.Cmp.Lexicographic.{pointwise, same_text}
 use Rattle.std.proofs.lemmas.Nat.{le_bytes_8}

@@ -251,26 +251,15 @@ impl<A: Allocator> Beginnings<A> {
         }
     }
 
-    /// Whether the text before the last piece of what is kept at a place is the front.
-    #[inline(always)]
-    fn follows(&self, place: usize) -> bool
-        ensures follows { result ≡ true → (texts : ℕ → List ℕ) (hasher : Sha256) (front : List ℕ)
-            (b : Beginning) → AreKept texts self.now → StandsAt texts hasher self.now front
-            → slice_get self.now.kept.items.items place ≡ Some b
-            → texts b.number ≡ front ++ b.piece.items }
-    {
-        let (Some(kept), Some(number)) = (self.kept.at(place), self.number()) else {
-            return false;
-        };
-        kept.before == number
-    }
-
     /// Makes what is kept at a place, which ends with what was spelled and then an entry, the text
-    /// up to here with the entry: its last piece is hashed after the front. Takes nothing if the
-    /// numbers are spent.
+    /// up to here with the entry: its last piece is hashed after the front, whose number is
+    /// `before`. Takes nothing if the numbers are spent.
     #[inline(always)]
-    fn renew_at(&mut self, hasher: &mut Sha256, place: usize) -> bool
+    fn renew_at(&mut self, hasher: &mut Sha256, place: usize, before: u64) -> bool
         requires there { place < length self.old.kept.items.items }
+        requires before { (texts : ℕ → List ℕ) (front : List ℕ) → AreKept texts self.old
+            → StandsAt texts hasher.old self.old front
+            → (before < self.old.next) × (texts before ≡ front) }
         ensures entry { result ≡ true → (m entry : List ℕ) (b : Beginning)
             → slice_get self.old.kept.items.items place ≡ Some b
             → b.piece.items ≡ self.old.piece.items ++ entry
@@ -281,7 +270,7 @@ impl<A: Allocator> Beginnings<A> {
             × (vec_capacity self.new.kept.numbers ≡ vec_capacity self.old.kept.numbers) }
         ensures digests { self.new.digests ≡ self.old.digests }
     {
-        let (Some(before), Some(after)) = (self.number(), self.next.checked_add(1)) else {
+        let Some(after) = self.next.checked_add(1) else {
             return false;
         };
         let number = self.next;
@@ -319,8 +308,11 @@ impl<A: Allocator> Beginnings<A> {
         let Some(place) = self.found(format, &child, key, value) else {
             return false;
         };
-        if !self.follows(place) {
-            return self.renew_at(hasher, place);
+        let Some(number) = self.number() else {
+            return false;
+        };
+        if self.kept.items[place].before != number {
+            return self.renew_at(hasher, place, number);
         }
         self.front = Front::Kept(place);
         self.piece.clear();

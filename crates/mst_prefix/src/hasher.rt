@@ -98,8 +98,11 @@ impl<A: Allocator> TextHasher<A> {
         if self.goes_on(format, child, key, value) {
             return;
         }
-        self.entry(format, child, key, value);
-        self.end_piece();
+        // The child is made anew, so that the compiled code stores it here alone.
+        match child {
+            None => self.new_entry(format, None, key, value),
+            Some(digest) => self.new_entry(format, Some(digest), key, value),
+        }
     }
 
     /// Takes an entry if what is kept for its row is the text that ends with it. Otherwise it takes
@@ -117,6 +120,19 @@ impl<A: Allocator> TextHasher<A> {
             None => false,
             Some(lent) => lent.goes_on(&mut self.hasher, format, child, key, value),
         }
+    }
+
+    /// Takes an entry, and keeps it for its row.
+    #[inline(never)]
+    fn new_entry(&mut self, format: Format, child: Option<[u8; 32]>, key: &[u8], value: &[u8])
+        requires key { length key.now ≤ 255 }
+        requires value { length value.now ≤ 255 }
+        ensures entry { (m : List ℕ) → HasTaken self.old m
+            → HasTaken self.new (m ++ child_text child ++ counted key.now
+            ++ held_text format (held_of format value.now)) }
+    {
+        self.entry(format, child, key, value);
+        self.end_piece();
     }
 
     /// Ends an entry.

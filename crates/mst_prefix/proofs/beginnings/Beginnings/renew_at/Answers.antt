@@ -13,7 +13,7 @@ returns-clause-entry g c = λ yes m entry b there ends taken.
     let texts = taken.0 in
     let kept = taken.1 in
     let front = taken.2 in
-    let number = c.in-Some-Some.ensures.number texts c.args.hasher.now front kept taken.3 in
+    let number = c.requires.before texts front kept taken.3 in
     let old : c.index_mut.result.now ≡ b =
     c.index_mut.ensures.value
     ∙ get_or_from_slice_get c.args.self.now.kept.items.items c.args.place b
@@ -22,11 +22,11 @@ returns-clause-entry g c = λ yes m entry b there ends taken.
     let holds : Holds256 c.renew.new.hasher whole =
     subst (λ (x : Beginning). Holds256 c.renew.new.hasher (front ++ x.piece.items)) old
     (c.renew.ensures.took front (c.catch_up.ensures.hash texts front kept taken.3)) in
-    let has = renewed texts next front b c.renew.new.self c.in-Some-Some.before
+    let has = renewed texts next front b c.renew.new.self c.args.before
     c.renew.ensures.before c.renew.ensures.number
     (c.renew.ensures.piece ∙ ap (λ (x : Beginning). x.piece.items) old) number.0 number.1
     (subst (λ h. Holds256 h whole) (sym c.renew.ensures.hash) holds) in
-    let step : c.in-Some-Some.after ≡ next + 1 = search rules in
+    let step : c.in-Some.after ≡ next + 1 = search rules in
     let all = all_still_have texts next whole _ kept.beginnings in (
       with_text texts next whole,
       kept_with texts c.args.self.now _ whole kept step (all-set _ _ c.args.place _ all has),
