@@ -18,6 +18,7 @@ use Rattle.mst_path.proofs.lemmas.versions.Changes.{mst_of, rises}
 use Rattle.mst_batch.specs.Items.{items_pairs, IsItem, AreItems}
 use Rattle.mst_edits.specs.Listed.{listed}
 use Rattle.mst_batch.specs.Opening.{PartOf}
+use Rattle.mst_batch.specs.Updating.{AreUpdates, Updates}
 use Rattle.mst_batch.specs.declared.items.Item.{Item}
 
 pub own_part : (p : Placed) → (p ≡ none) ⊎ Contains (placed_nodes p) p
@@ -37,6 +38,27 @@ module _ (format : Format) (c : Content) (root : Root) (m : List Pair)
     part = own_part st.tree.placed;
   }
 
+  -- ---- edits that put values at keys of the map fall into the whole tree
+
+  abbrev pub whole_updates : (es : List Edit) → AreUpdates m es → Updates format c root m root.link
+      es
+  whole_updates es are = record {
+    stands = st;
+    part = whole_part;
+    each = subst (λ (k : List Pair). AreUpdates k es)
+        (sym (ap pairs st.tree.is ∙ pairs_tree format m)) are;
+  }
+
+  -- the sorted edits leave what the edits leave
+  pub after_sorted : (es : List Edit) (normal ns : List (Bor Edit)) → ns ≡ normal
+      → batched m (listed normal) ≡ batched m es
+      → batched (pairs (tree_of format st.tree.placed)) (listed ns) ≡ batched m es
+  after_sorted es normal ns sorted same =
+      ap (λ (ys : List (Bor Edit)). batched (pairs (tree_of format st.tree.placed)) (listed ys))
+      sorted
+      ∙ ap (λ (ps : List Pair). batched ps (listed normal))
+      (ap pairs st.tree.is ∙ pairs_tree format m) ∙ same
+
   -- ---- the items that are found from none on
 
   module _ (no_items found xs : List Item) (es : List Edit) (normal ns : List (Bor Edit))
@@ -49,10 +71,7 @@ module _ (format : Format) (c : Content) (root : Root) (m : List Pair)
         ∙ is
         ∙ ap (λ (ys : List Item). items_pairs format st.tree.placed ys
         ++ batched (pairs (tree_of format st.tree.placed)) (listed ns)) from
-        ∙ ap (λ (ys : List (Bor Edit)). batched (pairs (tree_of format st.tree.placed)) (listed ys))
-        sorted
-        ∙ ap (λ (ps : List Pair). batched ps (listed normal))
-        (ap pairs st.tree.is ∙ pairs_tree format m) ∙ same
+        ∙ after_sorted es normal ns sorted same
 
     pub items_are : (AllByRecursion (IsItem format st.tree.placed) no_items
         → AllByRecursion (IsItem format st.tree.placed) found) → AreItems format st.tree.placed xs

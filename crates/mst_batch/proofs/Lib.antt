@@ -29,3 +29,5 @@ pub mod Finding
 pub mod KnownShapes
 pub mod KnownSowing
 pub mod Loads
+pub mod Updates
+pub mod UpdateSteps

@@ -54,12 +54,12 @@ module _ {X : Type 0} where
   none_after : (xs : List X) → drop (length xs) xs ≡ []
   none_after xs = grind (arith, common_steps)
 
-with_planned-push : (ps : List PlannedEntry) (y : PlannedEntry) (es : PlanEntries)
+pub with_planned-push : (ps : List PlannedEntry) (y : PlannedEntry) (es : PlanEntries)
     → with_planned (ps ++ y ∷ []) es ≡ with_planned ps (entry y.child y.key y.value es)
 with_planned-push [] y es = refl
 with_planned-push (p ∷ ps) y es = ap (entry p.child p.key p.value) (with_planned-push ps y es)
 
-entries_end : (format : Format) (l : ℕ) (gap : List Pair)
+pub entries_end : (format : Format) (l : ℕ) (gap : List Pair)
     → entries_of (layer_in format) (tree format) l gap [] ≡ tree.last (tree format gap)
 unfolding entries_of
 entries_end format l gap = refl
@@ -105,18 +105,18 @@ greatest_low : (layer : List ℕ → ℕ) (l : ℕ) (m : List Pair)
 greatest_low layer l [] low = omega arith
 greatest_low layer l (p ∷ m) low = omega (arith, low.0, greatest_low layer l m low.1)
 
-greatest_is : (layer : List ℕ → ℕ) (l : ℕ) (m : List Pair)
+pub greatest_is : (layer : List ℕ → ℕ) (l : ℕ) (m : List Pair)
     → AllByRecursion (λ p. layer p.0 ≤ l) m → Has layer l m → greatest (layers layer m) ≡ l
 greatest_is layer l [] low has = absurd has
 greatest_is layer l (p ∷ m) low (inl is) = omega (arith, is, greatest_low layer l m low.1)
 greatest_is layer l (p ∷ m) low (inr has) = omega (arith, low.0, greatest_is layer l m low.1 has)
 
-has_after : (layer : List ℕ → ℕ) (l : ℕ) (xs ys : List Pair) → Has layer l ys
+pub has_after : (layer : List ℕ → ℕ) (l : ℕ) (xs ys : List Pair) → Has layer l ys
     → Has layer l (xs ++ ys)
 has_after layer l [] ys has = has
 has_after layer l (x ∷ xs) ys has = inr (has_after layer l xs ys has)
 
-some_pairs : (layer : List ℕ → ℕ) (l : ℕ) (m : List Pair) → Has layer l m → 0 < length m
+pub some_pairs : (layer : List ℕ → ℕ) (l : ℕ) (m : List Pair) → Has layer l m → 0 < length m
 some_pairs layer l [] has = absurd has
 some_pairs layer l (p ∷ m) has = omega arith
 

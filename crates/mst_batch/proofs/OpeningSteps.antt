@@ -77,7 +77,7 @@ both_ok (Ok x) join p q = join p q
 both_ok (Err e) join p q = tt
 
 -- a tree in a gap is a part of the whole tree
-in_whole : (whole child : Placed)
+pub in_whole : (whole child : Placed)
     → ((p : Placed) → Contains (placed_nodes child) p → Contains (placed_nodes whole) p)
     → (child ≡ none) ⊎ Contains (placed_nodes whole) child
 in_whole whole none within = inl refl
@@ -85,7 +85,7 @@ in_whole whole (head row layer chain) within =
     inr (within (head row layer chain)
     (contains-first (head row layer chain) (chain_nodes chain) (head row layer chain) refl))
 
-abbrev part_of_gap : (format : Format) (content : Content) (whole : Placed) (link : ℕ)
+abbrev pub part_of_gap : (format : Format) (content : Content) (whole : Placed) (link : ℕ)
     → PartOf format content whole link → (child : Placed) (at : ℕ) → link_of child ≡ at
     → ((p : Placed) → Contains (placed_nodes child) p → Contains (placed_nodes whole) p)
     → PartOf format content whole at

@@ -9,3 +9,4 @@ pub mod Items
 pub mod Opening
 pub mod Tops
 pub mod Applying
+pub mod Updating

@@ -171,7 +171,7 @@ fn pair_of<R: Rows>(rows: &mut R, item: &Item<'_>, layer: u8) -> Option<(Key, Va
 }
 
 /// The entry of a pair, after the plan of the gap before it.
-fn entry_of<B: Allocator>(
+pub(crate) fn entry_of<B: Allocator>(
     child: Plan<Box<PlanNode<B>, B>>,
     key: Key,
     value: Value,
@@ -190,7 +190,7 @@ fn entry_of<B: Allocator>(
 }
 
 /// The node of these parts.
-fn node_of<B: Allocator>(
+pub(crate) fn node_of<B: Allocator>(
     layer: u8,
     entries: Vec<PlanEntry<B>, B>,
     tail: Plan<Box<PlanNode<B>, B>>,

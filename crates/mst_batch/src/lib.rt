@@ -54,6 +54,7 @@ mod single;
 mod sowing;
 mod standing;
 mod top;
+mod updating;
 
 pub use applying::apply;
 pub use carrying::carry_out;

@@ -87,7 +87,7 @@ fn searched_range_of(edits: &[&Edit], key: &Key) -> (usize, usize)
 
 /// Where a key lies among edits whose keys rise: behind those of lesser keys, and before those of
 /// greater ones. In between is the edit of the key, if there is one.
-fn range_of(edits: &[&Edit], key: &Key) -> (usize, usize)
+pub(crate) fn range_of(edits: &[&Edit], key: &Key) -> (usize, usize)
     requires rising { AreRising (listed edits.now) }
     ensures order { result.0 ≤ result.1 }
     ensures within { result.1 ≤ length edits.now }

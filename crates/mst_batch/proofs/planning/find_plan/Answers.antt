@@ -1,85 +1,82 @@
 use Rattle.std.proofs.Common.{◌≡◌, List, sym, ◌∙◌, ap, subst}
 use Rattle.std.proofs.lemmas.Result.{IfOk-weaker}
+use Rattle.mst_key.specs.History.{batched}
 use Rattle.mst_key.specs.Map.{Pair}
-use Rattle.mst_key.specs.declared.format.Format.{Format}
 use Rattle.mst_node.specs.Tree.{tree}
 use Rattle.mst_arena.specs.Content.{Content}
 use Rattle.mst_arena.specs.Standing.{Stands}
+use Rattle.mst_edits.specs.Listed.{listed}
 use Rattle.mst_batch.specs.Beside.{plan_beside}
-use Rattle.mst_batch.specs.Items.{AreItems, items_pairs}
 use Rattle.mst_batch.specs.Known.{AreKnown, known_of}
 use Rattle.mst_batch.specs.Plans.{plan_of}
-use Rattle.mst_batch.proofs.Finding.{whole_part, pairs_are, items_are}
+use Rattle.mst_batch.specs.Updating.{Updates}
+use Rattle.mst_batch.proofs.Finding.{whole_updates, after_sorted}
+use Rattle.mst_batch.proofs.UpdateSteps.{PlansUpdated, KnowsUpdated}
 use Rattle.mst_batch.proofs.planning.find_plan.Goals as goal
 
-pub open-requires-clause-part : goal.open-requires-clause-part
-open-requires-clause-part g c =
-    let one = c.requires.stands in (
-      one.1.tree.placed,
-      whole_part c.args.format (g.R.Rows.content c.args.rows.now) c.args.root.now one.0 one.1,
+-- ---- each edit puts a value at a key that the map has
+
+pub updated-requires-clause-updates : goal.updated-requires-clause-updates
+updated-requires-clause-updates g c =
+    let z = c.requires.stands in (
+      z.0,
+      subst (λ (x : Content). Updates c.args.format x c.args.root.now z.0 c.args.root.now.link
+          (listed c.as_slice-normal.result.now))
+          (sym (ap g.R.Rows.content c.are_updates.ensures.same))
+          (whole_updates c.args.format (g.R.Rows.content c.args.rows.now) c.args.root.now z.0 z.1
+          (listed c.as_slice-normal.result.now)
+          (c.are_updates.ensures.updates c.if-are_updates.true c.args.format z.0 z.1)),
     )
 
-pub build-requires : goal.build-requires
-build-requires g c = record {
-  items =
-      let format = c.args.format in
-      let content = g.R.Rows.content c.args.rows.now in
-      let one = c.requires.stands in
-      let part = whole_part format content c.args.root.now one.0 one.1 in
-      subst (λ (x : Content). (f : Format) × (m : List Pair) × (st : Stands f x c.args.root.now m)
-      × AreItems f st.tree.placed c.as_slice-2.result.now)
-      (sym (ap g.R.Rows.content c.in_ok-open.ensures.same)) (
-        format,
-        one.0,
-        one.1,
-        items_are format content c.args.root.now one.0 one.1 c.new-items.result.items
-            c.open.new.items.items c.as_slice-2.result.now c.args.edits.now
-            c.in_ok-normal.normal.items c.as_slice.result.now c.new-items.ensures.items
-            c.as_slice-2.ensures.value c.as_slice.ensures.value
-            (c.in_ok-normal.ensures.map one.0 one.1.map)
-            (c.in_ok-open.ensures.items one.1.tree.placed part)
-            (c.in_ok-open.ensures.each one.1.tree.placed part),
-      );
-}
+pub returns-then-are_updates-clause-plan : goal.returns-then-are_updates-clause-plan
+returns-then-are_updates-clause-plan g c =
+    let content = g.R.Rows.content c.args.rows.now in
+    IfOk-weaker c.updated.result _ _
+    (λ plan plans m st.
+    subst (λ (x : Content). PlansUpdated c.args.format x c.args.root.now c.args.root.now.link
+    (listed c.as_slice-normal.result.now) (plan_of plan))
+    (ap g.R.Rows.content c.are_updates.ensures.same) plans m
+    (whole_updates c.args.format content c.args.root.now m st
+    (listed c.as_slice-normal.result.now)
+    (c.are_updates.ensures.updates c.if-are_updates.true c.args.format m st))
+    ∙ ap (λ (ps : List Pair). plan_beside c.args.format st.tree.placed (tree c.args.format ps))
+    (after_sorted c.args.format content c.args.root.now m st c.args.edits.now
+    c.in_ok-normal.normal.items c.as_slice-normal.result.now c.as_slice-normal.ensures.value
+    (c.in_ok-normal.ensures.map m st.map)))
+    c.updated.ensures.plan
+
+pub returns-then-are_updates-clause-known : goal.returns-then-are_updates-clause-known
+returns-then-are_updates-clause-known g c =
+    IfOk-weaker c.updated.result _ _
+    (λ plan known m st.
+    subst (λ (x : Content). KnowsUpdated c.args.format x c.args.root.now c.args.root.now.link
+    (listed c.as_slice-normal.result.now) (known_of plan))
+    (ap g.R.Rows.content c.are_updates.ensures.same) known m
+    (whole_updates c.args.format (g.R.Rows.content c.args.rows.now) c.args.root.now m st
+    (listed c.as_slice-normal.result.now)
+    (c.are_updates.ensures.updates c.if-are_updates.true c.args.format m st)))
+    c.updated.ensures.known
+
+-- ---- another edit
 
 pub returns-clause-plan : goal.returns-clause-plan
 returns-clause-plan g c =
-    let format = c.args.format in
-    let content = g.R.Rows.content c.args.rows.now in
-    IfOk-weaker c.build.result _ _
-    (λ plan built m st.
-    let part = whole_part format content c.args.root.now m st in
-    let items : AreItems format st.tree.placed c.as_slice-2.result.now =
-    items_are format content c.args.root.now m st c.new-items.result.items c.open.new.items.items
-    c.as_slice-2.result.now c.args.edits.now c.in_ok-normal.normal.items c.as_slice.result.now
-    c.new-items.ensures.items c.as_slice-2.ensures.value c.as_slice.ensures.value
-    (c.in_ok-normal.ensures.map m st.map) (c.in_ok-open.ensures.items st.tree.placed part)
-    (c.in_ok-open.ensures.each st.tree.placed part) in
-    subst (λ (x : Content). (f : Format) (n : List Pair) (s : Stands f x c.args.root.now n)
-    → AreItems f s.tree.placed c.as_slice-2.result.now → plan_of plan ≡ plan_beside f s.tree.placed
-    (tree f (items_pairs f s.tree.placed c.as_slice-2.result.now)))
-    (ap g.R.Rows.content c.in_ok-open.ensures.same) built format m st items
-    ∙ ap (λ (ps : List Pair). plan_beside format st.tree.placed (tree format ps))
-    (pairs_are format content c.args.root.now m st c.new-items.result.items c.open.new.items.items
-    c.as_slice-2.result.now c.args.edits.now c.in_ok-normal.normal.items c.as_slice.result.now
-    c.new-items.ensures.items c.as_slice-2.ensures.value c.as_slice.ensures.value
-    (c.in_ok-normal.ensures.map m st.map) (c.in_ok-open.ensures.items st.tree.placed part)))
-    c.build.ensures.plan
+    IfOk-weaker c.plan_of_items.result _ _
+    (λ plan plans m st.
+    subst (λ (x : Content). (n : List Pair) (s : Stands c.args.format x c.args.root.now n)
+    → plan_of plan ≡ plan_beside c.args.format s.tree.placed
+    (tree c.args.format (batched n (listed c.as_slice-normal.result.now))))
+    (ap g.R.Rows.content c.are_updates.ensures.same) plans m st
+    ∙ ap (λ (ps : List Pair). plan_beside c.args.format st.tree.placed (tree c.args.format ps))
+    (ap (λ ns. batched m (listed ns)) c.as_slice-normal.ensures.value
+    ∙ c.in_ok-normal.ensures.map m st.map))
+    c.plan_of_items.ensures.plan
 
 pub returns-clause-known : goal.returns-clause-known
 returns-clause-known g c =
-    let format = c.args.format in
-    let content = g.R.Rows.content c.args.rows.now in
-    IfOk-weaker c.build.result _ _
+    IfOk-weaker c.plan_of_items.result _ _
     (λ plan known m st.
-    let part = whole_part format content c.args.root.now m st in
-    let items : AreItems format st.tree.placed c.as_slice-2.result.now =
-    items_are format content c.args.root.now m st c.new-items.result.items c.open.new.items.items
-    c.as_slice-2.result.now c.args.edits.now c.in_ok-normal.normal.items c.as_slice.result.now
-    c.new-items.ensures.items c.as_slice-2.ensures.value c.as_slice.ensures.value
-    (c.in_ok-normal.ensures.map m st.map) (c.in_ok-open.ensures.items st.tree.placed part)
-    (c.in_ok-open.ensures.each st.tree.placed part) in
-    subst (λ (x : Content). (f : Format) (n : List Pair) (s : Stands f x c.args.root.now n)
-    → AreItems f s.tree.placed c.as_slice-2.result.now → AreKnown f s.tree.placed (known_of plan))
-    (ap g.R.Rows.content c.in_ok-open.ensures.same) known format m st items)
-    c.build.ensures.known
+    subst (λ (x : Content). (n : List Pair) (s : Stands c.args.format x c.args.root.now n)
+    → AreKnown c.args.format s.tree.placed (known_of plan))
+    (ap g.R.Rows.content c.are_updates.ensures.same) known m st)
+    c.plan_of_items.ensures.known

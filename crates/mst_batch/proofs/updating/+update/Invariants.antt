@@ -1,0 +1,34 @@
+use Rattle.std.proofs.Common.{◌≡◌, ◌≤◌, List, length, map}
+use Rattle.mst_key.specs.History.{batched}
+use Rattle.mst_key.specs.Map.{Pair}
+use Rattle.mst_node.specs.Tree.{pairs}
+use Rattle.mst_arena.specs.Standing.{tree_of}
+use Rattle.mst_path.specs.Joining.{height_at}
+use Rattle.mst_edits.specs.Listed.{listed}
+use Rattle.mst_batch.specs.Known.{AreKnown, all_known, known_of_entry}
+use Rattle.mst_batch.specs.Plans.{planned_entry}
+use Rattle.mst_batch.specs.Updating.{Updates}
+use Rattle.mst_batch.proofs.UpdateSteps.{Updating}
+use Rattle.mst_batch.proofs.updating.+update.Given as goal
+
+-- layers fall
+abbrev pub decreases-updated : goal.decreases-updated
+decreases-updated g l = height_at (g.R.Rows.content l.rows.now) l.link
+
+-- the entries so far are planned, each with the tree before it
+abbrev pub invariant-loop : goal.invariant-loop
+invariant-loop g l = record {
+  same : l.rows ≡ l.fn.rows;
+  room : length l.left ≤ length l.edits;
+  updating : (m : List Pair)
+      (u : Updates l.fn.format (g.R.Rows.content l.fn.rows) l.fn.root m l.fn.link
+      (listed l.fn.edits))
+      → Updating l.fn.format (g.R.Rows.content l.fn.rows) u.stands.tree.placed l.head.layer
+      (map planned_entry l.entries.items)
+      (batched (pairs (tree_of l.fn.format u.part.placed)) (listed l.fn.edits)) (listed l.left)
+      l.head.tail l.next l.counter l.head.count;
+  known : (m : List Pair)
+      (u : Updates l.fn.format (g.R.Rows.content l.fn.rows) l.fn.root m l.fn.link
+      (listed l.fn.edits))
+      → AreKnown l.fn.format u.stands.tree.placed (all_known (map known_of_entry l.entries.items));
+}

@@ -1,0 +1,15 @@
+use Rattle.std.proofs.Common.{◌≡◌, List, drop}
+use Rattle.mst_key.specs.Map.{Pair}
+use Rattle.mst_key.specs.declared.format.Format.{Format}
+use Rattle.mst_arena.specs.Standing.{Stands}
+use Rattle.mst_edits.specs.Listed.{listed}
+use Rattle.mst_batch.specs.Updating.{AreUpdates}
+use Rattle.mst_batch.proofs.updating.are_updates.Given as goal
+
+-- all are such edits if those that are left are
+abbrev pub invariant-loop-edit : goal.invariant-loop-edit
+invariant-loop-edit g l = record {
+  same : l.rows ≡ l.fn.rows;
+  left : (f : Format) (m : List Pair) → Stands f (g.R.Rows.content l.fn.rows) l.fn.root m
+      → AreUpdates m (listed (drop l.edit-index l.fn.edits)) → AreUpdates m (listed l.fn.edits);
+}
