@@ -1,6 +1,6 @@
 -- Edits that put values at keys that a map has: those of its parts, and the node that its pairs
 -- make afterwards.
-use Rattle.std.proofs.Common.{◌≡◌, ℕ, ◌+◌, ◌<◌, ◌≤◌, Bool, true, false, true≢false, List, [], ◌∷◌, ◌++◌, length, drop, get_or, Bor, Option, Some, None, IsSome, is_eq, is_lt, is_gt, not, filter, Less, refl, sym, ◌∙◌, ap, subst, arith}
+use Rattle.std.proofs.Common.{◌≡◌, ℕ, ◌+◌, ◌<◌, ◌≤◌, Bool, true, false, true≢false, List, [], ◌∷◌, ◌++◌, length, drop, get_or, Bor, Option, Some, IsSome, is_eq, is_lt, is_gt, not, filter, Less, refl, sym, ◌∙◌, ap, subst}
 use Rattle.std.specs.Prelude.{if◌then◌else◌}
 use Rattle.std.proofs.lemmas.List.{drop_more, at_drop_all}
 use Rattle.std.specs.List.{AllByRecursion}

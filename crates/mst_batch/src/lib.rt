@@ -16,8 +16,9 @@
 //!
 //! - `applying` leads to `single`, for one edit; `loading`, in the empty map; and `by_plan`.
 //! - `planning` finds the plan. `mst_edits` sorts the edits and keeps the last one of each key;
-//!   `opening` lists what the tree after them is built of (`items`, `standing`); `building` plans
-//!   it from the greatest layer down (`top`), and keeps what stands already (`sharing`).
+//!   `updating` plans a few edits that put values at keys of the map. For others `opening` lists
+//!   what the tree after them is built of (`items`, `standing`), and `building` plans it from the
+//!   greatest layer down (`top`). Both keep what stands already (`sharing`).
 //! - `marking` marks the nodes that a plan keeps.
 //! - `carrying` refuses a plan for which no room is left, and otherwise does as `replacing`:
 //!   `sowing` writes the nodes to be made next to the trees that are kept, and `felling` gives up
@@ -27,11 +28,11 @@
 //! shows plans that can be carried out.
 //!
 //! In `specs/`: `Applying`, why a batch is not made; `Items` and `Opening`, what the tree after a
-//! batch is built of; `Known`, which of its pairs have a row already; `Tops`, which of it is
-//! opened; `Beside`, the plan of a tree next to the one that stands; `Plans`, which tree a plan is,
-//! what it keeps and what it takes; `Carrying` and `Replacing`, a plan of a change of the map, and
-//! in place of the tree that stands; `Sowing`, what is written; `Kept`, which nodes are kept and
-//! which rows fall.
+//! batch is built of; `Updating`, which edits keep the keys of a tree; `Known`, which of its pairs
+//! have a row already; `Tops`, which of it is opened; `Beside`, the plan of a tree next to the one
+//! that stands; `Plans`, which tree a plan is, what it keeps and what it takes; `Carrying` and
+//! `Replacing`, a plan of a change of the map, and in place of the tree that stands; `Sowing`, what
+//! is written; `Kept`, which nodes are kept and which rows fall.
 #![tactic(auto)]
 
 mod applying;

@@ -25,6 +25,7 @@ pub(crate) fn marks_of<A: Allocator, B: Allocator>(
 
 /// The greatest link that a plan keeps, 0 if it keeps none: with so much room the marks never move.
 #[cycle(last)]
+#[inline(always)]
 fn last_link<B: Allocator>(plan: &Plan<Box<PlanNode<B>, B>>) -> u32
     ensures kept { 0 < result → In result (links_kept (plan_of plan.now)) }
 {
@@ -36,6 +37,7 @@ fn last_link<B: Allocator>(plan: &Plan<Box<PlanNode<B>, B>>) -> u32
 
 /// The greatest link that is kept in the gaps of a node to be made.
 #[cycle(last)]
+#[inline(never)]
 fn last_link_below<B: Allocator>(node: &PlanNode<B>) -> u32
     ensures kept { 0 < result → In result (links_kept (plan_of_node node.now)) }
 {
@@ -70,6 +72,7 @@ fn mark_link<A: Allocator>(marks: &mut Vec<bool, A>, link: u32) -> Result<(), Me
 
 /// Adds the marks of a plan.
 #[cycle(mark)]
+#[inline(always)]
 fn mark<A: Allocator, B: Allocator>(
     marks: &mut Vec<bool, A>,
     plan: &Plan<Box<PlanNode<B>, B>>,
@@ -85,6 +88,7 @@ fn mark<A: Allocator, B: Allocator>(
 
 /// Adds the marks of the plans in the gaps of a node to be made.
 #[cycle(mark)]
+#[inline(never)]
 fn mark_node<A: Allocator, B: Allocator>(
     marks: &mut Vec<bool, A>,
     node: &PlanNode<B>,

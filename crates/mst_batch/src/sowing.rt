@@ -21,6 +21,7 @@ use std::alloc::Allocator;
 /// How many rows a plan takes: one for each entry and each node to be made; the greatest `u32` if
 /// it takes more.
 #[cycle(count)]
+#[inline(always)]
 pub fn rows_of<B: Allocator>(plan: &Plan<Box<PlanNode<B>, B>>) -> u32
     ensures rows { result ≡ min (rows_planned (plan_of plan.now)) (2 ^ 32 - 1) }
 {
@@ -32,6 +33,7 @@ pub fn rows_of<B: Allocator>(plan: &Plan<Box<PlanNode<B>, B>>) -> u32
 
 /// How many rows a node to be made takes, with all below it.
 #[cycle(count)]
+#[inline(never)]
 fn rows_of_node<B: Allocator>(node: &PlanNode<B>) -> u32
     ensures rows { result ≡ min (rows_planned (plan_of_node node.now)) (2 ^ 32 - 1) }
 {
@@ -71,6 +73,7 @@ pub fn sow<R: Rows, A: Allocator, B: Allocator>(
 /// Carries a plan out as `sow` does. If the rows that it names are known to have its pairs, they
 /// are copied.
 #[cycle(sow)]
+#[inline(always)]
 pub(crate) fn sow_plan<R: Rows, A: Allocator, B: Allocator>(
     rows: &mut R,
     desk: &mut Desk<A>,
@@ -162,6 +165,7 @@ fn write_entry<R: Rows, A: Allocator>(
 
 /// Writes a node with all that is to be made below it. Returns where it stands.
 #[cycle(sow)]
+#[inline(never)]
 fn sow_node<R: Rows, A: Allocator, B: Allocator>(
     rows: &mut R,
     desk: &mut Desk<A>,

@@ -1,5 +1,5 @@
 //! The plan of edits that put values at keys that the map has.
-ghost use Rattle.std.specs.Prelude.{◌≡◌, ℕ, List, ◌∷◌, [], true, IfOk};
+ghost use Rattle.std.specs.Prelude.{◌≡◌, ◌<◌, ℕ, length, List, ◌∷◌, [], true, IfOk};
 ghost use Rattle.mst_key.specs.Edits.{AreRising};
 ghost use Rattle.mst_key.specs.History.{batched, key_of};
 ghost use Rattle.mst_key.specs.Map.{Pair};
@@ -23,6 +23,10 @@ use mst_key::{Edit, Format, Key, Memory, Value};
 use mst_read::get;
 use std::alloc::Allocator;
 
+/// Up to how many edits are looked up one by one. In a small map more of them touch most nodes, and
+/// to look each up costs more than it saves.
+const MOST_UPDATES: usize = 256;
+
 /// Whether an edit puts a value at a key that the map has.
 fn is_update<R: Rows>(rows: &mut R, root: &Root, edit: &Edit) -> bool
     requires stands { MapStands (R.content rows.old) root.now }
@@ -36,13 +40,17 @@ fn is_update<R: Rows>(rows: &mut R, root: &Root, edit: &Edit) -> bool
     }
 }
 
-/// Whether each edit puts a value at a key that the map has.
+/// Whether the edits are few, and each puts a value at a key that the map has. A batch of which that
+/// is not told is planned in another way, which takes more time.
 pub(crate) fn are_updates<R: Rows>(rows: &mut R, root: &Root, edits: &[&Edit]) -> bool
     requires stands { MapStands (R.content rows.old) root.now }
     ensures updates { result ≡ true → (f : Format) (m : List Pair)
         → Stands f (R.content rows.old) root.now m → AreUpdates m (listed edits.now) }
     ensures same { rows.new ≡ rows.old }
 {
+    if edits.len() > MOST_UPDATES {
+        return false;
+    }
     for edit in edits {
         if !is_update(rows, root, edit) {
             return false;
@@ -96,6 +104,7 @@ fn updated_entry<B: Allocator>(
 ///
 /// Calls nest no deeper than the layers. Returns `Memory` only if a growth was refused.
 #[cycle(update)]
+#[inline(always)]
 pub(crate) fn updated<R: Rows, B: Allocator + Copy>(
     rows: &mut R,
     alloc: B,
@@ -119,6 +128,34 @@ pub(crate) fn updated<R: Rows, B: Allocator + Copy>(
     if edits.is_empty() {
         return Ok(Plan::Kept(link));
     }
+    update_node(rows, alloc, format, root, link, edits)
+}
+
+/// The same plan where there is an edit, so that a node stands at the link. It is a function of its
+/// own, since most trees below a node have no edit, and it has many locals.
+#[cycle(update)]
+#[inline(never)]
+fn update_node<R: Rows, B: Allocator + Copy>(
+    rows: &mut R,
+    alloc: B,
+    format: Format,
+    root: &Root,
+    link: u32,
+    edits: &[&Edit],
+) -> Result<Plan<Box<PlanNode<B>, B>>, Memory>
+    requires updates { (m : List Pair)
+        × Updates format (R.content rows.old) root.now m link (listed edits.now) }
+    requires rising { AreRising (listed edits.now) }
+    requires some { 0 < length edits.now }
+    ensures plan { IfOk result (λ plan. (m : List Pair)
+        (u : Updates format (R.content rows.old) root.now m link (listed edits.now))
+        → plan_of plan ≡ plan_beside format u.stands.tree.placed
+        (tree format (batched (pairs (tree_of format u.part.placed)) (listed edits.now)))) }
+    ensures known { IfOk result (λ plan. (m : List Pair)
+        (u : Updates format (R.content rows.old) root.now m link (listed edits.now))
+        → AreKnown format u.stands.tree.placed (known_of plan)) }
+    ensures same { rows.new ≡ rows.old }
+{
     let head = rows.head(link - 1);
     let mut entries = Vec::with_capacity(alloc, head.count as usize)?;
     let mut next = head.first;

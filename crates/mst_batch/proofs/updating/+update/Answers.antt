@@ -1,4 +1,4 @@
-use Rattle.std.proofs.Common.{◌≡◌, ℕ, ◌+◌, ◌-◌, ◌<◌, ◌≤◌, List, [], ◌∷◌, length, map, take, drop, Bor, Some, IsSome, refl, sym, ◌∙◌, ap, subst, arith, rules}
+use Rattle.std.proofs.Common.{◌≡◌, ◌+◌, ◌-◌, ◌<◌, List, length, map, take, drop, Bor, Some, IsSome, sym, ◌∙◌, ap, subst, arith, rules}
 use Rattle.std.specs.List.{slice_range}
 use Rattle.std.proofs.lemmas.Bool.Decides.{nat_tests}
 use Rattle.std.proofs.lemmas.List.{map-append}
@@ -26,29 +26,41 @@ use Rattle.mst_batch.proofs.updating.+update.Goals as goal
 
 -- ---- no edit falls into the tree
 
-pub returns-then-is_empty-clause-plan : goal.returns-then-is_empty-clause-plan
-returns-then-is_empty-clause-plan g t c m u =
+pub updated-returns-then-is_empty-clause-plan : goal.updated-returns-then-is_empty-clause-plan
+updated-returns-then-is_empty-clause-plan g t c m u =
     part_stays c.args.format (g.R.Rows.content c.args.rows.now) c.args.root.now m c.args.link
     c.args.edits.now u (grind (arith, nat_tests, c.is_empty.ensures, c.if-is_empty.true))
 
 -- ---- a node
 
-pub overflow_sub-link : goal.overflow_sub-link
-overflow_sub-link g t c =
-    let u = c.requires.updates in
+pub updated-update_node-requires : goal.updated-update_node-requires
+updated-update_node-requires g t c κs within =
     let some : 0 < length c.args.edits.now =
-    grind (arith, nat_tests, c.is_empty.ensures, c.if-is_empty.false) in
+    grind (arith, nat_tests, c.is_empty.ensures, c.if-is_empty.false) in (
+      omega (arith, c.decreases),
+      (
+        search rules,
+        (
+          search rules,
+          (c.requires.updates, (c.requires.rising, some)),
+        ),
+      ),
+    )
+
+pub update_node-overflow_sub-link : goal.update_node-overflow_sub-link
+update_node-overflow_sub-link g t c =
+    let u = c.requires.updates in
+    let some = c.requires.some in
     omega (
       arith,
       some_link c.args.format (g.R.Rows.content c.args.rows.now) c.args.root.now u.0 c.args.link
           c.args.edits.now u.1 some,
     )
 
-pub head-head-requires : goal.head-head-requires
-head-head-requires g t c =
+pub update_node-head-head-requires : goal.update_node-head-head-requires
+update_node-head-head-requires g t c =
     let u = c.requires.updates in
-    let some : 0 < length c.args.edits.now =
-    grind (arith, nat_tests, c.is_empty.ensures, c.if-is_empty.false) in
+    let some = c.requires.some in
     record {
       there = head_there c.args.format (g.R.Rows.content c.args.rows.now)
           u.1.stands.tree.placed c.args.link u.1.part
@@ -56,10 +68,9 @@ head-head-requires g t c =
           c.args.link c.args.edits.now u.1 some);
     }
 
-pub loop-init : goal.loop-init
-loop-init g t c =
-    let some : 0 < length c.args.edits.now =
-    grind (arith, nat_tests, c.is_empty.ensures, c.if-is_empty.false) in
+pub update_node-loop-init : goal.update_node-loop-init
+update_node-loop-init g t c =
+    let some = c.requires.some in
     record {
       same = c.head-head.ensures.same;
       room = omega arith;
@@ -73,8 +84,8 @@ loop-init g t c =
 
 -- ---- the next entry
 
-pub overflow_sub-row : goal.overflow_sub-row
-overflow_sub-row g t c =
+pub update_node-overflow_sub-row : goal.update_node-overflow_sub-row
+update_node-overflow_sub-row g t c =
     let u = c.requires.updates in
     omega (
       arith,
@@ -82,8 +93,8 @@ overflow_sub-row g t c =
           c.loop-test.true).1,
     )
 
-pub links-links-requires : goal.links-links-requires
-links-links-requires g t c =
+pub update_node-links-links-requires : goal.update_node-links-links-requires
+update_node-links-links-requires g t c =
     let u = c.requires.updates in
     record {
       there =
@@ -93,13 +104,13 @@ links-links-requires g t c =
           c.loop-test.true).0;
     }
 
-pub range_of-start-requires : goal.range_of-start-requires
-range_of-start-requires g t c =
+pub update_node-range_of-start-requires : goal.update_node-range_of-start-requires
+update_node-range_of-start-requires g t c =
     let u = c.requires.updates in
     record { rising = (c.loop.invariant.updating u.0 u.1).rising }
 
-pub updated-requires : goal.updated-requires
-updated-requires g t c κs within =
+pub update_node-updated-requires : goal.update_node-updated-requires
+update_node-updated-requires g t c κs within =
     let u = c.requires.updates in
     let links = subst (λ (x : Content). part_at bare_links x (c.loop.next - 1)
     ≡ Some c.links-links.result) (ap g.R.Rows.content c.loop.invariant.same)
@@ -127,8 +138,7 @@ updated-requires g t c κs within =
     }) in
     let falls = subst (λ (x : Content). height_at x c.links-links.result.child
     < c.head-head.result.layer + 1) (sym content) at.falls in
-    let some : 0 < length c.args.edits.now =
-    grind (arith, nat_tests, c.is_empty.ensures, c.if-is_empty.false) in
+    let some = c.requires.some in
     let read = height_read (g.R.Rows.content c.args.rows.now) c.args.link c.head-head.result
     (some_link c.args.format (g.R.Rows.content c.args.rows.now) c.args.root.now u.0 c.args.link
     c.args.edits.now u.1 some) c.head-head.ensures.value in (
@@ -146,16 +156,16 @@ updated-requires g t c κs within =
       ),
     )
 
-pub updated_entry-requires : goal.updated_entry-requires
-updated_entry-requires g t c =
+pub update_node-updated_entry-requires : goal.update_node-updated_entry-requires
+update_node-updated_entry-requires g t c =
     let u = c.requires.updates in
     record {
       rising = (parts_rise c.loop.left.now c.range_of-start.result.0 c.range_of-start.result.1
           c.range_of-start.ensures.order (c.loop.invariant.updating u.0 u.1).rising).1;
     }
 
-pub loop-preserved : goal.loop-preserved
-loop-preserved g t c =
+pub update_node-loop-preserved : goal.update_node-loop-preserved
+update_node-loop-preserved g t c =
     let lo = listed (take c.range_of-start.result.0 c.loop.left.now) in
     let own = listed (slice_range c.loop.left.now c.range_of-start.result.0
     c.range_of-start.result.1) in
@@ -219,8 +229,8 @@ loop-preserved g t c =
 
 -- ---- the last gap
 
-pub updated-requires-2 : goal.updated-requires-2
-updated-requires-2 g t c κs within =
+pub update_node-updated-requires-2 : goal.update_node-updated-requires-2
+update_node-updated-requires-2 g t c κs within =
     let u = c.requires.updates in
     let at = at_last _ _ _ _ _ _ _ _ _ _ _ (c.loop.invariant.updating u.0 u.1) c.args.link
     u.1.part (omega (arith, c.loop-test.false, c.loop.auto.counter-end)) in
@@ -230,8 +240,7 @@ updated-requires-2 g t c κs within =
     (record { stands = u.1.stands; part = at.child; each = at.updates }) in
     let falls = subst (λ (x : Content). height_at x c.head-head.result.tail
     < c.head-head.result.layer + 1) (sym content) at.falls in
-    let some : 0 < length c.args.edits.now =
-    grind (arith, nat_tests, c.is_empty.ensures, c.if-is_empty.false) in
+    let some = c.requires.some in
     let read = height_read (g.R.Rows.content c.args.rows.now) c.args.link c.head-head.result
     (some_link c.args.format (g.R.Rows.content c.args.rows.now) c.args.root.now u.0 c.args.link
     c.args.edits.now u.1 some) c.head-head.ensures.value in (
@@ -247,8 +256,8 @@ updated-requires-2 g t c κs within =
 
 -- ---- the node, which may stand already
 
-pub shared-requires-clause-node : goal.shared-requires-clause-node
-shared-requires-clause-node g t c =
+pub update_node-shared-requires-clause-node : goal.update_node-shared-requires-clause-node
+update_node-shared-requires-clause-node g t c =
     let u = c.requires.updates in
     let at = at_last _ _ _ _ _ _ _ _ _ _ _ (c.loop.invariant.updating u.0 u.1) c.args.link
     u.1.part (omega (arith, c.loop-test.false, c.loop.auto.counter-end)) in
@@ -270,8 +279,8 @@ shared-requires-clause-node g t c =
           (plans u.0 (record { stands = u.1.stands; part = at.child; each = at.updates }))),
     )
 
-pub shared-requires-clause-known : goal.shared-requires-clause-known
-shared-requires-clause-known g t c =
+pub update_node-shared-requires-clause-known : goal.update_node-shared-requires-clause-known
+update_node-shared-requires-clause-known g t c =
     let u = c.requires.updates in
     let at = at_last _ _ _ _ _ _ _ _ _ _ _ (c.loop.invariant.updating u.0 u.1) c.args.link
     u.1.part (omega (arith, c.loop-test.false, c.loop.auto.counter-end)) in
@@ -288,8 +297,8 @@ shared-requires-clause-known g t c =
     (c.loop.invariant.known u.0 u.1)
     (knows u.0 (record { stands = u.1.stands; part = at.child; each = at.updates })))))
 
-pub returns-clause-plan : goal.returns-clause-plan
-returns-clause-plan g t c =
+pub update_node-returns-clause-plan : goal.update_node-returns-clause-plan
+update_node-returns-clause-plan g t c =
     let some = c.head-head.ensures.limits.1 in
     let plans = subst (λ (x : Content). PlansUpdated c.args.format x c.args.root.now
     c.head-head.result.tail (listed c.loop.left.now) (plan_of c.in_ok-tail.tail))
@@ -310,8 +319,8 @@ returns-clause-plan g t c =
     (sym (node_made c.args.format c.head-head.result.layer all at.low (at.has some))))
     c.shared.ensures.plan
 
-pub returns-clause-known : goal.returns-clause-known
-returns-clause-known g t c =
+pub update_node-returns-clause-known : goal.update_node-returns-clause-known
+update_node-returns-clause-known g t c =
     let knows = subst (λ (x : Content). KnowsUpdated c.args.format x c.args.root.now
     c.head-head.result.tail (listed c.loop.left.now) (known_of c.in_ok-tail.tail))
     (ap g.R.Rows.content c.loop.invariant.same) c.in_ok-tail.ensures.known in

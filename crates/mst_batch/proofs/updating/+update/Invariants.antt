@@ -1,4 +1,4 @@
-use Rattle.std.proofs.Common.{◌≡◌, ◌≤◌, List, length, map}
+use Rattle.std.proofs.Common.{◌≡◌, ◌≤◌, ◌+◌, ◌*◌, List, length, map}
 use Rattle.mst_key.specs.History.{batched}
 use Rattle.mst_key.specs.Map.{Pair}
 use Rattle.mst_node.specs.Tree.{pairs}
@@ -13,11 +13,14 @@ use Rattle.mst_batch.proofs.updating.+update.Given as goal
 
 -- layers fall
 abbrev pub decreases-updated : goal.decreases-updated
-decreases-updated g l = height_at (g.R.Rows.content l.rows.now) l.link
+decreases-updated g l = height_at (g.R.Rows.content l.rows.now) l.link * 2 + 1
+
+abbrev pub decreases-update_node : goal.decreases-update_node
+decreases-update_node g l = height_at (g.R.Rows.content l.rows.now) l.link * 2
 
 -- the entries so far are planned, each with the tree before it
-abbrev pub invariant-loop : goal.invariant-loop
-invariant-loop g l = record {
+abbrev pub invariant-update_node-loop : goal.invariant-update_node-loop
+invariant-update_node-loop g l = record {
   same : l.rows ≡ l.fn.rows;
   room : length l.left ≤ length l.edits;
   updating : (m : List Pair)

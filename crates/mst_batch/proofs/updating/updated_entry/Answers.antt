@@ -1,5 +1,4 @@
-use Rattle.std.proofs.Common.{List, ◌∷◌, [], sym, ◌∙◌, ap}
-use Rattle.mst_key.specs.Map.{Pair}
+use Rattle.std.proofs.Common.{◌∷◌, [], sym, ◌∙◌, ap}
 use Rattle.mst_batch.specs.Plans.{PlannedEntry}
 use Rattle.mst_batch.proofs.Updates.{updated_pair}
 use Rattle.mst_batch.proofs.updating.updated_entry.Goals as goal
