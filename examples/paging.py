@@ -10,9 +10,9 @@ from mst_store import Format, open_store
 
 PAGE = 256
 
-writer, reader = open_store(65535, 2, Format.TWO)
+writer, reader = open_store(rows=65535, passes=2, format=Format.TWO)
 writer.apply((hashlib.sha256(b"%d" % number).digest(), b"%d" % number) for number in range(10000))
-with reader.pinned() as then:
+with reader.pin() as then:
     pages = 0
     keys = []
     for page in then.pages(PAGE):

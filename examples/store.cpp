@@ -8,7 +8,7 @@
 #include <iostream>
 
 int main() {
-    auto passes = mst::open(1000, 2);
+    auto passes = mst::open({1000, 2}); // 1,000 rows, two passes
     passes[0].put("apple", "30");
     {
         auto then = passes[1].pin();

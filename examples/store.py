@@ -11,7 +11,7 @@ from mst_store import open_store
 
 writer, reader = open_store(rows=1000, passes=2)
 writer.put(b"apple", b"30")
-with reader.pinned() as then:
+with reader.pin() as then:
     root = then.root()
     thread = threading.Thread(target=writer.put, args=(b"apple", b"31"))
     thread.start()

@@ -25,7 +25,7 @@ class Store:
     def __init__(self) -> None:
         import mst_store
 
-        self.reader, self.writer = mst_store.open_store(65535, 2)
+        self.reader, self.writer = mst_store.open_store(rows=65535, passes=2)
         self.get, self.next, self.prove = self.reader.get, self.reader.next, self.reader.prove
         self.put, self.apply = self.writer.put, self.writer.apply
 
@@ -34,7 +34,7 @@ class Store:
 
     def version(self):
         """One version, whose `get` is timed."""
-        return self.reader.pinned()
+        return self.reader.pin()
 
 
 class Lmdb:

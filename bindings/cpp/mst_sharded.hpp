@@ -2,7 +2,7 @@
 // block is edits of all shards as one version of the whole map, with one number and one root
 // digest, made whole or not at all.
 //
-//     auto [writer, readers] = mst::sharded::open(1000, 1, {"m"});  // two shards of 1,000 rows
+//     auto [writer, readers] = mst::sharded::open({1000, 1, {"m"}}); // two shards of 1,000 rows
 //     auto number = writer.apply(mst::batch().put("apple", "30"));  // 1
 //     auto then = readers[0].snapshot();            // of one block, unless SHA-256 collides
 //     auto root = then.root();                                      // as writer.root()
@@ -124,6 +124,7 @@ namespace sharded {
 class writer;
 struct begun;
 struct opened;
+struct options;
 
 // What the writer, a reader and a snapshot have in common. The hand lies on the heap, so that a
 // reader may be moved or closed while it has a snapshot.
@@ -265,7 +266,7 @@ public:
 
 // A reader of a sharded map: it takes snapshots, one at a time.
 class reader : public member {
-    friend opened open(std::uint32_t, std::size_t, const std::vector<std::string> &, mst::format);
+    friend opened open(const options &);
 
 public:
     reader() noexcept = default;
@@ -379,7 +380,7 @@ public:
 class writer : public member {
     friend class snapshot;
     friend class group; // of mst_sharded_group.hpp
-    friend opened open(std::uint32_t, std::size_t, const std::vector<std::string> &, mst::format);
+    friend opened open(const options &);
 
 public:
     writer() noexcept = default;
@@ -468,31 +469,40 @@ inline std::uint64_t snapshot::copy_to(writer &other) {
     return mst::detail::block(code, number, shard);
 }
 
+// The shape and the format of a sharded map. The rows have to be given.
+struct options {
+    std::uint32_t rows = 0;  // of each shard, 4 to 65,535
+    std::size_t readers = 0; // 0 to 31
+    // At most 1,023 keys that rise strictly, from above that of one zero byte: the keys from one of
+    // them on, and below the next, are those of a shard.
+    std::vector<std::string> splits = {};
+    mst::format format = mst::format::one;
+};
+
 // The writer of a map, and its readers.
 //
-//     auto [writer, readers] = mst::sharded::open(1000, 3, {"h", "p"});
+//     auto [writer, readers] = mst::sharded::open({1000, 3, {"h", "p"}});
 struct opened {
     sharded::writer writer;
     std::vector<reader> readers;
 };
 
-// Opens a sharded map of the empty map, which is block 0, and returns its writer and its 0 to 31
-// readers. The splits are at most 1,023 keys that rise strictly, from above that of one zero byte:
-// the keys from one of them on, and below the next, are those of a shard, which has 4 to 65,535
-// rows. The map keeps its format; snapshot::copy_to copies it to a map of another.
-inline opened open(std::uint32_t rows, std::size_t readers, const std::vector<std::string> &splits,
-                   mst::format in = mst::format::one) {
-    if (readers >= MST_PASSES_MOST) throw refused(MST_BAD_SHAPE);
-    auto packed = mst::detail::packed(splits);
-    opened all{writer(), std::vector<reader>(readers)};
-    std::vector<mst_handle> hands(readers + 1); // null, as MST_HANDLE_CLOSED
+// Opens a sharded map of the empty map, which is block 0, and returns its writer and its readers.
+// The map keeps its format; snapshot::copy_to copies it to a map of another.
+inline opened open(const options &wanted) {
+    if (wanted.readers >= MST_PASSES_MOST) throw refused(MST_BAD_SHAPE);
+    auto splits = mst::detail::packed(wanted.splits);
+    opened all{writer(), std::vector<reader>(wanted.readers)};
+    std::vector<mst_handle> hands(wanted.readers + 1); // null, as MST_HANDLE_CLOSED
     all.writer.hand = std::make_shared<mst::detail::sharded_held>();
     for (auto &one : all.readers) one.hand = std::make_shared<mst::detail::sharded_held>();
-    mst::detail::require(mst_sharded_open(static_cast<std::uint32_t>(in), rows, packed.data(),
-                                          packed.size(), hands.data(), hands.size()));
+    mst::detail::require(mst_sharded_open(static_cast<std::uint32_t>(wanted.format), wanted.rows,
+                                          splits.data(), splits.size(), hands.data(),
+                                          hands.size()));
     // what the hands hold moves, once: those of the array are not looked at again
     all.writer.hand->handle = hands[0];
-    for (std::size_t i = 0; i < readers; i++) all.readers[i].hand->handle = hands[i + 1];
+    for (std::size_t i = 0; i < all.readers.size(); i++)
+        all.readers[i].hand->handle = hands[i + 1];
     return all;
 }
 

@@ -2,7 +2,7 @@
 // While one of them makes a block, the edits of the others wait, and then all that wait are made as
 // one block.
 //
-//     auto [writer, readers] = mst::sharded::open(1000, 1, {"m"});
+//     auto [writer, readers] = mst::sharded::open({1000, 1, {"m"}});
 //     mst::sharded::group group(std::move(writer));
 //     std::thread other([&] { group.apply(mst::batch().put("apple", "30")); });
 //     auto number = group.apply(mst::batch().put("pear", "12"));     // of the block that has it

@@ -1,10 +1,12 @@
 // The store from C++17: an ordered map of short keys and values with a root digest, proofs, and
 // versions that stay readable while they are pinned.
 //
-//     auto passes = mst::open(1000, 2);           // 1,000 rows, two passes
+//     auto passes = mst::open({1000, 2});         // 1,000 rows, two passes
 //     passes[0].put("apple", "30");
 //     auto value = passes[1].get("apple");        // std::optional<std::string>
 //     passes[0].migrate(mst::format::two);        // shorter proofs; a store opens in format one
+//
+// From C++20 on the options may be named: mst::open({.rows = 1000, .passes = 2}).
 //
 // A pass is one thread's at a time; it is moved, never copied, and closes itself. The store is
 // freed with its last pass. Refusals are exceptions of the class mst::refused. That another pass
@@ -99,13 +101,13 @@ public:
 
 // The reads, which a pass and a pinned pass both have. The hand lies on the heap, so that a pass
 // may be moved or closed while it is pinned.
-class reader {
+class reads {
 protected:
     std::shared_ptr<detail::held> hand;
 
-    reader() noexcept = default;
-    explicit reader(std::shared_ptr<detail::held> of) noexcept : hand(std::move(of)) {}
-    ~reader() = default;
+    reads() noexcept = default;
+    explicit reads(std::shared_ptr<detail::held> of) noexcept : hand(std::move(of)) {}
+    ~reads() = default;
 
     mst_pass *at() const {
         if (hand == nullptr) throw refused(MST_CLOSED);
@@ -163,8 +165,8 @@ protected:
     }
 
 public:
-    reader(const reader &) = delete;
-    reader &operator=(const reader &) = delete;
+    reads(const reads &) = delete;
+    reads &operator=(const reads &) = delete;
 
     // Returns the value of the key, or nothing if the key is absent.
     std::optional<std::string> get(std::string_view key) {
@@ -203,8 +205,8 @@ public:
     // if another pass writes between two pages.
     //
     //     for (auto &&[key, value] : then.items()) use(key, value);
-    mst::items<reader> items(std::string_view from = {}, std::string_view to = {}) & {
-        return mst::items<reader>(this, from, to);
+    mst::items<reads> items(std::string_view from = {}, std::string_view to = {}) & {
+        return mst::items<reads>(this, from, to);
     }
 
     // Returns the root digest of the version. It depends on its pairs and its format alone.
@@ -246,14 +248,14 @@ public:
 
 // A pass while it pins a version: all reads are of that version. The pin ends with the object, or
 // with its pass: then reads by the object are refused. It is used in the thread of its pass.
-class [[nodiscard]] pinned : public reader {
+class [[nodiscard]] pinned : public reads {
     friend class pass;
-    explicit pinned(std::shared_ptr<detail::held> of) : reader(std::move(of)) {
+    explicit pinned(std::shared_ptr<detail::held> of) : reads(std::move(of)) {
         require_done(mst_pin(at()));
     }
 
 public:
-    pinned(pinned &&other) noexcept : reader(std::move(other.hand)) {}
+    pinned(pinned &&other) noexcept : reads(std::move(other.hand)) {}
     pinned &operator=(pinned &&) = delete;
     ~pinned() { unpin(); }
 
@@ -263,9 +265,20 @@ public:
     }
 };
 
+// The shape and the format of a store. The rows and the passes have to be given.
+//
+//     mst::options wanted;
+//     wanted.rows = 1000;
+//     wanted.passes = 2;
+struct options {
+    std::uint32_t rows = 0; // 4 to 65,535: a map takes one for each of its pairs and nodes
+    std::size_t passes = 0; // 1 to 32
+    mst::format format = mst::format::one;
+};
+
 // A pass of a store: reads of the current version, and writes.
-class pass : public reader {
-    friend std::vector<pass> open(std::uint32_t, std::size_t, mst::format);
+class pass : public reads {
+    friend std::vector<pass> open(const options &);
 
     // Each of these is by a call that tries, by the one that waits, or by the one that waits for no
     // longer than a time, which stands last.
@@ -310,7 +323,7 @@ class pass : public reader {
 
 public:
     pass() noexcept = default;
-    pass(pass &&other) noexcept : reader(std::move(other.hand)) {}
+    pass(pass &&other) noexcept : reads(std::move(other.hand)) {}
     pass &operator=(pass &&other) noexcept {
         if (this != &other) {
             close();
@@ -417,17 +430,17 @@ public:
     pinned pin() { return pinned(hand); }
 };
 
-// Opens a store of the empty map, with 4 to 65,535 rows and 1 to 32 passes, and returns its passes.
-// A map takes a row for each of its pairs and nodes.
-inline std::vector<pass> open(std::uint32_t rows, std::size_t passes, format in = format::one) {
-    if (passes > MST_PASSES_MOST) throw refused(MST_BAD_SHAPE);
-    std::vector<pass> all(passes);
-    std::vector<mst_pass> hands(passes); // null, as MST_PASS_CLOSED
+// Opens a store of the empty map, and returns its passes.
+inline std::vector<pass> open(const options &wanted) {
+    if (wanted.passes > MST_PASSES_MOST) throw refused(MST_BAD_SHAPE);
+    std::vector<pass> all(wanted.passes);
+    std::vector<mst_pass> hands(all.size()); // null, as MST_PASS_CLOSED
     for (auto &one : all) one.hand = std::make_shared<detail::held>();
-    int code = mst_open(static_cast<std::uint32_t>(in), rows, hands.data(), passes);
+    auto format = static_cast<std::uint32_t>(wanted.format);
+    int code = mst_open(format, wanted.rows, hands.data(), hands.size());
     if (code != MST_OK) throw refused(code);
     // what the hands hold moves, once: those of the array are not looked at again
-    for (std::size_t i = 0; i < passes; i++) all[i].hand->pass = hands[i];
+    for (std::size_t i = 0; i < hands.size(); i++) all[i].hand->pass = hands[i];
     return all;
 }
 

@@ -10,21 +10,22 @@ import (
 
 // The refusals.
 var (
-	// ErrFormat says that there are formats 1 and 2.
-	ErrFormat = errors.New("mst: there are formats 1 and 2")
-	// ErrKey says that a key has 1 to 32 bytes; a bound may also have none.
-	ErrKey = errors.New("mst: a key has 1 to 32 bytes")
-	// ErrValue says that a value has 0 to 64 bytes.
-	ErrValue = errors.New("mst: a value has 0 to 64 bytes")
+	// ErrUnknownFormat says that there are formats 1 and 2.
+	ErrUnknownFormat = errors.New("mst: there are formats 1 and 2")
+	// ErrBadKey says that a key has 1 to 32 bytes; a bound may also have none.
+	ErrBadKey = errors.New("mst: a key has 1 to 32 bytes")
+	// ErrBadValue says that a value has 0 to 64 bytes.
+	ErrBadValue = errors.New("mst: a value has 0 to 64 bytes")
 	// ErrClosed says that the pass is closed, or its pin ended.
 	ErrClosed = errors.New("mst: the pass is closed, or its pin ended")
-	// ErrPinned says that the pass pins a version: it neither writes, migrates, pins nor counts. Of
-	// a ShardedWriter it says that a block was begun, and has not ended, or that a group has it.
-	ErrPinned = errors.New("mst: the pass pins a version, or a block or a group has the writer")
+	// ErrWrongState says that the pass pins a version: it neither writes, migrates, pins nor
+	// counts. Of a ShardedWriter it says that a block was begun, and has not ended, or that a group
+	// has it.
+	ErrWrongState = errors.New("mst: the pass pins a version, or a block or a group has the writer")
 	// ErrMemory says that the library got no memory.
 	ErrMemory = errors.New("mst: a growth of memory was refused")
-	// ErrShape says that a store has 4 to 65,535 rows and 1 to 32 passes.
-	ErrShape = errors.New("mst: a store has 4 to 65535 rows and 1 to 32 passes")
+	// ErrBadShape says that a store has 4 to 65,535 rows and 1 to 32 passes.
+	ErrBadShape = errors.New("mst: a store has 4 to 65535 rows and 1 to 32 passes")
 	// ErrBusy says that another pass has the turn: it writes, migrates or counts rows.
 	ErrBusy = errors.New("mst: another pass has the turn")
 	// ErrVersionsSpent says that the store has made all versions that it can number.
@@ -33,9 +34,9 @@ var (
 	ErrNoFreeRows = errors.New("mst: fewer rows are free than the write needs")
 	// ErrRowsPinned says that some pass pins a version, so that rows are not counted.
 	ErrRowsPinned = errors.New("mst: a version is pinned, so rows are not counted")
-	// ErrSplits says that splits are at most 1,023 keys that rise strictly, from above that of one
-	// zero byte.
-	ErrSplits = errors.New("mst: splits are at most 1023 keys that rise from above the least")
+	// ErrBadSplits says that splits are at most 1,023 keys that rise strictly, from above that of
+	// one zero byte.
+	ErrBadSplits = errors.New("mst: splits are at most 1023 keys that rise from above the least")
 	// ErrOvertaken says that another than the writer of blocks has written. No call leads to this.
 	ErrOvertaken = errors.New("mst: another than the writer of blocks has written")
 	// ErrMoving says that a block is just being published, so that there is no snapshot of one
@@ -44,18 +45,18 @@ var (
 )
 
 var refusals = map[C.int32_t]error{
-	C.MST_UNKNOWN_FORMAT: ErrFormat,
-	C.MST_BAD_KEY:        ErrKey,
-	C.MST_BAD_VALUE:      ErrValue,
+	C.MST_UNKNOWN_FORMAT: ErrUnknownFormat,
+	C.MST_BAD_KEY:        ErrBadKey,
+	C.MST_BAD_VALUE:      ErrBadValue,
 	C.MST_CLOSED:         ErrClosed,
-	C.MST_WRONG_STATE:    ErrPinned,
+	C.MST_WRONG_STATE:    ErrWrongState,
 	C.MST_MEMORY:         ErrMemory,
-	C.MST_BAD_SHAPE:      ErrShape,
+	C.MST_BAD_SHAPE:      ErrBadShape,
 	C.MST_BUSY:           ErrBusy,
 	C.MST_VERSIONS_SPENT: ErrVersionsSpent,
 	C.MST_NO_FREE_ROWS:   ErrNoFreeRows,
 	C.MST_ROWS_PINNED:    ErrRowsPinned,
-	C.MST_BAD_SPLITS:     ErrSplits,
+	C.MST_BAD_SPLITS:     ErrBadSplits,
 	C.MST_OVERTAKEN:      ErrOvertaken,
 	C.MST_MOVING:         ErrMoving,
 }
@@ -79,7 +80,7 @@ func refusalOfBatch(told C.int32_t, place C.size_t) error {
 	return refusal(told)
 }
 
-// EditError says which edit of a batch is refused. Err is ErrKey or ErrValue.
+// EditError says which edit of a batch is refused. Err is ErrBadKey or ErrBadValue.
 type EditError struct {
 	// Place is the number of the first such edit, from 0.
 	Place int
@@ -91,7 +92,7 @@ func (e *EditError) Error() string {
 	return fmt.Sprintf("%v (edit %d)", e.Err, e.Place)
 }
 
-// Unwrap returns ErrKey or ErrValue.
+// Unwrap returns ErrBadKey or ErrBadValue.
 func (e *EditError) Unwrap() error {
 	return e.Err
 }

@@ -27,9 +27,9 @@ type group struct {
 }
 
 // Group makes a group of the writer, by which any number of goroutines make blocks. Until the group
-// is closed, the error of all other calls of the writer but Close is ErrPinned. After an error the
-// writer is as it was. The error is ErrClosed, ErrPinned if a block was begun, or if a group has
-// the writer already, or ErrMemory.
+// is closed, the error of all other calls of the writer but Close is ErrWrongState. After an error
+// the writer is as it was. The error is ErrClosed, ErrWrongState if a block was begun, or if a
+// group has the writer already, or ErrMemory.
 //
 //	group, err := writer.Group()
 //	number, err := group.Apply(&batch) // in any goroutine, with a batch of its own

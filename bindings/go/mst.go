@@ -1,7 +1,7 @@
 // Package mst is the store for Go, by cgo: an in-memory ordered map of short keys and values with a
 // root digest, proofs, and versions that stay readable while they are pinned.
 //
-//	passes, err := mst.Open(mst.Format1, 1000, 2) // 1,000 rows, two passes
+//	passes, err := mst.Open(mst.Options{Rows: 1000, Passes: 2})
 //	writer, reader := passes[0], passes[1]
 //	_, _, err = writer.Put([]byte("apple"), []byte("30"))
 //	then, err := reader.Pin()
@@ -74,16 +74,26 @@ type seat struct {
 	hand C.mst_pass
 }
 
-// Open opens a store of the empty map in a format, and returns its passes: 1 to 32 passes of a
-// store of 4 to 65,535 rows. The store is freed when all passes are closed. The error is ErrFormat,
-// ErrShape, or ErrMemory.
-func Open(format Format, rows, passes int) ([]*Pass, error) {
+// Options are the shape and the format of a store. The rows and the passes have to be given.
+type Options struct {
+	// Rows are 4 to 65,535: a map takes one for each of its pairs and nodes.
+	Rows int
+	// Passes are 1 to 32.
+	Passes int
+	// Format is the format in which the store opens; 0 is for Format1.
+	Format Format
+}
+
+// Open opens a store of the empty map, and returns its passes. The store is freed when all passes
+// are closed. The error is ErrUnknownFormat, ErrBadShape, or ErrMemory.
+func Open(options Options) ([]*Pass, error) {
+	passes := options.Passes
 	// 33 passes are as refused as any other number out of the limits.
 	if passes < 0 || passes > PassesMost {
 		passes = PassesMost + 1
 	}
 	hands := make([]C.mst_pass, passes+1)
-	told := C.mst_open(C.uint32_t(format), word(rows), &hands[0], C.size_t(passes))
+	told := C.mst_open(numbered(options.Format), word(options.Rows), &hands[0], C.size_t(passes))
 	if told != C.MST_OK {
 		return nil, refusal(told)
 	}
@@ -100,6 +110,14 @@ func Open(format Format, rows, passes int) ([]*Pass, error) {
 // LibraryVersion returns the version of the library that is linked.
 func LibraryVersion() string {
 	return C.GoString(C.mst_library_version())
+}
+
+// numbered is the format of options as the library takes it.
+func numbered(format Format) C.uint32_t {
+	if format == 0 {
+		format = Format1
+	}
+	return C.uint32_t(format)
 }
 
 // word is the number as the library takes it. Of a number out of its range it is one that each call

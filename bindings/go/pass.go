@@ -9,7 +9,7 @@ import (
 )
 
 // Pass is a pass of a store, from Open. While it pins a version, its reads are of that version and
-// its writes are refused with ErrPinned.
+// its writes are refused with ErrWrongState.
 type Pass struct {
 	Reads
 }
@@ -38,7 +38,7 @@ func (p *Pass) Close() error {
 }
 
 // Pin pins the current version: until Unpin all reads by the pass and by the result are of it. The
-// error is ErrClosed, or ErrPinned if the pass pins already.
+// error is ErrClosed, or ErrWrongState if the pass pins already.
 func (p *Pass) Pin() (*Pinned, error) {
 	s, err := p.take()
 	if err != nil {
@@ -67,8 +67,8 @@ func (p *Pinned) Unpin() {
 	runtime.SetFinalizer(p, nil)
 }
 
-// Rows returns how many rows the current version takes. The error is ErrClosed, ErrPinned, ErrBusy,
-// or ErrRowsPinned.
+// Rows returns how many rows the current version takes. The error is ErrClosed, ErrWrongState,
+// ErrBusy, or ErrRowsPinned.
 func (p *Pass) Rows() (int, error) {
 	s, err := p.take()
 	if err != nil {
@@ -83,7 +83,7 @@ func (p *Pass) Rows() (int, error) {
 }
 
 // FreeRows returns how many rows are free to the next write, also while versions are pinned. The
-// error is ErrClosed, ErrPinned, or ErrBusy.
+// error is ErrClosed, ErrWrongState, or ErrBusy.
 func (p *Pass) FreeRows() (int, error) {
 	s, err := p.take()
 	if err != nil {
@@ -117,8 +117,8 @@ func (p *Pass) Made() (version uint64, present bool, err error) {
 }
 
 // TryPut gives the key the value, if no other pass has the turn. It returns the value that the key
-// had before, if it was present. The error is ErrClosed, ErrKey, ErrValue, ErrPinned, ErrBusy,
-// ErrVersionsSpent, or ErrNoFreeRows.
+// had before, if it was present. The error is ErrClosed, ErrBadKey, ErrBadValue, ErrWrongState,
+// ErrBusy, ErrVersionsSpent, or ErrNoFreeRows.
 func (p *Pass) TryPut(key, value []byte) (old []byte, present bool, err error) {
 	return p.old(func(s *seat) C.int32_t {
 		return C.mst_try_put(&s.hand, at(key), size(key), at(value), size(value),
@@ -147,7 +147,7 @@ func (p *Pass) PutWithin(key, value []byte, longest time.Duration) (
 }
 
 // TryRemove takes the key out, if no other pass has the turn. It returns the value that the key had
-// before, if it was present. The error is that of TryPut, but for ErrValue.
+// before, if it was present. The error is that of TryPut, but for ErrBadValue.
 func (p *Pass) TryRemove(key []byte) (old []byte, present bool, err error) {
 	return p.old(func(s *seat) C.int32_t {
 		return C.mst_try_remove(&s.hand, at(key), size(key), at(s.room[:]), size(s.room[:]))
@@ -183,7 +183,7 @@ func (p *Pass) old(write func(s *seat) C.int32_t) (old []byte, present bool, err
 
 // TryApply makes the edits of the batch as one version, if no other pass has the turn: each read
 // sees all of them or none. No edits make a version too. The error is ErrClosed, an *EditError,
-// ErrPinned, ErrBusy, ErrVersionsSpent, ErrMemory, or ErrNoFreeRows.
+// ErrWrongState, ErrBusy, ErrVersionsSpent, ErrMemory, or ErrNoFreeRows.
 func (p *Pass) TryApply(batch *Batch) error {
 	s, err := p.take()
 	if err != nil {
@@ -222,7 +222,8 @@ func (p *Pass) ApplyWithin(batch *Batch, longest time.Duration) error {
 
 // TryMigrate turns the tree of the map to a format, if no other pass has the turn, and returns the
 // format before. The map stays, and so do the pinned versions, each in its format. The error is
-// ErrClosed, ErrFormat, ErrPinned, ErrBusy, ErrVersionsSpent, ErrMemory, or ErrNoFreeRows.
+// ErrClosed, ErrUnknownFormat, ErrWrongState, ErrBusy, ErrVersionsSpent, ErrMemory, or
+// ErrNoFreeRows.
 func (p *Pass) TryMigrate(to Format) (was Format, err error) {
 	s, err := p.take()
 	if err != nil {

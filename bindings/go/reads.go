@@ -31,7 +31,7 @@ func (s *seat) giveBack() {
 	s.mutex.Unlock()
 }
 
-// Get returns the value of the key, if the key is present. The error may also be ErrKey.
+// Get returns the value of the key, if the key is present. The error may also be ErrBadKey.
 func (r *Reads) Get(key []byte) (value []byte, present bool, err error) {
 	s, err := r.take()
 	if err != nil {
@@ -41,16 +41,16 @@ func (r *Reads) Get(key []byte) (value []byte, present bool, err error) {
 	return s.value(C.mst_get(&s.hand, at(key), size(key), at(s.room[:]), size(s.room[:])))
 }
 
-// Next returns the pair of the least key above key, or of the least key of all if key is empty, if
-// there is such a pair. The error may also be ErrKey.
-func (r *Reads) Next(key []byte) (pair Pair, found bool, err error) {
+// Next returns the pair of the least key above after, or of the least key of all if after is empty,
+// if there is such a pair. The error may also be ErrBadKey.
+func (r *Reads) Next(after []byte) (pair Pair, found bool, err error) {
 	s, err := r.take()
 	if err != nil {
 		return Pair{}, false, err
 	}
 	defer s.giveBack()
 	var length C.size_t
-	value, found, err := s.value(C.mst_next(&s.hand, at(key), size(key), at(s.keyRoom[:]),
+	value, found, err := s.value(C.mst_next(&s.hand, at(after), size(after), at(s.keyRoom[:]),
 		size(s.keyRoom[:]), &length, at(s.room[:]), size(s.room[:])))
 	if !found {
 		return Pair{}, false, err
@@ -60,7 +60,7 @@ func (r *Reads) Next(key []byte) (pair Pair, found bool, err error) {
 
 // Range returns the first pairs, at most limit, whose keys are at least from and below to, by
 // rising keys and all of one version. An empty bound does not bind, and neither does a limit below
-// 0. The error may also be ErrKey or ErrMemory.
+// 0. The error may also be ErrBadKey or ErrMemory.
 func (r *Reads) Range(from, to []byte, limit int) ([]Pair, error) {
 	s, err := r.take()
 	if err != nil {
@@ -188,7 +188,8 @@ func (r *Reads) Root() (root Root, err error) {
 }
 
 // Prove returns the proof of the key's answer, which a verifier judges by the format and the root
-// digest of the same version: those that a Pinned tells. The error may also be ErrKey or ErrMemory.
+// digest of the same version: those that a Pinned tells. The error may also be ErrBadKey or
+// ErrMemory.
 func (r *Reads) Prove(key []byte) (proof []byte, err error) {
 	s, err := r.take()
 	if err != nil {

@@ -55,29 +55,40 @@ func packedSplits(splits [][]byte) []byte {
 	return packed
 }
 
-// OpenSharded opens a sharded map of the empty map, which is block 0, in a format, and returns its
-// writer and its 0 to 31 readers. The splits are at most SplitsMost keys that rise strictly, from
-// above that of one zero byte: the keys from one of them on, and below the next, are those of a
-// shard, a store of 4 to 65,535 rows. The map keeps its format, and is freed when its writer and
-// all readers are closed. The error is ErrFormat, ErrSplits, ErrShape, or ErrMemory.
+// ShardedOptions are the shape and the format of a sharded map. The rows have to be given.
+type ShardedOptions struct {
+	// Rows are those of each shard, which is a store: 4 to 65,535.
+	Rows int
+	// Readers are 0 to 31.
+	Readers int
+	// Splits are at most SplitsMost keys that rise strictly, from above that of one zero byte: the
+	// keys from one of them on, and below the next, are those of a shard. Of none there is one.
+	Splits [][]byte
+	// Format is the format of the map, which keeps it; 0 is for Format1.
+	Format Format
+}
+
+// OpenSharded opens a sharded map of the empty map, which is block 0, and returns its writer and
+// its readers. The map is freed when its writer and all readers are closed. The error is
+// ErrUnknownFormat, ErrBadSplits, ErrBadShape, or ErrMemory.
 //
-//	writer, readers, err := mst.OpenSharded(mst.Format1, 1000, 1, [][]byte{[]byte("m")})
+//	options := mst.ShardedOptions{Rows: 1000, Readers: 1, Splits: [][]byte{[]byte("m")}}
+//	writer, readers, err := mst.OpenSharded(options)
 //	var batch mst.Batch
 //	number, err := writer.Apply(batch.Put([]byte("apple"), []byte("30"))) // 1
 //	then, err := readers[0].Snapshot()
 //	root, err := then.Root() // as writer.Root()
 //	then.Release()
-func OpenSharded(
-	format Format, rows, readers int, splits [][]byte,
-) (*ShardedWriter, []*ShardedReader, error) {
+func OpenSharded(options ShardedOptions) (*ShardedWriter, []*ShardedReader, error) {
+	readers := options.Readers
 	// 33 hands are as refused as any other number out of the limits.
 	if readers < 0 || readers >= PassesMost {
 		readers = PassesMost
 	}
-	packed := packedSplits(splits)
+	packed := packedSplits(options.Splits)
 	hands := make([]C.mst_handle, readers+1)
-	told := C.mst_sharded_open(C.uint32_t(format), word(rows), at(packed), size(packed), &hands[0],
-		C.size_t(readers+1))
+	told := C.mst_sharded_open(numbered(options.Format), word(options.Rows), at(packed),
+		size(packed), &hands[0], C.size_t(readers+1))
 	if told != C.MST_OK {
 		return nil, nil, refusal(told)
 	}
@@ -97,7 +108,7 @@ func (w *ShardedWriter) take() (*member, error) {
 	w.of.mutex.Lock()
 	if w.group != nil {
 		w.of.mutex.Unlock()
-		return nil, ErrPinned
+		return nil, ErrWrongState
 	}
 	return &w.of, nil
 }
@@ -168,8 +179,8 @@ func (w *ShardedWriter) ApplyInThreads(batch *Batch, threads int) (number uint64
 
 // Begin begins the next block, of the edits of the batch, and returns it with its parts, one for
 // each shard, in their order, for goroutines to prepare. Until the block ends, the error of all
-// other calls of the writer but Close is ErrPinned. After an error nothing has changed. The error
-// is as that of Apply, or ErrPinned if a block was begun already.
+// other calls of the writer but Close is ErrWrongState. After an error nothing has changed. The
+// error is as that of Apply, or ErrWrongState if a block was begun already.
 //
 //	block, parts, err := writer.Begin(&batch)
 //	var all sync.WaitGroup
@@ -212,7 +223,7 @@ func (w *ShardedWriter) Begin(batch *Batch) (*ShardedBlock, []*ShardedPart, erro
 }
 
 // Get returns the value of the key in the last block, if the key is present: so a block can depend
-// on what the map has. The error is ErrClosed, ErrKey, or ErrOvertaken.
+// on what the map has. The error is ErrClosed, ErrBadKey, or ErrOvertaken.
 func (w *ShardedWriter) Get(key []byte) (value []byte, present bool, err error) {
 	m, err := w.take()
 	if err != nil {
@@ -353,7 +364,7 @@ func (r *ShardedReader) Shards() (int, error) {
 
 // Get returns the value that the key has now, if the key is present. Two such reads need not be of
 // one block. While the reader has a snapshot, it reads the snapshot's block. The error is ErrClosed
-// or ErrKey.
+// or ErrBadKey.
 func (r *ShardedReader) Get(key []byte) (value []byte, present bool, err error) {
 	r.of.mutex.Lock()
 	defer r.of.mutex.Unlock()
@@ -361,7 +372,7 @@ func (r *ShardedReader) Get(key []byte) (value []byte, present bool, err error) 
 }
 
 // TrySnapshot takes a snapshot of one block: until Release all reads by the reader and by the
-// result are of it. The error is ErrClosed, ErrPinned if the reader has a snapshot already, or
+// result are of it. The error is ErrClosed, ErrWrongState if the reader has a snapshot already, or
 // ErrMoving while a block is just being published.
 func (r *ShardedReader) TrySnapshot() (*ShardedSnapshot, error) {
 	r.of.mutex.Lock()
@@ -398,6 +409,16 @@ func (s *ShardedSnapshot) take() (*member, error) {
 	return &s.by.of, nil
 }
 
+// Shards returns how many shards there are. The error is ErrClosed.
+func (s *ShardedSnapshot) Shards() (int, error) {
+	m, err := s.take()
+	if err != nil {
+		return 0, err
+	}
+	defer m.mutex.Unlock()
+	return m.shards()
+}
+
 // Number returns the number of the block: how many blocks led to this map. The error is ErrClosed.
 func (s *ShardedSnapshot) Number() (uint64, error) {
 	m, err := s.take()
@@ -430,7 +451,7 @@ func (s *ShardedSnapshot) Format() (Format, error) {
 	return formatOf(C.mst_sharded_format(&m.hand))
 }
 
-// Get returns the value of the key, if the key is present. The error is ErrClosed or ErrKey.
+// Get returns the value of the key, if the key is present. The error is ErrClosed or ErrBadKey.
 func (s *ShardedSnapshot) Get(key []byte) (value []byte, present bool, err error) {
 	m, err := s.take()
 	if err != nil {
@@ -440,17 +461,17 @@ func (s *ShardedSnapshot) Get(key []byte) (value []byte, present bool, err error
 	return m.get(key)
 }
 
-// Next returns the pair of the least key above key, or of the least key of all if key is empty, if
-// there is such a pair. The error is ErrClosed or ErrKey.
-func (s *ShardedSnapshot) Next(key []byte) (pair Pair, found bool, err error) {
+// Next returns the pair of the least key above after, or of the least key of all if after is empty,
+// if there is such a pair. The error is ErrClosed or ErrBadKey.
+func (s *ShardedSnapshot) Next(after []byte) (pair Pair, found bool, err error) {
 	m, err := s.take()
 	if err != nil {
 		return Pair{}, false, err
 	}
 	defer m.mutex.Unlock()
 	var length C.size_t
-	value, found, err := m.value(C.mst_sharded_next(&m.hand, at(key), size(key), at(m.keyRoom[:]),
-		size(m.keyRoom[:]), &length, at(m.room[:]), size(m.room[:])))
+	value, found, err := m.value(C.mst_sharded_next(&m.hand, at(after), size(after),
+		at(m.keyRoom[:]), size(m.keyRoom[:]), &length, at(m.room[:]), size(m.room[:])))
 	if !found {
 		return Pair{}, false, err
 	}
@@ -459,7 +480,7 @@ func (s *ShardedSnapshot) Next(key []byte) (pair Pair, found bool, err error) {
 
 // Range returns the first pairs, at most limit, whose keys are at least from and below to, by
 // rising keys. An empty bound does not bind, and neither does a limit below 0. The error is
-// ErrClosed, ErrKey, or ErrMemory.
+// ErrClosed, ErrBadKey, or ErrMemory.
 func (s *ShardedSnapshot) Range(from, to []byte, limit int) ([]Pair, error) {
 	m, err := s.take()
 	if err != nil {
@@ -503,7 +524,7 @@ func (s *ShardedSnapshot) Directory() ([]Pair, error) {
 }
 
 // Prove returns the proof of the key's answer, for a verifier of sharded maps and the format and
-// the root digest of this snapshot. The error is ErrClosed, ErrKey, or ErrMemory.
+// the root digest of this snapshot. The error is ErrClosed, ErrBadKey, or ErrMemory.
 func (s *ShardedSnapshot) Prove(key []byte) ([]byte, error) {
 	m, err := s.take()
 	if err != nil {

@@ -42,7 +42,7 @@ def judged(root, key, value, proof):
 
 writer, reader = open_store(rows=100, passes=2, format=Format.TWO)
 writer.put(b"apple", b"30")
-with reader.pinned() as pinned:
+with reader.pin() as pinned:
     root = pinned.root()
     server = http.server.ThreadingHTTPServer(("127.0.0.1", 0), Service)
     threading.Thread(target=server.serve_forever, daemon=True).start()
@@ -50,7 +50,7 @@ with reader.pinned() as pinned:
     value, proof = ask(server.server_address[1], b"apple")
     print("the answer:", judged(root, b"apple", value, proof))
     print("a forged one:", judged(root, b"apple", b"31", proof))
-with reader.pinned() as pinned:
+with reader.pin() as pinned:
     value, proof = ask(server.server_address[1], b"apple")
     print("a newer one:", judged(root, b"apple", value, proof))
     server.shutdown()

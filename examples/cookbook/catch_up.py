@@ -18,7 +18,7 @@ def lacking(ours, theirs):
 
 
 ours, theirs = filled(range(0, 100)), filled(range(10, 130))
-with theirs.pinned() as version:
+with theirs.pin() as version:
     edits = lacking(ours, version)
     ours.apply(edits)
     equal = ours.root() == version.root()

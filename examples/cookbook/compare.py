@@ -14,7 +14,7 @@ def tell_differing(name, one, other):
 
 def compare(ours, theirs):
     """Compares replicas of one format: first their root digests, which are enough if they agree."""
-    with ours.pinned() as one, theirs.pinned() as other:  # so that neither changes on the way
+    with ours.pin() as one, theirs.pin() as other:  # so that neither changes on the way
         if one.root() == other.root():
             print("equal: yes")
             return

@@ -21,7 +21,7 @@ def read(reader):
     """Each pinned version has equal counters, and none is older than the one before."""
     last = 0
     for _ in range(1000):
-        with reader.pinned() as version:
+        with reader.pin() as version:
             if version.get(b"sent") != version.get(b"received") or version.version() < last:
                 failures.append(reader)
             last = version.version()

@@ -20,7 +20,7 @@ class Pins:
 
     @contextmanager
     def pinned(self, reader, who):
-        with reader.pinned() as then:
+        with reader.pin() as then:
             with self._lock:
                 self._entries[reader] = then.version(), time.monotonic(), who
             try:
@@ -44,7 +44,7 @@ class Watch:
         """The alarms of a poll."""
         oldest = self._pins.oldest()
         try:
-            free_rows = self._spare.try_free_rows()
+            free_rows = self._spare.free_rows()
         except Busy:  # nothing is known of pins then; `put` tells whether it ever ends
             return ["another pass has the turn"]
         self._falls = self._falls + 1 if free_rows < self._free_rows else 0
@@ -108,7 +108,7 @@ def write_on(writer, is_over):
 def moved(spare, pins):
     """The passes of a new store with the map of the spare pass's store."""
     with pins.pinned(spare, "the move") as last:
-        fresh = open_store(ROWS, 4, last.format())
+        fresh = open_store(rows=ROWS, passes=4, format=last.format())
         pairs = last.range()
         fresh[0].apply(pairs)
         if fresh[0].root() != last.root():
@@ -135,7 +135,7 @@ def watch_writer(passes, pins):
 
 
 def main():
-    pins, passes = Pins(), open_store(ROWS, 4)
+    pins, passes = Pins(), open_store(rows=ROWS, passes=4)
     writer, _, reader, spare = passes
     change(writer, range(KEYS), b"w")
     watch_pins(writer, reader, spare, pins)

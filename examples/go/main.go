@@ -20,7 +20,7 @@ func main() {
 }
 
 func run() error {
-	passes, err := mst.Open(mst.Format1, 1000, 2)
+	passes, err := mst.Open(mst.Options{Rows: 1000, Passes: 2})
 	if err != nil {
 		return err
 	}

@@ -40,7 +40,7 @@ def filled(seed, changes):
 def serve(pipe):
     """Answers questions of one pinned version until None is asked: no key for the root digest, a
     key for its proof."""
-    with filled(seed=1, changes=10).pinned() as version:
+    with filled(seed=1, changes=10).pin() as version:
         pipe.send(version.root())
         for key in iter(pipe.recv, None):
             pipe.send(version.prove(key))

@@ -48,7 +48,7 @@ def main(port, name, by_key, late, pin_at, audits_for):
                 block.edits.sort(key=operator.itemgetter(0))
             writer.apply(block.edits)
             if block.number == pin_at:
-                then = until_end.enter_context(reader.pinned())
+                then = until_end.enter_context(reader.pin())
                 change_log.tell_snapshot(client, block, then.range())
                 service = until_end.enter_context(audit.service(then, others(client, name)))
                 change_log.tell_audit(client, name, audit.address(service))

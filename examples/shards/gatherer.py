@@ -33,7 +33,7 @@ def roots(client, checkpoint):
 
 def main(port, folder, format):
     client, listed = connect(port), {}
-    writer, *readers = open_store(ROWS, passes=3, format=format)
+    writer, *readers = open_store(rows=ROWS, passes=3, format=format)
     versions = Versions([it.pinned for it in readers])
     versions.serve(os.path.join(folder, "gatherer"))
     for checkpoint in itertools.count(1):

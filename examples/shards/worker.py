@@ -61,7 +61,8 @@ def publish(client, checkpoint, block, shards):
 def main(port, folder, number, rows, format):
     client, seconds = connect(port), 0.0
     places = dict.fromkeys(splits.shards_of(number), shard_log.BEGINNING)
-    writer, *readers = open_sharded(rows, 2, splits.splits_of(number), format)
+    writer, *readers = open_sharded(
+        rows=rows, readers=2, splits=splits.splits_of(number), format=format)
     versions = Versions([it.snapshot for it in readers])
     versions.serve(os.path.join(folder, f"worker {number}"))
     for checkpoint in itertools.count(1):

@@ -104,7 +104,7 @@ bool proves(mst::sharded::snapshot &then, const block &of) {
 }
 
 void snapshots_keep_their_blocks(mst::format format) {
-    auto [writer, readers] = mst::sharded::open(256, 2, sixteen(), format);
+    auto [writer, readers] = mst::sharded::open({256, 2, sixteen(), format});
     std::mt19937 chance(7);
     block last{0, writer.root(), {}};
     EXPECT(writer.number() == 0 && writer.shards() == 16 && readers[1].shards() == 16);
@@ -134,7 +134,7 @@ std::size_t stopped_at(mst::sharded::writer &writer, const mst::batch &edits) {
 }
 
 void refused_blocks() {
-    auto [writer, readers] = mst::sharded::open(12, 2, {"b", "c", "d"}, mst::format::two);
+    auto [writer, readers] = mst::sharded::open({12, 2, {"b", "c", "d"}, mst::format::two});
     EXPECT(writer.apply(mst::batch().put("a", "old").put("c", "old")) == 1);
     block first{1, writer.root(), {{"a", "old"}, {"c", "old"}}};
     auto then = readers[1].snapshot();
@@ -155,7 +155,7 @@ void refused_blocks() {
 }
 
 void refused_edits() {
-    auto [writer, readers] = mst::sharded::open(16, 1, {"m"});
+    auto [writer, readers] = mst::sharded::open({16, 1, {"m"}});
     std::size_t place = 77;
     try {
         (void)writer.apply(mst::batch().put("a", "1").put("", "1"));
@@ -171,20 +171,20 @@ void refused_edits() {
 // A map of one format is copied to one of the other, with other splits, and to one that is full.
 void copies(mst::format format) {
     auto other = format == mst::format::one ? mst::format::two : mst::format::one;
-    auto [writer, readers] = mst::sharded::open(256, 1, sixteen(), format);
+    auto [writer, readers] = mst::sharded::open({256, 1, sixteen(), format});
     std::mt19937 chance(9);
     block last{0, writer.root(), {}};
     for (int more = 0; more < 30; more++) last = made(writer, last, chance);
     auto then = readers[0].snapshot();
-    auto [its_writer, its_readers] = mst::sharded::open(999, 1, {"a", "b"}, other);
-    auto direct = mst::sharded::open(500, 0, {"a", "b"}, other).writer;
+    auto [its_writer, its_readers] = mst::sharded::open({999, 1, {"a", "b"}, other});
+    auto direct = mst::sharded::open({500, 0, {"a", "b"}, other}).writer;
     EXPECT(then.copy_to(its_writer) == 1);
     mst::batch edits;
     for (const auto &[key, value] : last.map) edits.put(key, value);
     EXPECT(direct.apply(edits) == 1);
     auto now = its_readers[0].snapshot();
     EXPECT(shows(now, block{1, direct.root(), last.map}) && now.format() == other);
-    auto full = mst::sharded::open(8, 1, {"a"}, other);
+    auto full = mst::sharded::open({8, 1, {"a"}, other});
     EXPECT(is_refused(MST_NO_FREE_ROWS, [&] { (void)then.copy_to(full.writer); }));
     EXPECT(full.writer.number() == 0 && full.readers[0].snapshot().range().empty());
     full.writer.close();
@@ -195,21 +195,25 @@ void copies(mst::format format) {
 
 void openings() {
     auto with = [](std::vector<std::string> splits) {
-        return [splits] { (void)mst::sharded::open(16, 1, splits); };
+        return [splits] { (void)mst::sharded::open({16, 1, splits}); };
     };
     EXPECT(is_refused(MST_BAD_SPLITS, with({""})));
     EXPECT(is_refused(MST_BAD_SPLITS, with({"b", "b"})));
     EXPECT(is_refused(MST_BAD_SPLITS, with({"c", "b"})));
     EXPECT(is_refused(MST_BAD_SPLITS, with({std::string(33, 'a')})));
-    EXPECT(is_refused(MST_BAD_SHAPE, [] { (void)mst::sharded::open(3, 1, {}); }));
-    EXPECT(is_refused(MST_BAD_SHAPE, [] { (void)mst::sharded::open(16, 32, {}); }));
-    EXPECT(mst::sharded::open(16, 31, {}).readers.size() == 31);
-    EXPECT(mst::sharded::open(16, 0, {"m"}).writer.apply(mst::batch().put("a", "1")) == 1);
+    EXPECT(is_refused(MST_BAD_SHAPE, [] { (void)mst::sharded::open({3, 1}); }));
+    EXPECT(is_refused(MST_BAD_SHAPE, [] { (void)mst::sharded::open({16, 32}); }));
+    EXPECT(is_refused(MST_BAD_SHAPE, [] { (void)mst::sharded::open({}); }));
+    EXPECT(mst::sharded::open({16, 31}).readers.size() == 31);
+#if __cplusplus >= 202002L
+    EXPECT(mst::sharded::open({.rows = 16, .splits = {"m"}}).writer.shards() == 2);
+#endif
+    EXPECT(mst::sharded::open({16, 0, {"m"}}).writer.apply(mst::batch().put("a", "1")) == 1);
     EXPECT(mst::overtaken(3).code() == MST_OVERTAKEN && mst::overtaken(3).shard() == 3);
 }
 
 void ends() {
-    auto opened = mst::sharded::open(16, 2, {"m"});
+    auto opened = mst::sharded::open({16, 2, {"m"}});
     auto writer = std::move(opened.writer);
     auto reader = std::move(opened.readers[0]), other = std::move(opened.readers[1]);
     EXPECT(is_refused(MST_CLOSED, [&] { (void)opened.writer.number(); }));
@@ -265,9 +269,9 @@ void prepare(std::vector<mst::sharded::part> &parts, std::size_t threads) {
 
 // The same blocks by apply, by threads that the library starts, and by threads of this test.
 void blocks_by_threads() {
-    auto [writer, readers] = mst::sharded::open(256, 1, sixteen());
-    auto once = mst::sharded::open(256, 0, sixteen()).writer;
-    auto hers = mst::sharded::open(256, 0, sixteen()).writer;
+    auto [writer, readers] = mst::sharded::open({256, 1, sixteen()});
+    auto once = mst::sharded::open({256, 0, sixteen()}).writer;
+    auto hers = mst::sharded::open({256, 0, sixteen()}).writer;
     std::mt19937 chance(11);
     for (std::uint64_t number = 1; number <= 60; number++) {
         auto edits = some_edits(chance), others = some_edits(chance);
@@ -290,7 +294,7 @@ void blocks_by_threads() {
 }
 
 void refused_blocks_by_threads() {
-    auto writer = mst::sharded::open(12, 0, {"b", "c", "d"}).writer;
+    auto writer = mst::sharded::open({12, 0, {"b", "c", "d"}}).writer;
     mst::batch edits, none;
     for (char end = 'a'; end < 'm'; end++) edits.put(std::string("c") + end, "1");
     edits.put("a", "1");
@@ -350,7 +354,7 @@ bool reads(mst::sharded::reader &reader, told &of) {
 }
 
 void threads() {
-    auto opened = mst::sharded::open(64, 3, sixteen());
+    auto opened = mst::sharded::open({64, 3, sixteen()});
     told of;
     of.roots.push_back(opened.writer.root());
     std::atomic<int> wrong_ones{0};

@@ -89,7 +89,7 @@ bool writes(mst::sharded::group &group, std::size_t own, told &of) {
 
 void threads_share_a_writer(mst::format format) {
     auto [writer, readers] =
-        mst::sharded::open(256, 1, {"b", "c", "d", "e", "f", "g", "h"}, format);
+        mst::sharded::open({256, 1, {"b", "c", "d", "e", "f", "g", "h"}, format});
     mst::sharded::group group(std::move(writer));
     std::vector<told> each(THREADS);
     EXPECT(wrong_in_threads([&](std::size_t own) { return writes(group, own, each[own]); }) == 0);
@@ -169,7 +169,7 @@ bool is_told(mst::sharded::group &group, std::size_t own, std::uint64_t &number)
 }
 
 void refused_calls() {
-    auto [writer, readers] = mst::sharded::open(80, 1, {"m"}, mst::format::two);
+    auto [writer, readers] = mst::sharded::open({80, 1, {"m"}, mst::format::two});
     mst::sharded::group group(std::move(writer));
     std::vector<std::uint64_t> last(THREADS);
     EXPECT(wrong_in_threads([&](std::size_t own) { return is_told(group, own, last[own]); }) == 0);
@@ -186,7 +186,7 @@ void refused_calls() {
 }
 
 void openings() {
-    auto opened = mst::sharded::open(16, 0, {"m"});
+    auto opened = mst::sharded::open({16, 0, {"m"}});
     auto &writer = opened.writer;
     auto opens = [](mst::sharded::writer &of) {
         return [&of] { (void)mst::sharded::group(std::move(of)); };
@@ -212,7 +212,7 @@ void openings() {
 }
 
 void ends() {
-    auto opened = mst::sharded::open(16, 1, {"m"});
+    auto opened = mst::sharded::open({16, 1, {"m"}});
     mst::sharded::group group(std::move(opened.writer)), none;
     auto moved = std::move(group);
     EXPECT(is_refused(MST_CLOSED, [&] { (void)group.apply(mst::batch()); }));
@@ -224,7 +224,7 @@ void ends() {
     group = mst::sharded::group(std::move(writer));
     EXPECT(group.apply(mst::batch().put("b", "2")) == 2);
     // it has another writer from here on, and the first one is closed
-    auto other = mst::sharded::open(16, 0, {}).writer;
+    auto other = mst::sharded::open({16}).writer;
     group = mst::sharded::group(std::move(other));
     EXPECT(group.apply(mst::batch()) == 1);
     auto then = opened.readers[0].snapshot();

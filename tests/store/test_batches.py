@@ -13,7 +13,7 @@ EDITS = [(b"b", b"2"), (b"abc", b"y"), (b"a", b"1"), (b"b", None), (b"abc", b"x"
 
 class Batches(Case):
     def test_the_edits_one_by_one(self):
-        store, _ = open_store(8, 2)
+        store, _ = open_store(rows=8, passes=2)
         known = {}
         for key, value in EDITS:
             old = store.try_remove(key) if value is None else store.try_put(key, value)
@@ -21,27 +21,27 @@ class Batches(Case):
             if value is not None:
                 known[key] = value
         self.assertEqual(store.root(), ROOT_OF_BOTH)
-        self.assertEqual((store.try_rows(), store.version()), (3, len(EDITS)))
+        self.assertEqual((store.rows(), store.version()), (3, len(EDITS)))
 
     def test_a_batch_leaves_the_map_of_its_edits_as_one_version(self):
-        one, other = open_store(8, 2)
+        one, other = open_store(rows=8, passes=2)
         one.try_apply(EDITS)
         self.assertEqual((one.root(), other.root()), (ROOT_OF_BOTH, ROOT_OF_BOTH))
         self.assertIsNone(other.get(b"b"))
-        self.assertEqual((one.try_rows(), one.version()), (3, 1))
+        self.assertEqual((one.rows(), one.version()), (3, 1))
         # all of it again changes nothing, and is a version
         other.try_apply(EDITS)
         self.assertEqual((other.root(), other.version()), (ROOT_OF_BOTH, 2))
         other.try_apply([(b"a", None), (b"abc", None)])
-        self.assertEqual((one.root(), one.try_rows(), one.version()), (ROOT_OF_NONE, 0, 3))
+        self.assertEqual((one.root(), one.rows(), one.version()), (ROOT_OF_NONE, 0, 3))
 
     def test_no_edits_are_a_version_that_takes_no_row(self):
-        one, other = open_store(4, 2)
+        one, other = open_store(rows=4, passes=2)
         one.try_apply([])
         self.assertEqual(one.root(), ROOT_OF_NONE)
         other.try_apply([(b"b", b"2"), (b"a", b"1"), (b"c", b"3")])
         # no row is left over
-        self.assertEqual(one.try_rows(), 4)
+        self.assertEqual(one.rows(), 4)
         one.try_apply([])
         other.apply([])
         with self.no_room():
@@ -49,24 +49,24 @@ class Batches(Case):
         self.assertEqual((one.get(b"b"), one.version()), (b"2", 4))
 
     def test_a_batch_that_finds_no_room_changes_nothing(self):
-        one, other = open_store(4, 2)
+        one, other = open_store(rows=4, passes=2)
         self.assertIsNone(one.try_put(b"abc", b"x"))
         # two rows are left over, and three are needed
         with self.no_room():
             one.try_apply(EDITS)
         with self.no_room():
             other.apply(EDITS)
-        self.assertEqual((one.version(), one.try_rows()), (1, 2))
+        self.assertEqual((one.version(), one.rows()), (1, 2))
         self.assertEqual((one.get(b"abc"), one.get(b"a")), (b"x", None))
         # the turn was given back
         other.try_apply([(b"abc", None), (b"a", b"1")])
         self.assertEqual((one.get(b"abc"), one.version()), (None, 2))
 
     def test_a_pinned_pass_sees_none_of_a_batch(self):
-        reader, writer = open_store(6, 2)
+        reader, writer = open_store(rows=6, passes=2)
         self.assertIsNone(reader.try_put(b"a", b"1"))
         self.assertIsNone(reader.try_put(b"abc", b"x"))
-        with reader.pinned() as then:
+        with reader.pin() as then:
             writer.try_apply([(b"a", None), (b"b", b"2"), (b"abc", b"y")])
             self.assertEqual((then.get(b"a"), then.get(b"b")), (b"1", None))
             self.assertEqual((then.root(), then.version()), (ROOT_OF_BOTH, 2))
@@ -79,14 +79,14 @@ class Batches(Case):
         self.assertEqual(reader.version(), 4)
 
     def test_a_batch_is_made_in_each_format(self):
-        one, other = open_store(16, 2)
+        one, other = open_store(rows=16, passes=2)
         self.assertIs(one.try_migrate(Format.TWO), Format.ONE)
         other.try_apply(EDITS)
         self.assertIs(one.try_migrate(Format.ONE), Format.TWO)
         self.assertEqual((one.root(), one.version()), (ROOT_OF_BOTH, 3))
 
     def test_a_batch_in_turn_goes_through(self):
-        one, other = open_store(8, 2)
+        one, other = open_store(rows=8, passes=2)
         one.apply(EDITS)
         self.assertEqual(other.root(), ROOT_OF_BOTH)
         other.apply([(b"abc", None), (b"a", None)])
@@ -122,13 +122,13 @@ class Loads(Case):
     def assert_no_room(self, store, edits, rows):
         with self.no_room():
             store.try_apply(edits)
-        self.assertEqual(store.try_rows(), rows)
+        self.assertEqual(store.rows(), rows)
 
     def assert_fills(self, store, load, before):
         """The keys below the count fill the store, and one more finds no room."""
         self.assert_no_room(store, puts_below(load.count + 1), before)
         store.try_apply(puts_below(load.count))
-        self.assertEqual(store.try_rows(), load.rows)
+        self.assertEqual(store.rows(), load.rows)
 
     def assert_full(self, store, load):
         """It takes no put, and no batch of one remove."""
@@ -139,10 +139,10 @@ class Loads(Case):
     def assert_frees(self, store, load, left, rows):
         """The batch that leaves the keys below this goes through, though no row is free."""
         store.try_apply((numbered(number), None) for number in range(left, load.count))
-        self.assertEqual(store.try_rows(), rows)
+        self.assertEqual(store.rows(), rows)
 
     def assert_fills_and_frees(self, load):
-        (store,) = open_store(load.rows, 1, load.format)
+        (store,) = open_store(rows=load.rows, passes=1, format=load.format)
         self.assert_fills(store, load, 0)
         self.assert_full(store, load)
         root, left = store.root(), load.first + 1
@@ -156,7 +156,7 @@ class Loads(Case):
 
     def assert_refused_short(self, load):
         """The load finds no room in a store that is one row short of it."""
-        (store,) = open_store(load.rows - 1, 1, load.format)
+        (store,) = open_store(rows=load.rows - 1, passes=1, format=load.format)
         self.assert_no_room(store, puts_below(load.count), 0)
         self.assertEqual(store.root(), ROOT_OF_NONE)
 

@@ -64,7 +64,7 @@ class Groups(unittest.TestCase):
         edits = [(b"a", b"1")]
         for call in (writer.shards, writer.number, writer.root, writer.group,
                      lambda: writer.get(b"a"), lambda: writer.apply(edits),
-                     lambda: writer.apply_in_threads(edits, 2), writer.begin(edits).__enter__):
+                     lambda: writer.apply_in_threads(edits, 2), lambda: writer.begin(edits)):
             self.refused(code, call)
 
     # ---- threads that write
@@ -96,7 +96,7 @@ class Groups(unittest.TestCase):
     def replays(self):
         """Makes the requests once more in a second map, by the numbers that were told: it has each
         root digest that was seen. Each number is that of a block with requests."""
-        (twin,) = open_sharded(2048, 0, SPLITS)
+        (twin,) = open_sharded(rows=2048, splits=SPLITS)
         blocks = {number: [] for number in range(1, self.highest + 1)}
         for thread, numbers in enumerate(self.numbers):
             self.assertEqual(len(numbers), REQUESTS + 1)
@@ -109,7 +109,7 @@ class Groups(unittest.TestCase):
             self.assertEqual(twin.root(), self.seen.get(number, twin.root()))
 
     def test_threads_write_by_one_group(self):
-        writer, reader = open_sharded(2048, 1, SPLITS)
+        writer, reader = open_sharded(rows=2048, readers=1, splits=SPLITS)
         self.numbers, self.seen = [[0] for _ in range(THREADS)], {}
         self.lock, self.highest, self.ended = threading.Lock(), 0, []
         with writer.group() as group:
@@ -127,7 +127,7 @@ class Groups(unittest.TestCase):
         self.assertEqual(writer.apply([]), self.highest + 1)
 
     def test_a_counter_with_a_lock_around_the_read(self):
-        writer, reader = open_sharded(64, 1, SPLITS)
+        writer, reader = open_sharded(rows=64, readers=1, splits=SPLITS)
         lock = threading.Lock()
 
         def counts(group):
@@ -143,7 +143,7 @@ class Groups(unittest.TestCase):
     # ---- refusals
 
     def test_no_call_is_refused_for_another(self):
-        (writer,) = open_sharded(80, 0, [b"b"], Format.TWO)
+        (writer,) = open_sharded(rows=80, splits=[b"b"], format=Format.TWO)
         many, last = [(bytes([ord("c"), 0, at]), b"1") for at in range(100)], 150
 
         def asks(thread):
@@ -172,7 +172,7 @@ class Groups(unittest.TestCase):
                 self.assertEqual(writer.get(bytes([first, thread])), wanted)
 
     def test_the_writer_is_refused_while_a_group_has_it(self):
-        writer, reader, other = open_sharded(64, 2, SPLITS)
+        writer, reader, other = open_sharded(rows=64, readers=2, splits=SPLITS)
         with other.snapshot() as then, writer.group() as group:
             self.all_refused(mst_store.WRONG_STATE, writer)
             self.refused(mst_store.WRONG_STATE, then.copy_to, writer)
@@ -194,7 +194,7 @@ class Groups(unittest.TestCase):
         self.assertEqual(writer.apply([]), 3)
 
     def test_openings_that_are_refused(self):
-        writer, reader = open_sharded(64, 1, SPLITS)
+        writer, reader = open_sharded(rows=64, readers=1, splits=SPLITS)
         with writer.begin([]):
             self.refused(mst_store.WRONG_STATE, writer.group)
         with mock.patch.object(_library.lib, "mst_sharded_group_open", lambda *_: mst_store.MEMORY):
@@ -211,7 +211,7 @@ class Groups(unittest.TestCase):
     # ---- the end of a group
 
     def test_a_group_is_closed_with_its_writer(self):
-        writer, reader = open_sharded(64, 1, SPLITS)
+        writer, reader = open_sharded(rows=64, readers=1, splits=SPLITS)
         with writer, writer.group() as group:
             group.apply([(b"a", b"1")])
             writer.close()
@@ -220,7 +220,7 @@ class Groups(unittest.TestCase):
         self.assertEqual(reader.get(b"a"), b"1")
 
     def test_a_close_waits_for_the_calls_that_are_in_the_group(self):
-        writer, reader = open_sharded(500, 1, SPLITS)
+        writer, reader = open_sharded(rows=500, readers=1, splits=SPLITS)
         edits = [[(bytes([1 + thread, at]), b"1") for at in range(20)] for thread in range(THREADS)]
         told, started = [], threading.Barrier(THREADS + 1)
 
@@ -249,7 +249,7 @@ class Groups(unittest.TestCase):
                 self.assertEqual(then.number(), max(told, default=then.number()))
 
     def test_a_forgotten_group_is_closed(self):
-        writer, reader = open_sharded(64, 1, SPLITS)
+        writer, reader = open_sharded(rows=64, readers=1, splits=SPLITS)
         group = writer.group()
         self.assertEqual(group.apply([(b"a", b"1")]), 1)
         group = [group]

@@ -30,7 +30,7 @@ def tree_of(pairs, format=Format.ONE):
 
 def loaded(pairs, rows=MOST_ROWS, format=Format.ONE):
     """A store to which one batch has put these pairs."""
-    (store,) = open_store(rows, 1, format)
+    (store,) = open_store(rows=rows, passes=1, format=format)
     store.apply(pairs)
     return store
 
@@ -38,9 +38,9 @@ def loaded(pairs, rows=MOST_ROWS, format=Format.ONE):
 @contextlib.contextmanager
 def emptied(free, format):
     """A store with an empty map and so many free rows: a pinned version has the three others."""
-    reader, writer = open_store(3 + free, 2, format)
+    reader, writer = open_store(rows=3 + free, passes=2, format=format)
     writer.apply([(b"1", b"x"), (b"4", b"z")])
-    with reader.pinned():
+    with reader.pin():
         writer.apply([(b"1", None), (b"4", None)])
         yield writer
 
@@ -71,15 +71,15 @@ class Loads(unittest.TestCase):
                     self.fits(writer, edits, root, rows)
 
     def fits(self, writer, edits, root, rows):
-        free = writer.try_free_rows()
+        free = writer.free_rows()
         if rows <= free:
             writer.apply(edits)
-            self.assertEqual((writer.root(), writer.try_free_rows()), (root, free - rows))
+            self.assertEqual((writer.root(), writer.free_rows()), (root, free - rows))
             return
         with self.assertRaises(Refused) as caught:
             writer.apply(edits)
         self.assertEqual(caught.exception.code, NO_FREE_ROWS)
-        self.assertEqual((writer.root(), writer.try_free_rows()), (nodes.EMPTY, free))
+        self.assertEqual((writer.root(), writer.free_rows()), (nodes.EMPTY, free))
 
 
 def pairs_of_one_node(end):

@@ -64,7 +64,7 @@ class Blocks(unittest.TestCase):
     def test_a_snapshot_is_of_one_block_and_keeps_it(self):
         for format in Format:
             chance, known = random.Random(7), {}
-            writer, keeper, other = open_sharded(256, 2, SPLITS, format)
+            writer, keeper, other = open_sharded(rows=256, readers=2, splits=SPLITS, format=format)
             self.assertEqual((writer.shards(), keeper.shards(), writer.number()), (16, 16, 0))
             for number in range(0, 60, 3):
                 kept, told = known, (number, writer.root())
@@ -82,7 +82,7 @@ class Blocks(unittest.TestCase):
     def test_items_are_the_pairs_of_their_pages(self):
         pairs = [(bytes((number,)), b"%d" % number) for number in range(256)]
         for count in (0, 1, 63, 64, 65, 127, 128, 190, 256):
-            writer, reader = open_sharded(256, 1, SPLITS)
+            writer, reader = open_sharded(rows=256, readers=1, splits=SPLITS)
             writer.apply(pairs[:count])
             with reader.snapshot() as then:
                 writer.apply((key, None) for key, _ in pairs)
@@ -100,7 +100,8 @@ class Blocks(unittest.TestCase):
                 self.refused(mst_store.BAD_KEY, next, then.items(bytes(33)))
 
     def test_a_refused_block_changes_no_shard(self):
-        writer, reader, other = open_sharded(12, 2, [b"b", b"c", b"d"], Format.TWO)
+        writer, reader, other = open_sharded(
+            rows=12, readers=2, splits=[b"b", b"c", b"d"], format=Format.TWO)
         old = {b"a": b"old", b"c": b"old"}
         self.assertEqual(writer.apply(old.items()), 1)
         told = (1, writer.root())
@@ -124,13 +125,14 @@ class Blocks(unittest.TestCase):
     def test_copies(self):
         chance = random.Random(8)
         for format, other in zip(Format, reversed(Format)):
-            known, (writer, reader) = {}, open_sharded(256, 1, SPLITS, format)
+            known = {}
+            writer, reader = open_sharded(rows=256, readers=1, splits=SPLITS, format=format)
             for _ in range(30):
                 edits = edits_at_random(chance)
                 writer.apply(edits)
                 known = after(known, edits)
-            direct, copied, looker = *open_sharded(500, 0, [b"a"], other), *open_sharded(
-                999, 1, [b"a"], other)
+            (direct,) = open_sharded(rows=500, splits=[b"a"], format=other)
+            copied, looker = open_sharded(rows=999, readers=1, splits=[b"a"], format=other)
             direct.apply(known.items())
             with reader.snapshot() as then:
                 writer.apply([(b"later", b"1")])
@@ -142,10 +144,10 @@ class Blocks(unittest.TestCase):
             self.assertEqual((reader.get(b"later"), copied.get(b"later")), (b"1", None))
 
     def test_copies_that_are_refused(self):
-        writer, reader = open_sharded(64, 1, SPLITS)
+        writer, reader = open_sharded(rows=64, readers=1, splits=SPLITS)
         writer.apply([(bytes([number]), b"1") for number in range(48)])
-        (full,) = open_sharded(12, 0, [b"\20"])
-        (other,) = open_sharded(64, 0, [])
+        (full,) = open_sharded(rows=12, splits=[b"\20"])
+        (other,) = open_sharded(rows=64, splits=[])
         with reader.snapshot() as then:
             refused = self.refused(mst_store.NO_FREE_ROWS, then.copy_to, full)
             self.assertIs(type(refused), RefusedShard)
@@ -158,7 +160,7 @@ class Blocks(unittest.TestCase):
         self.assertEqual(other.number(), 0)
 
     def test_edits_that_are_refused(self):
-        writer, reader = open_sharded(16, 1, SPLITS)
+        writer, reader = open_sharded(rows=16, readers=1, splits=SPLITS)
         good = (b"a", b"1")
         for code, bad in ((mst_store.BAD_VALUE, (b"b", bytes(65))),
                           (mst_store.BAD_KEY, (b"", None)), (mst_store.BAD_KEY, (bytes(33), b""))):
@@ -174,23 +176,28 @@ class Blocks(unittest.TestCase):
         self.refused(mst_store.BAD_KEY, writer.get, b"")
 
     def test_openings_that_are_refused(self):
-        self.refused(mst_store.UNKNOWN_FORMAT, open_sharded, 16, 1, [], 3)
+        def opens(rows, readers, splits=(), format=Format.ONE):
+            return open_sharded(rows=rows, readers=readers, splits=splits, format=format)
+
+        self.refused(mst_store.UNKNOWN_FORMAT, opens, 16, 1, [], 3)
         for splits in ([b""], [b"\0"], [b"b", b"b"], [b"b", b"a"], [bytes(33)], [bytes(300)],
                        [bytes([1 + at // 256, at % 256]) for at in range(1024)]):
-            self.refused(mst_store.BAD_SPLITS, open_sharded, 16, 1, splits)
+            self.refused(mst_store.BAD_SPLITS, opens, 16, 1, splits)
         for rows, readers in ((3, 1), (65536, 1), (16, -1), (16, 32), (16, 2**70), (-1, 1)):
-            self.refused(mst_store.BAD_SHAPE, open_sharded, rows, readers, [])
-        self.assertRaises(TypeError, open_sharded, 16, "1", [])
-        self.assertEqual(len(open_sharded(16, 31, [])), 32)
-        (writer,) = open_sharded(rows=16, readers=0, splits=[b"m"])
+            self.refused(mst_store.BAD_SHAPE, opens, rows, readers)
+        self.assertRaises(TypeError, opens, 16, "1")
+        self.assertRaises(TypeError, open_sharded, 16, 1, [])
+        self.assertEqual(len(open_sharded(rows=16, readers=31)), 32)
+        self.assertEqual(open_sharded(rows=16)[0].shards(), 1)
+        (writer,) = open_sharded(rows=16, splits=[b"m"])
         self.assertEqual(writer.apply([(b"a", b"1")]), 1)
 
     def test_calls_that_are_refused(self):
-        writer, reader = open_sharded(16, 1, [b"m"])
+        writer, reader = open_sharded(rows=16, readers=1, splits=[b"m"])
         self.refused(mst_store.BAD_KEY, reader.get, b"")
         with reader.snapshot() as then:
             for again in (reader.snapshot, reader.try_snapshot):
-                self.refused(mst_store.WRONG_STATE, again().__enter__)
+                self.refused(mst_store.WRONG_STATE, again)
             for call in (then.get, then.prove):
                 self.refused(mst_store.BAD_KEY, call, b"")
             self.refused(mst_store.BAD_KEY, then.next, bytes(33))
@@ -199,6 +206,12 @@ class Blocks(unittest.TestCase):
         for call in (then.number, then.root, then.format, then.next, then.range, then.directory,
                      then.shards, lambda: then.get(b"a"), lambda: then.prove(b"a")):
             self.refused(mst_store.CLOSED, call)
+        # a second release ends no later snapshot
+        later = reader.snapshot()
+        then.release()
+        self.assertEqual(later.number(), 0)
+        later.release()
+        self.refused(mst_store.CLOSED, later.number)
         for one in (writer, reader, then):
             self.assertRaises(TypeError, copy.copy, one)
             self.assertRaises(TypeError, pickle.dumps, one)
@@ -206,7 +219,7 @@ class Blocks(unittest.TestCase):
         self.assertRaises(TypeError, ShardedReader, None)
 
     def test_closing(self):
-        writer, reader, other = open_sharded(16, 2, [b"m"])
+        writer, reader, other = open_sharded(rows=16, readers=2, splits=[b"m"])
         writer.apply([(b"a", b"1")])
         told = (1, writer.root())
         with writer, reader.snapshot() as then:
@@ -214,7 +227,7 @@ class Blocks(unittest.TestCase):
             reader.close()
             self.refused(mst_store.CLOSED, then.get, b"a")
         for call in (writer.number, writer.root, writer.shards, reader.shards,
-                     reader.snapshot().__enter__, lambda: writer.apply([])):
+                     reader.snapshot, lambda: writer.apply([])):
             self.refused(mst_store.CLOSED, call)
         reader.close()
         # the map is there for as long as one of its readers, and their snapshots
@@ -234,7 +247,7 @@ class Blocks(unittest.TestCase):
 
     def test_blocks_by_threads_are_those_by_one(self):
         chance = random.Random(9)
-        (once,), (hers,), (writer,) = (open_sharded(256, 0, SPLITS) for _ in range(3))
+        (once,), (hers,), (writer,) = (open_sharded(rows=256, splits=SPLITS) for _ in range(3))
         with ThreadPoolExecutor(4) as pool:
             for number in range(1, 41):
                 edits = [edit for _ in range(8) for edit in edits_at_random(chance)]
@@ -258,7 +271,7 @@ class Blocks(unittest.TestCase):
                 self.assertEqual({writer.root(), hers.root()}, {once.root()})
 
     def test_blocks_by_threads_that_are_refused(self):
-        (writer,) = open_sharded(12, 0, [b"b", b"c", b"d"], Format.TWO)
+        (writer,) = open_sharded(rows=12, splits=[b"b", b"c", b"d"], format=Format.TWO)
         told = writer.number(), writer.root()
         edits = [(b"d", b"1"), *((bytes((ord("c"), last)), b"1") for last in range(12))]
         with writer.begin(edits) as block:
@@ -270,7 +283,7 @@ class Blocks(unittest.TestCase):
             refused = self.refused(mst_store.NO_FREE_ROWS, writer.apply_in_threads, edits, threads)
             self.assertEqual((type(refused), refused.shard), (RefusedShard, 2))
         bad = [(b"a", b"1"), (b"", b"1")]
-        for call in (lambda: writer.apply_in_threads(bad, 4), writer.begin(bad).__enter__):
+        for call in (lambda: writer.apply_in_threads(bad, 4), lambda: writer.begin(bad)):
             self.assertEqual(self.refused(mst_store.BAD_KEY, call).place, 1)
         self.assertRaises(TypeError, writer.apply_in_threads, edits, "4")
         self.assertEqual((writer.number(), writer.root()), told)
@@ -280,7 +293,7 @@ class Blocks(unittest.TestCase):
             self.assertRaises(TypeError, ShardedPart, None, 0)
             writer.close()
             self.refused(mst_store.CLOSED, block.commit)
-        for call in (lambda: writer.apply_in_threads(edits, 4), writer.begin(edits).__enter__):
+        for call in (lambda: writer.apply_in_threads(edits, 4), lambda: writer.begin(edits)):
             self.refused(mst_store.CLOSED, call)
 
     # ---- threads
@@ -302,7 +315,7 @@ class Blocks(unittest.TestCase):
                 return
 
     def test_threads_read_while_blocks_are_made(self):
-        writer, *readers = open_sharded(64, 3, SPLITS)
+        writer, *readers = open_sharded(rows=64, readers=3, splits=SPLITS)
         self.wrong, self.roots = [], {0: writer.root()}
         threads = []
         for at, reader in enumerate(readers):

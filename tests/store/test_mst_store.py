@@ -14,7 +14,7 @@ import mst_verifier  # noqa: E402
 
 
 def one(rows=1000) -> Pass:
-    return open_store(rows, 1)[0]
+    return open_store(rows=rows, passes=1)[0]
 
 
 def key_by(chance) -> bytes:
@@ -40,9 +40,9 @@ class Answers(unittest.TestCase):
             above = min((key for key in known if key > asked), default=None)
             self.assertEqual(store.next(asked), above and (above, known[above]))
         self.assertEqual(list(store.items()), sorted(known.items()))
-        self.assertGreaterEqual(store.try_rows(), len(known))
+        self.assertGreaterEqual(store.rows(), len(known))
         self.ranges(chance, store, known)
-        with store.pinned() as then:
+        with store.pin() as then:
             self.ranges(chance, then, known)
 
     def ranges(self, chance, store, known):
@@ -77,10 +77,10 @@ class Answers(unittest.TestCase):
         chance = random.Random(12)
         keys = [b"\xff" * 30 + bytes(divmod(number, 256)) for number in range(301)]
         for count in (0, 1, 63, 64, 65, 127, 128, 190, 300):
-            reader, writer = open_store(2000, 2)
+            reader, writer = open_store(rows=2000, passes=2)
             pairs = [(key, key[30:]) for key in keys[:count]]
             writer.apply(pairs)
-            with reader.pinned() as then:
+            with reader.pin() as then:
                 self.empties(writer, then, pairs)
                 self.assertEqual(list(then.items()), pairs)
                 for _ in range(9):
@@ -142,7 +142,7 @@ class Answers(unittest.TestCase):
             self.assertEqual(store.migrate(to), format)
             format = to
             self.assertEqual((store.format(), store.version()), (format, 21 * (step + 1)))
-            (twin,) = open_store(4000, 1, format)
+            (twin,) = open_store(rows=4000, passes=1, format=format)
             for pair in sorted(known.items(), reverse=True):
                 twin.put(*pair)
             self.assertEqual((twin.format(), twin.root()), (format, store.root()))
@@ -151,9 +151,9 @@ class Answers(unittest.TestCase):
             self.assertEqual(store.prove(asked), twin.prove(asked))
 
     def test_a_pinned_version_keeps_its_format(self):
-        reader, writer = open_store(1000, 2)
+        reader, writer = open_store(rows=1000, passes=2)
         writer.put(b"key", b"value")
-        with reader.pinned() as then:
+        with reader.pin() as then:
             seen = then.root(), then.prove(b"key"), then.version()
             self.assertIs(writer.try_migrate(2), Format.ONE)
             self.assertIs(then.format(), Format.ONE)
@@ -180,9 +180,9 @@ class Answers(unittest.TestCase):
         self.assertEqual((twin.root(), twin.version()), (store.root(), 1))
 
     def test_a_batch_is_made_whole_or_not_at_all(self):
-        reader, writer = open_store(64, 2)
+        reader, writer = open_store(rows=64, passes=2)
         writer.apply([(b"a", b"1"), (bytearray(b"b"), memoryview(b"2"))])
-        with reader.pinned() as then:
+        with reader.pin() as then:
             with self.assertRaises(Refused) as caught:
                 writer.apply((bytes([key]), b"") for key in range(64))
             self.assertEqual(caught.exception.code, NO_FREE_ROWS)
@@ -236,7 +236,7 @@ class Threads(unittest.TestCase):
         self.assertEqual(failed, [])
 
     def test_a_pinned_version_stays_while_another_thread_writes(self):
-        reader, writer = open_store(20000, 2)
+        reader, writer = open_store(rows=20000, passes=2)
         for i in range(40):
             writer.put(bytes([i]), b"0")
 
@@ -248,7 +248,7 @@ class Threads(unittest.TestCase):
 
         def read():
             for i in range(60):
-                with reader.pinned() as then:
+                with reader.pin() as then:
                     seen = then.version(), then.format(), then.root(), list(then.items())
                     self.assertEqual(len(seen[3]), 40)
                     key, value = seen[3][i % 40]
@@ -261,7 +261,7 @@ class Threads(unittest.TestCase):
         self.assertEqual(reader.version(), 3340)
 
     def test_two_writers_wait_for_each_other(self):
-        passes = open_store(4000, 2)
+        passes = open_store(rows=4000, passes=2)
 
         def write(at):
             for i in range(1000):

@@ -10,7 +10,7 @@ PUTS = 1000  # how many puts go on beside a pin that stays
 
 def both_pinned(rows):
     """A pass that put both pairs, and the other one, which is to pin them."""
-    writer, reader = open_store(rows, 2)
+    writer, reader = open_store(rows=rows, passes=2)
     for key, value in BOTH:
         writer.try_put(key, value)
     return writer, reader
@@ -26,11 +26,11 @@ class Pinned(Case):
         self.assertEqual(then.prove(b"abc"), PROOF_OF_BOTH)
 
     def test_an_older_version_is_read_beside_the_newest(self):
-        one, other = open_store(4, 2)
+        one, other = open_store(rows=4, passes=2)
         self.assertIsNone(one.try_put(b"a", b"1"))
-        with other.pinned() as older:
+        with other.pin() as older:
             self.assertEqual(one.try_put(b"a", b"2"), b"1")
-            with one.pinned() as newest:
+            with one.pin() as newest:
                 self.assertEqual((older.version(), older.get(b"a")), (1, b"1"))
                 self.assertEqual((newest.version(), newest.get(b"a")), (2, b"2"))
             # the rows of both versions are in use
@@ -41,7 +41,7 @@ class Pinned(Case):
 
     def test_a_pinned_pass_reads_its_version(self):
         writer, reader = both_pinned(20)
-        with reader.pinned() as then:
+        with reader.pin() as then:
             self.assert_both(then)
             self.assertEqual(writer.try_put(b"a", b"2"), b"1")
             self.assertIsNone(writer.try_put(b"b", b"3"))
@@ -54,9 +54,9 @@ class Pinned(Case):
         self.assertEqual(reader.next(), (b"b", b"3"))
 
     def test_puts_go_on_beside_a_pin_that_stays(self):
-        reader, writer = open_store(6, 2)
+        reader, writer = open_store(rows=6, passes=2)
         self.assertIsNone(reader.try_put(b"a", b"1"))
-        with reader.pinned():
+        with reader.pin():
             old = b"1"
             for number in range(1, PUTS + 1):
                 new = bytes([number % 256])
@@ -68,20 +68,20 @@ class Pinned(Case):
 
 class Rows(Case):
     def test_rows_are_not_counted_beside_a_pin(self):
-        one, other = open_store(8, 2)
+        one, other = open_store(rows=8, passes=2)
         self.assertIsNone(one.try_put(b"a", b"1"))
-        self.assertEqual(one.try_rows(), 2)
+        self.assertEqual(one.rows(), 2)
         # the current version is pinned, and then an older one
-        with other.pinned():
+        with other.pin():
             self.assert_not_counted(one)
             self.assertEqual(one.try_put(b"a", b"2"), b"1")
             self.assert_not_counted(one)
-        self.assertEqual((one.try_rows(), other.try_rows()), (2, 2))
+        self.assertEqual((one.rows(), other.rows()), (2, 2))
 
     def test_the_rows_of_a_pinned_version_are_not_free(self):
-        one, other = open_store(4, 2)
+        one, other = open_store(rows=4, passes=2)
         self.assertIsNone(one.try_put(b"a", b"1"))
-        with other.pinned():
+        with other.pin():
             self.assertEqual(one.try_put(b"a", b"2"), b"1")
             with self.no_room():
                 one.try_put(b"a", b"3")
@@ -92,62 +92,62 @@ class Rows(Case):
 
     def test_the_free_rows_are_counted_beside_a_pin(self):
         # a put of another value at a lone key takes two rows
-        one, other = open_store(5, 2)
-        self.assertEqual(one.try_free_rows(), 5)
+        one, other = open_store(rows=5, passes=2)
+        self.assertEqual(one.free_rows(), 5)
         self.assertIsNone(one.try_put(b"a", b"1"))
-        self.assertEqual(other.try_free_rows(), 3)
+        self.assertEqual(other.free_rows(), 3)
         # the current version holds its rows, pinned or not
-        with other.pinned():
-            self.assertEqual(one.try_free_rows(), 3)
+        with other.pin():
+            self.assertEqual(one.free_rows(), 3)
             # then the pinned one holds two rows more
             self.assertEqual(one.try_put(b"a", b"2"), b"1")
-            self.assertEqual(one.try_free_rows(), 1)
+            self.assertEqual(one.free_rows(), 1)
             with self.no_room():
                 one.try_put(b"a", b"3")
-            self.assertEqual(one.try_free_rows(), 1)
+            self.assertEqual(one.free_rows(), 1)
             self.assertEqual(one.try_put(b"a", b"2"), b"2")
-        self.assertEqual(other.try_free_rows(), 3)
+        self.assertEqual(other.free_rows(), 3)
 
     def test_one_row_more_is_free_and_just_enough(self):
-        one, other = open_store(6, 2)
+        one, other = open_store(rows=6, passes=2)
         self.assertIsNone(one.try_put(b"a", b"1"))
-        with other.pinned():
+        with other.pin():
             self.assertEqual(one.try_put(b"a", b"2"), b"1")
-            self.assertEqual(one.try_free_rows(), 2)
+            self.assertEqual(one.free_rows(), 2)
             self.assertEqual(one.try_put(b"a", b"3"), b"2")
-            self.assertEqual(one.try_free_rows(), 2)
+            self.assertEqual(one.free_rows(), 2)
             self.assertEqual(one.try_remove(b"a"), b"3")
-            self.assertEqual(one.try_free_rows(), 4)
+            self.assertEqual(one.free_rows(), 4)
 
     def test_a_batch_and_a_migration_find_the_rows_that_were_counted(self):
-        one, other = open_store(6, 2)
+        one, other = open_store(rows=6, passes=2)
         self.assertIsNone(one.try_put(b"a", b"1"))
-        with other.pinned():
+        with other.pin():
             self.assertEqual(one.try_put(b"a", b"2"), b"1")
-            self.assertEqual(one.try_free_rows(), 2)
+            self.assertEqual(one.free_rows(), 2)
             self.assertIs(one.try_migrate(Format.TWO), Format.ONE)
-            self.assertEqual(one.try_free_rows(), 2)
+            self.assertEqual(one.free_rows(), 2)
             with self.no_room():
                 one.try_apply([(b"a", b"4"), (b"1", b"5")])
             one.try_apply([(b"a", b"4")])
-            self.assertEqual(one.try_free_rows(), 2)
+            self.assertEqual(one.free_rows(), 2)
 
     def test_a_batch_and_a_migration_are_refused_a_row_short(self):
-        one, other = open_store(5, 2)
+        one, other = open_store(rows=5, passes=2)
         self.assertIsNone(one.try_put(b"a", b"1"))
-        with other.pinned():
+        with other.pin():
             self.assertEqual(one.try_put(b"a", b"2"), b"1")
-            self.assertEqual(one.try_free_rows(), 1)
+            self.assertEqual(one.free_rows(), 1)
             with self.no_room():
                 one.try_migrate(Format.TWO)
             with self.no_room():
                 one.try_apply([(b"a", b"4")])
-            self.assertEqual(one.try_free_rows(), 1)
+            self.assertEqual(one.free_rows(), 1)
 
 
 class Made(Case):
     def test_a_pass_knows_the_version_that_it_made(self):
-        one, other = open_store(32, 2)
+        one, other = open_store(rows=32, passes=2)
         self.assertIsNone(one.made())
         self.assertIsNone(one.try_put(b"a", b"1"))
         self.assertEqual((one.made(), other.made()), (1, None))
@@ -156,7 +156,7 @@ class Made(Case):
         self.assertEqual(other.made(), 3)
         # what the other pass wrote since does not count, and no read does
         self.assertEqual((one.version(), one.made()), (3, 1))
-        with one.pinned():
+        with one.pin():
             other.try_apply([(b"b", b"2")])
             self.assertEqual(other.made(), 4)
         self.assertEqual(one.made(), 1)
@@ -164,10 +164,10 @@ class Made(Case):
         self.assertEqual((one.made(), other.version(), other.made()), (5, 5, 4))
 
     def test_a_refused_write_makes_no_version(self):
-        one, other = open_store(4, 2)
+        one, other = open_store(rows=4, passes=2)
         self.assertIsNone(one.try_put(b"a", b"1"))
         self.assertEqual(other.try_put(b"a", b"2"), b"1")
-        with other.pinned():
+        with other.pin():
             self.assertEqual(one.try_put(b"a", b"3"), b"2")
             with self.no_room():
                 one.try_put(b"a", b"4")

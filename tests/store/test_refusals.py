@@ -8,11 +8,11 @@ import unittest
 from unittest import mock
 
 import mst_store
-from mst_store import Busy, Format, Pass, Refused, RefusedEdit, _library, open_store
+from mst_store import Busy, Format, Pass, Pinned, Refused, RefusedEdit, _library, open_store
 
 
 def one() -> Pass:
-    return open_store(1000, 1)[0]
+    return open_store(rows=1000, passes=1)[0]
 
 
 class Refusals(unittest.TestCase):
@@ -57,34 +57,39 @@ class Refusals(unittest.TestCase):
 
     def test_shapes(self):
         shapes = (3, 1), (65536, 1), (1000, 0), (1000, 33), (1000, -1), (-1, 1), (2**32 + 4, 1)
-        for shape in shapes:
-            self.refused(mst_store.BAD_SHAPE, open_store, *shape)
-        self.refused(mst_store.BAD_SHAPE, open_store, 3, 1, Format.TWO)
+        for rows, passes in shapes:
+            self.refused(mst_store.BAD_SHAPE, lambda: open_store(rows=rows, passes=passes))
+        self.refused(
+            mst_store.BAD_SHAPE, lambda: open_store(rows=3, passes=1, format=Format.TWO))
+        self.assertRaises(TypeError, open_store, 1000, 1)
 
     def test_formats(self):
         store = one()
         for number in (-1, 0, 3, 2**32 + 1):
-            self.refused(mst_store.UNKNOWN_FORMAT, open_store, 1000, 1, number)
+            self.refused(
+                mst_store.UNKNOWN_FORMAT, lambda: open_store(rows=1000, passes=1, format=number))
             self.refused(mst_store.UNKNOWN_FORMAT, store.try_migrate, number)
             self.refused(mst_store.UNKNOWN_FORMAT, store.migrate, number)
         self.assertEqual((store.format(), store.version()), (Format.ONE, 0))
-        self.assertIs(open_store(1000, 1, 2)[0].format(), Format.TWO)
+        self.assertIs(open_store(rows=1000, passes=1, format=2)[0].format(), Format.TWO)
 
     def test_a_pinned_pass_neither_writes_nor_migrates_nor_pins(self):
         store = one()
-        with store.pinned() as then:
-            for call in (lambda: then.put(b"key", b""), lambda: then.remove(b"key"), then.try_rows,
-                         lambda: then.migrate(2), lambda: then.try_migrate(1),
-                         lambda: then.apply([]), lambda: then.try_apply([(b"key", b"")]),
-                         then.pinned().__enter__):
+        with store.pin():
+            for call in (lambda: store.put(b"key", b""), lambda: store.remove(b"key"), store.rows,
+                         lambda: store.migrate(2), lambda: store.try_migrate(1),
+                         lambda: store.apply([]), lambda: store.try_apply([(b"key", b"")]),
+                         store.pin):
                 self.refused(mst_store.WRONG_STATE, call)
         self.assertIsNone(store.put(b"key", b""))
 
     def test_numbers(self):
         store = one()
         for wrong in (1.0, "1", None, b"1"):
-            for call in (lambda: open_store(wrong, 1), lambda: open_store(1000, wrong),
-                         lambda: open_store(1000, 1, wrong), lambda: store.range(limit=wrong),
+            for call in (lambda: open_store(rows=wrong, passes=1),
+                         lambda: open_store(rows=1000, passes=wrong),
+                         lambda: open_store(rows=1000, passes=1, format=wrong),
+                         lambda: store.range(limit=wrong),
                          lambda: store.migrate(wrong), lambda: store.try_migrate(wrong)):
                 self.assertRaises(TypeError, call)
 
@@ -93,7 +98,7 @@ class Refusals(unittest.TestCase):
                 return 1000
 
         self.assertEqual(store.range(limit=Thousand()), [])
-        self.assertEqual(len(open_store(Thousand(), 2)), 2)
+        self.assertEqual(len(open_store(rows=Thousand(), passes=2)), 2)
 
     def test_a_pass_comes_from_open_store_alone(self):
         store = one()
@@ -116,21 +121,21 @@ class Refusals(unittest.TestCase):
         self.assertIsNone(hand.contents.at)
 
     def test_rows(self):
-        reader, writer = open_store(8, 2)
+        reader, writer = open_store(rows=8, passes=2)
         with self.assertRaises(Refused) as caught:
             for i in range(20):
                 writer.put(bytes([i]), b"")
         self.assertEqual(caught.exception.code, mst_store.NO_FREE_ROWS)
         self.refused(mst_store.NO_FREE_ROWS, writer.migrate, Format.TWO)
         self.assertEqual(writer.migrate(Format.ONE), Format.ONE)
-        with reader.pinned():
-            self.refused(mst_store.ROWS_PINNED, writer.try_rows)
-            self.refused(mst_store.WRONG_STATE, reader.try_free_rows)
-            free = writer.try_free_rows()
-        self.assertEqual(writer.try_rows(), 8 - free)
+        with reader.pin():
+            self.refused(mst_store.ROWS_PINNED, writer.rows)
+            self.refused(mst_store.WRONG_STATE, reader.free_rows)
+            free = writer.free_rows()
+        self.assertEqual(writer.rows(), 8 - free)
 
     def test_made(self):
-        one, other = open_store(32, 2)
+        one, other = open_store(rows=32, passes=2)
         self.assertIsNone(one.made())
         one.put(b"key", b"1")
         other.put(b"key", b"2")
@@ -140,29 +145,59 @@ class Refusals(unittest.TestCase):
         with one() as store:
             store.put(b"key", b"")
         for call in (lambda: store.get(b"key"), store.next, store.range, store.root, store.version,
-                     store.try_rows, lambda: store.prove(b"key"), lambda: store.put(b"key", b""),
+                     store.rows, lambda: store.prove(b"key"), lambda: store.put(b"key", b""),
                      lambda: store.remove(b"key"), store.format, lambda: store.migrate(2),
                      lambda: store.try_migrate(3), lambda: store.apply([(b"", b"")]),
-                     store.pinned().__enter__):
+                     store.pin):
             self.refused(mst_store.CLOSED, call)
         store.close()
 
     def test_closed_inside_a_pin(self):
         store = one()
-        with store.pinned() as then:
-            then.close()
+        with store.pin() as then:
+            store.close()
+            self.refused(mst_store.CLOSED, then.root)
         self.refused(mst_store.CLOSED, store.root)
 
+    def test_a_pin_that_has_ended(self):
+        store = one()
+        then = store.pin()  # as within a `with`
+        self.refused(mst_store.WRONG_STATE, store.pin)
+        then.unpin()
+        for call in (then.root, then.next, then.range, then.version, then.format,
+                     lambda: then.get(b"key"), lambda: then.prove(b"key")):
+            self.refused(mst_store.CLOSED, call)
+        # a second unpin ends no later pin
+        with store.pin() as later:
+            then.unpin()
+            self.refused(mst_store.WRONG_STATE, store.put, b"key", b"")
+            self.assertEqual(later.version(), 0)
+        self.assertIsNone(store.put(b"key", b""))
+
+    def test_a_pin_keeps_its_pass(self):
+        (store,) = open_store(rows=1000, passes=1)
+        store.put(b"key", b"value")
+        with store.pin() as then:
+            del store
+            self.assertEqual(then.get(b"key"), b"value")
+        self.refused(mst_store.CLOSED, then.get, b"key")
+
+    def test_a_pin_comes_from_a_pass_alone(self):
+        with one().pin() as then:
+            for call in (copy.copy, copy.deepcopy, pickle.dumps):
+                self.assertRaises(TypeError, call, then)
+        self.assertRaises(TypeError, Pinned, None)
+
     def test_a_pin_ends_with_its_pass(self):
-        reader, writer = open_store(1000, 2)
-        with reader.pinned():
-            self.refused(mst_store.ROWS_PINNED, writer.try_rows)
+        reader, writer = open_store(rows=1000, passes=2)
+        with reader.pin():
+            self.refused(mst_store.ROWS_PINNED, writer.rows)
             reader.close()
-            self.assertEqual(writer.try_rows(), 0)
+            self.assertEqual(writer.rows(), 0)
 
     def test_the_store_goes_with_its_last_pass(self):
         for _ in range(50):
-            last, *others = open_store(65535, 3)
+            last, *others = open_store(rows=65535, passes=3)
             last.put(b"key", b"value")
             others[0].close()
             del others
@@ -178,7 +213,7 @@ class Refusals(unittest.TestCase):
 
     def test_other_threads_run_while_a_call_waits(self):
         # a migration of many pairs has the turn so long that the other pass waits
-        passes, ticks = open_store(65535, 2), []
+        passes, ticks = open_store(rows=65535, passes=2), []
         passes[0].apply((i.to_bytes(4, "big"), b"") for i in range(20000))
         ended = threading.Event()
 

@@ -32,7 +32,7 @@ class Blocks(unittest.TestCase):
     def opened(self, count, readers, format=Format.ONE):
         """The writer and the readers of a new map, of which each block's dict is known."""
         self.splits, self.blocks, self.format = splits_into(count), [{}], format
-        return open_sharded(ROWS, readers, self.splits, format)
+        return open_sharded(rows=ROWS, readers=readers, splits=self.splits, format=format)
 
     def edits(self, count):
         """Edits at random, of which one in four takes a key out."""
@@ -106,7 +106,7 @@ class Blocks(unittest.TestCase):
 
     def test_one_shard_has_what_a_store_has(self):
         writer, _ = self.opened(1, 1)
-        (store,) = open_store(ROWS, 1)
+        (store,) = open_store(rows=ROWS, passes=1)
         for size in (100, 3, 50):
             edits = self.edits(size)
             writer.apply(edits)
@@ -118,7 +118,8 @@ class Blocks(unittest.TestCase):
             writer, reader = self.opened(count, 1, Format.ONE)
             self.makes(writer, 100)
             self.makes(writer, 50)
-            other, looker = open_sharded(ROWS, 1, splits_into(others), Format.TWO)
+            other, looker = open_sharded(
+                rows=ROWS, readers=1, splits=splits_into(others), format=Format.TWO)
             with reader.snapshot() as then:
                 self.assertEqual(then.copy_to(other), 1)
             self.splits, self.format, self.blocks = splits_into(others), Format.TWO, self.blocks[1:]

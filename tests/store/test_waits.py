@@ -28,7 +28,7 @@ class Waits(unittest.TestCase):
         within(LONG)
 
     def test_calls_wait_no_longer_than_they_may(self):
-        mover, store = open_store(65535, 2)
+        mover, store = open_store(rows=65535, passes=2)
         mover.apply_within(((at.to_bytes(4, "big"), b"") for at in range(20000)), 0)
         ended = threading.Event()
 
@@ -50,7 +50,7 @@ class Waits(unittest.TestCase):
         self.assertEqual((store.get(b"a"), store.get(b"b")), (None, b"1"))
 
     def test_times(self):
-        store = open_store(1000, 1)[0]
+        store = open_store(rows=1000, passes=1)[0]
         for seconds in (0, -1, -math.inf, 1e-9, 0.5, 3, 1e300, math.inf):
             store.put_within(b"key", b"", seconds)
             store.remove_within(b"key", seconds)
@@ -59,7 +59,7 @@ class Waits(unittest.TestCase):
         self.assertEqual(store.version(), 16)
 
     def test_refusals_wait_for_no_time(self):
-        store = open_store(4, 1)[0]
+        store = open_store(rows=4, passes=1)[0]
         self.assertIsNone(store.put_within(b"a", b"1", LONG))
         with self.assertRaises(Refused) as caught:
             for key in range(98, 256):
@@ -72,14 +72,14 @@ class Waits(unittest.TestCase):
             store.apply_within([(b"a", b""), (b"a", bytes(65))], LONG)
         self.assertEqual((refused.exception.code, refused.exception.place),
                          (mst_store.BAD_VALUE, 1))
-        with store.pinned(), self.assertRaises(Refused) as caught:
+        with store.pin(), self.assertRaises(Refused) as caught:
             store.migrate_within(Format.TWO, LONG)
         self.assertEqual(caught.exception.code, mst_store.WRONG_STATE)
 
     def all_are_served(self):
         """Whether of eight threads that write for two seconds the slowest makes a quarter of the
         mean."""
-        passes = open_store(4096, 8)
+        passes = open_store(rows=4096, passes=8)
         puts, ended = [0] * 8, threading.Event()
 
         def write(at):

@@ -7,7 +7,7 @@
 #include <type_traits>
 #if __cplusplus >= 202002L
 #include <ranges>
-static_assert(std::ranges::input_range<mst::items<mst::reader>>);
+static_assert(std::ranges::input_range<mst::items<mst::reads>>);
 #endif
 
 static int wrong = 0;
@@ -37,7 +37,7 @@ static_assert(std::is_nothrow_move_assignable_v<mst::pass>);
 
 // What the verifier shows of a key by a reader's format, root digest and proof: the code of
 // mst_verify.
-static int verified(mst::reader &reader, std::string_view key) {
+static int verified(mst::reads &reader, std::string_view key) {
     auto root = reader.root();
     auto proof = reader.prove(key);
     std::uint8_t room[MST_VALUE_ROOM];
@@ -66,7 +66,7 @@ static void reads_and_writes(mst::pass &pass) {
 
 // More bytes than the first room has, and keys and values with zeros in them.
 static void long_range() {
-    auto pass = std::move(mst::open(2000, 1).front());
+    auto pass = std::move(mst::open({2000, 1}).front());
     for (int i = 0; i < 300; i++) {
         const char key[2] = {char(i / 256), char(i % 256)};
         pass.put(std::string_view(key, 2), std::string(64, '\0'));
@@ -80,7 +80,7 @@ static void long_range() {
 
 // Keys of 32 bytes, behind which no longer one follows.
 static void pages() {
-    auto pass = std::move(mst::open(2000, 1).front());
+    auto pass = std::move(mst::open({2000, 1}).front());
     for (int i = 0; i < 300; i++)
         pass.put(std::string(31, i % 3 ? '\xFF' : 'k') + char(i % 256), std::to_string(i));
     auto then = pass.pin();
@@ -99,7 +99,7 @@ static std::string long_key(int number) {
 }
 
 // Takes out each pair that a reader comes to, and returns these pairs.
-static std::vector<mst::pair> emptied(mst::pass &writer, mst::reader &reader) {
+static std::vector<mst::pair> emptied(mst::pass &writer, mst::reads &reader) {
     std::vector<mst::pair> found;
     for (auto &&pair : reader.items()) {
         EXPECT(writer.remove(pair.first) == pair.second);
@@ -112,7 +112,7 @@ static std::vector<mst::pair> emptied(mst::pass &writer, mst::reader &reader) {
 // As many pages as there may be, within bounds, of a pinned pass and of a free one.
 static void items() {
     for (int count : {0, 1, 63, 64, 65, 127, 128, 190, 300}) {
-        auto passes = mst::open(2000, 2);
+        auto passes = mst::open({2000, 2});
         mst::batch edits;
         std::vector<mst::pair> all;
         for (int i = 0; i < count; i++) {
@@ -140,7 +140,7 @@ static void items() {
 
 // Loops that end early, an iterator by itself, and refusals, after which no pair is left.
 static void items_that_end() {
-    auto pass = std::move(mst::open(2000, 1).front());
+    auto pass = std::move(mst::open({2000, 1}).front());
     for (int i = 0; i < 200; i++) pass.put(long_key(i), std::to_string(i));
     auto then = pass.pin();
     auto all = then.items();
@@ -165,7 +165,7 @@ static void items_that_end() {
 
 // Proofs that are longer than the first room, and shorter ones after them.
 static void long_proofs() {
-    auto pass = std::move(mst::open(9000, 1).front());
+    auto pass = std::move(mst::open({9000, 1}).front());
     auto key = [](int number) { return std::to_string(number * 7919); };
     for (int i = 0; i < 3000; i++) pass.put(key(i), std::string(64, 'v'));
     std::size_t longest = 0, shortest = SIZE_MAX;
@@ -190,7 +190,7 @@ static std::optional<std::size_t> place_of(mst::pass &pass, const mst::batch &ed
 }
 
 static void batches() {
-    auto passes = mst::open(1000, 2);
+    auto passes = mst::open({1000, 2});
     auto &pass = passes[0], &other = passes[1];
     pass.put("a", "1");
     pass.put("b", "2");
@@ -220,6 +220,20 @@ static void batches() {
     passes.clear();
 }
 
+// Options by their names: each that is not set has its default.
+static void options() {
+    mst::options wanted;
+    wanted.rows = 4;
+    wanted.passes = 1;
+    EXPECT(mst::open(wanted)[0].format() == mst::format::one);
+    wanted.format = mst::format::two;
+    EXPECT(mst::open(wanted)[0].format() == mst::format::two);
+#if __cplusplus >= 202002L
+    EXPECT(mst::open({.rows = 4, .passes = 32}).size() == 32);
+    EXPECT(mst::open({.rows = 4, .passes = 1, .format = wanted.format}).size() == 1);
+#endif
+}
+
 static void refusals(mst::pass &pass) {
     EXPECT(code_of([&] { pass.get(""); }) == MST_BAD_KEY);
     EXPECT(code_of([&] { pass.put(std::string(33, 'k'), "v"); }) == MST_BAD_KEY);
@@ -227,11 +241,12 @@ static void refusals(mst::pass &pass) {
     EXPECT(code_of([&] { pass.next(std::string(33, 'k')); }) == MST_BAD_KEY);
     EXPECT(code_of([&] { pass.range("", std::string(33, 'k'), 1); }) == MST_BAD_KEY);
     EXPECT(code_of([&] { pass.prove(""); }) == MST_BAD_KEY);
-    EXPECT(code_of([&] { mst::open(3, 1); }) == MST_BAD_SHAPE);
-    EXPECT(code_of([&] { mst::open(1000, 0); }) == MST_BAD_SHAPE);
-    EXPECT(code_of([&] { mst::open(1000, 33); }) == MST_BAD_SHAPE);
+    EXPECT(code_of([&] { mst::open({}); }) == MST_BAD_SHAPE);
+    EXPECT(code_of([&] { mst::open({3, 1}); }) == MST_BAD_SHAPE);
+    EXPECT(code_of([&] { mst::open({1000, 0}); }) == MST_BAD_SHAPE);
+    EXPECT(code_of([&] { mst::open({1000, 33}); }) == MST_BAD_SHAPE);
     auto no_format = static_cast<mst::format>(99);
-    EXPECT(code_of([&] { mst::open(1000, 1, no_format); }) == MST_UNKNOWN_FORMAT);
+    EXPECT(code_of([&] { mst::open({1000, 1, no_format}); }) == MST_UNKNOWN_FORMAT);
     EXPECT(code_of([&] { (void)pass.try_migrate(no_format); }) == MST_UNKNOWN_FORMAT);
     EXPECT(code_of([&] { pass.migrate(no_format); }) == MST_UNKNOWN_FORMAT);
 }
@@ -264,7 +279,7 @@ static void pins(mst::pass &writer, mst::pass &reader) {
 // A pin that its pass does not outlive: closed, moved over, or gone. Reads are refused, and the
 // version is no longer kept.
 static void pins_that_end_with_their_pass() {
-    auto passes = mst::open(1000, 4);
+    auto passes = mst::open({1000, 4});
     auto closed = passes[0].pin(), moved_over = passes[1].pin(), gone = passes[2].pin();
     passes[0].close();
     passes[1] = mst::pass();
@@ -280,8 +295,8 @@ static void pins_that_end_with_their_pass() {
 
 static void migrations() {
     using mst::format;
-    auto passes = mst::open(1000, 2);
-    auto other = std::move(mst::open(1000, 1, format::two).front());
+    auto passes = mst::open({1000, 2});
+    auto other = std::move(mst::open({1000, 1, format::two}).front());
     for (int i = 0; i < 100; i++) {
         passes[0].put("k" + std::to_string(i), "value");
         other.put("k" + std::to_string(99 - i), "value");
@@ -301,7 +316,7 @@ static void migrations() {
     EXPECT(verified(passes[1], "k7") == 5 && verified(passes[1], "none") == MST_ABSENT);
     EXPECT(passes[1].migrate(format::two) == format::two && passes[0].version() == 102);
     EXPECT(passes[1].migrate(format::one) == format::two && passes[0].root() == root);
-    auto full = std::move(mst::open(64, 1).front());
+    auto full = std::move(mst::open({64, 1}).front());
     EXPECT(code_of([&] { for (int i = 0; i < 64; i++) full.put(std::string(1, char(i)), ""); })
            == MST_NO_FREE_ROWS);
     EXPECT(code_of([&] { full.migrate(format::two); }) == MST_NO_FREE_ROWS);
@@ -323,13 +338,14 @@ static void threads(std::vector<mst::pass> &passes) {
 }
 
 int main() {
-    auto passes = mst::open(2000, 2);
+    auto passes = mst::open({2000, 2});
     reads_and_writes(passes[0]);
     long_range();
     pages();
     items();
     items_that_end();
     long_proofs();
+    options();
     refusals(passes[0]);
     pins(passes[0], passes[1]);
     pins_that_end_with_their_pass();

@@ -39,5 +39,5 @@ class Case(unittest.TestCase):
     def assert_not_counted(self, store):
         """The rows are not counted, since a version is pinned."""
         with self.assertRaises(Refused) as caught:
-            store.try_rows()
+            store.rows()
         self.assertEqual(caught.exception.code, ROWS_PINNED)

@@ -32,7 +32,7 @@ template <typename Within> static void busy_then_made(mst::pass &pass, Within is
 
 // While another thread migrates a large map without a pause.
 static void limits() {
-    auto passes = mst::open(MST_ROWS_MOST, 2);
+    auto passes = mst::open({MST_ROWS_MOST, 2});
     mst::batch many;
     for (int i = 0; i < 20000; i++) many.put(std::to_string(i), "");
     EXPECT(passes[0].apply_within(many, -1us) && passes[0].put_within("a", "1", 0us));
@@ -57,7 +57,7 @@ static void limits() {
 
 // What does not depend on the turn, or is refused for want of rows, waits for no time.
 static void refusals() {
-    auto full = std::move(mst::open(4, 1).front());
+    auto full = std::move(mst::open({4, 1}).front());
     EXPECT(full.put_within("a", "1", 1h).old == std::nullopt);
     EXPECT(full.put_within("a", "1", 1h).old == "1");
     auto code_of = [](auto call) {
@@ -80,7 +80,7 @@ static void refusals() {
 
 // Whether of eight threads that write for two seconds the slowest makes a quarter of the mean.
 static bool all_are_served() {
-    auto passes = mst::open(4096, 8);
+    auto passes = mst::open({4096, 8});
     std::vector<std::thread> running;
     std::vector<long> puts(passes.size());
     std::atomic<bool> ended(false);

@@ -6,7 +6,7 @@ how that is known); one write runs at a time. The store is freed with its last p
 
     writer, reader = open_store(rows=1000, passes=2)
     writer.put(b"apple", b"30")
-    with reader.pinned() as then:
+    with reader.pin() as then:
         writer.put(b"apple", b"31")
         then.get(b"apple")          # b"30"
     reader.get(b"apple")            # b"31"
@@ -30,7 +30,8 @@ with threads.
 """
 from ._group import ShardedGroup
 from ._library import KEY_LONGEST, ROOT_LENGTH, VALUE_LONGEST, library_version
-from ._passes import Edit, Format, Octets, Pass, open_store
+from ._passes import Edit, Pass, Pinned, open_store
+from ._reads import Format, Octets, Reads
 from ._refusals import (
     ABSENT, BAD_BATCH, BAD_KEY, BAD_SHAPE, BAD_VALUE, BUSY, CLOSED, MEMORY, NO_FREE_ROWS,
     ROWS_PINNED, SHORT_ROOM, UNKNOWN_FORMAT, VERSIONS_SPENT, WRONG_STATE, Busy, Refused,
@@ -47,7 +48,7 @@ __all__ = [
     "ABSENT", "BAD_BATCH", "BAD_KEY", "BAD_SHAPE", "BAD_VALUE", "BUSY", "CLOSED", "KEY_LONGEST",
     "MEMORY", "NO_FREE_ROWS", "ROOT_LENGTH", "ROWS_PINNED", "SHORT_ROOM", "UNKNOWN_FORMAT",
     "VALUE_LONGEST", "VERSIONS_SPENT", "WRONG_STATE", "Busy", "Edit", "Format", "Octets", "Pass",
-    "Refused", "RefusedEdit", "library_version", "open_store",
+    "Pinned", "Reads", "Refused", "RefusedEdit", "library_version", "open_store",
     "BAD_SPLITS", "MOVING", "OVERTAKEN", "BusyShard", "Moving", "Overtaken", "RefusedShard",
     "ShardedBlock", "ShardedGroup", "ShardedPart", "ShardedReader", "ShardedSnapshot",
     "ShardedWriter", "open_sharded",

@@ -1,19 +1,26 @@
-"""Hands of sharded maps, and what the calls of blocks tell."""
+"""Hands and splits of sharded maps, and what the calls of blocks tell."""
 from __future__ import annotations
 
 import ctypes
 import os
 import threading
 from contextlib import contextmanager
-from typing import Any, Callable, Dict, Iterator, Optional, Set, Tuple, Type
+from typing import Any, Callable, Dict, Iterable, Iterator, Optional, Set, Tuple, Type
 
 from ._library import KEY_LONGEST, ROOT_LENGTH, SHARDED_HAND, VALUE_LONGEST
 from ._library import lib as _lib
+from ._reads import Octets, _octets
 from ._refusals import (
     ABSENT, BAD_KEY, BAD_VALUE, BUSY, CLOSED, MEMORY, NO_FREE_ROWS, OVERTAKEN, SHORT_ROOM,
     VERSIONS_SPENT, WRONG_STATE, BusyShard, Overtaken, RefusedEdit, RefusedShard,
 )
 from ._refusals import refuse as _refuse
+
+
+def _packed_splits(splits: Iterable[Octets]) -> bytes:
+    # A key that is too long is refused by its length, so that is enough.
+    keys = map(_octets, splits)
+    return b"".join(bytes((min(len(key), 255),)) + key[: KEY_LONGEST + 1] for key in keys)
 
 
 def _answer(code: int) -> int:

@@ -2,47 +2,22 @@
 from __future__ import annotations
 
 import ctypes
-import enum
 import operator
 import os
 import struct
 import threading
-from contextlib import contextmanager
-from typing import Any, Callable, Iterable, Iterator, List, NoReturn, Optional, Tuple, Union
+from typing import Any, Callable, Iterable, List, NoReturn, Optional, Tuple
 
-from ._library import HAND, KEY_LONGEST, ROOT_LENGTH, VALUE_LONGEST, Hand
+from ._library import HAND, KEY_LONGEST, VALUE_LONGEST, Hand
 from ._library import lib as _lib
-from ._refusals import ABSENT, BAD_KEY, BAD_VALUE, SHORT_ROOM, RefusedEdit
+from ._reads import Format, Octets, Reads, _format, _octets, _word
+from ._refusals import ABSENT, BAD_KEY, BAD_VALUE, RefusedEdit
 from ._refusals import refuse as _refuse
 
-Octets = Union[bytes, bytearray, memoryview]
 Edit = Tuple[Octets, Optional[Octets]]  # a key with its new value, or with None to take it out
-
-# The lengths of a key and its value in front of them, as mst_range has them.
-_LENGTHS = struct.Struct(">HH")
 
 # What an edit begins with: 1 for a put or 2 for a remove, and the two lengths.
 _EDIT = struct.Struct(">BHH")
-
-
-class Format(enum.IntEnum):
-    """A format of trees and proofs, by the number that verifiers take."""
-
-    ONE = 1
-    TWO = 2
-
-
-def _octets(given: Octets) -> bytes:
-    # bytes(5) would be five zeros, so a number is no key.
-    if not isinstance(given, (bytes, bytearray, memoryview)):
-        raise TypeError(f"bytes are asked for, not {type(given).__name__}")
-    return bytes(given)
-
-
-def _word(number: int) -> int:
-    # ctypes would cut greater numbers short. What is no integer raises TypeError.
-    number = operator.index(number)
-    return number if 0 <= number < 2**32 else 2**32 - 1
 
 
 def _microseconds(seconds: float) -> int:
@@ -64,137 +39,25 @@ def _packed(edits: Iterable[Edit]) -> bytes:
     return b"".join(_edit(key, value) for key, value in edits)
 
 
-class Pass:
-    """A pass of a store, from open_store. Its reads are of the current version, or of the pinned
-    one."""
+class Pass(Reads):
+    """A pass of a store, from open_store. Its reads are of the current version, and of the pinned
+    one while it pins."""
 
     def __init__(self, hand: Any) -> None:
         if not isinstance(hand, HAND):
             raise TypeError("a pass comes from open_store")
         self._hand, self._process = hand, os.getpid()
-        # A hand is in one call at a time, and the rooms below are shared by its calls.
         self._lock = threading.Lock()
         self._room = ctypes.create_string_buffer(VALUE_LONGEST)
         self._key_room = ctypes.create_string_buffer(KEY_LONGEST)
-        self._long_room = ctypes.create_string_buffer(4096)  # grows with the longest proof or range
+        self._long_room = ctypes.create_string_buffer(4096)
 
-    def _value(self, code: int) -> Optional[bytes]:
-        if code >= 0:
-            return self._room.raw[:code]
-        if code != ABSENT:
-            _refuse(code)
-        return None
-
-    def get(self, key: Octets) -> Optional[bytes]:
-        """Returns the value of the key, or None if the key is absent."""
-        key = _octets(key)
-        with self._lock:
-            return self._value(_lib.mst_get(self._hand, key, len(key), self._room, VALUE_LONGEST))
-
-    def next(self, key: Octets = b"") -> Optional[Tuple[bytes, bytes]]:
-        """Returns the pair of the least key above `key`, or of the least key of all if `key` is
-        empty; None if there is no such pair."""
-        key, length = _octets(key), ctypes.c_size_t()
-        with self._lock:
-            value = self._value(_lib.mst_next(
-                self._hand, key, len(key), self._key_room, KEY_LONGEST, ctypes.byref(length),
-                self._room, VALUE_LONGEST,
-            ))
-            return None if value is None else (self._key_room.raw[: length.value], value)
-
-    def range(
-        self, start: Octets = b"", stop: Octets = b"", limit: int = 2**32 - 1
-    ) -> List[Tuple[bytes, bytes]]:
-        """Returns the first pairs, at most `limit`, with start <= key < stop, all of one version.
-
-        They are in the order of rising keys. An empty bound does not bind.
-        """
-        return self._listing(_lib.mst_range, start, stop, limit)
-
-    def page_after(
-        self, after: Octets, stop: Octets = b"", limit: int = 2**32 - 1
-    ) -> List[Tuple[bytes, bytes]]:
-        """As range, with after < key < stop: the page behind a pair that was the last of the page
-        before. Behind an empty `after` are all pairs."""
-        return self._listing(_lib.mst_page_after, after, stop, limit)
-
-    def pages(self, limit: int, stop: Octets = b"") -> Iterator[List[Tuple[bytes, bytes]]]:
-        """Yields all pairs with key < stop, in lists of `limit` pairs, the last one perhaps of
-        fewer: of one version while the pass is pinned; otherwise each list is of one."""
-        page = self.page_after(b"", stop, limit)
-        while page:
-            yield page
-            page = self.page_after(page[-1][0], stop, limit)
-
-    def _listing(
-        self, call: Callable[..., int], low: Octets, stop: Octets, limit: int
-    ) -> List[Tuple[bytes, bytes]]:
-        low, stop = _octets(low), _octets(stop)
-        limit = _word(max(operator.index(limit), 0))
-        count, length = ctypes.c_size_t(), ctypes.c_size_t()
-        with self._lock:
-            while True:
-                room = self._long_room
-                code = call(
-                    self._hand, low, len(low), stop, len(stop), limit, room, len(room),
-                    ctypes.byref(count), ctypes.byref(length),
-                )
-                if code == 0:
-                    return list(_pairs(ctypes.string_at(room, length.value)))
-                if code != SHORT_ROOM:
-                    _refuse(code)
-                # A free pass may have more pairs by the next try, so this is a loop.
-                self._long_room = ctypes.create_string_buffer(length.value)
-
-    def items(self, start: Octets = b"", stop: Octets = b"") -> Iterator[Tuple[bytes, bytes]]:
-        """Yields the pairs with start <= key < stop by rising keys, and reads them in pages of at
-        most 64: of one version while the pass is pinned; otherwise each page is of one. An empty
-        bound does not bind. Where it reads a page, it raises Refused as range does."""
-        return _items(self.range, _octets(start), _octets(stop))
-
-    def root(self) -> bytes:
-        """Returns the root digest, of 32 bytes, in the format of the version."""
-        with self._lock:
-            code = _lib.mst_root(self._hand, self._room, VALUE_LONGEST)
-            if code < 0:
-                _refuse(code)
-            return self._room.raw[:ROOT_LENGTH]
-
-    def prove(self, key: Octets) -> bytes:
-        """Returns the proof of the key's answer, for a verifier and the format and root digest of
-        the same version."""
-        key, length = _octets(key), ctypes.c_size_t()
-        with self._lock:
-            while True:
-                room = self._long_room
-                code = _lib.mst_prove(
-                    self._hand, key, len(key), room, len(room), ctypes.byref(length))
-                if code == 0:
-                    return ctypes.string_at(room, length.value)
-                if code != SHORT_ROOM:
-                    _refuse(code)
-                # The proof of a free pass may have grown again by the next try, so this is a loop.
-                self._long_room = ctypes.create_string_buffer(length.value)
-
-    def version(self) -> int:
-        """Returns the number of the version: the number of writes and migrations before it.
-
-        Sent with a message, it, or that of made, is all that read-your-writes over threads needs:
-        a pass that is not pinned, and has here at least the number that it was sent, has seen, in
-        this call and in each later one, all that the sender had written and read."""
-        return self._number(_lib.mst_version, ctypes.c_uint64())
-
-    def format(self) -> Format:
-        """Returns the format of the version, in which its root digest and its proofs are."""
-        with self._lock:
-            return _format(_lib.mst_format(self._hand))
-
-    def try_rows(self) -> int:
+    def rows(self) -> int:
         """Returns how many rows the current version takes; raises Busy if another pass has the
         turn, and Refused if some pass pins."""
         return self._number(_lib.mst_rows, ctypes.c_uint32())
 
-    def try_free_rows(self) -> int:
+    def free_rows(self) -> int:
         """Returns how many rows are free to the next write, also while versions are pinned; raises
         Busy if another pass has the turn."""
         return self._number(_lib.mst_free_rows, ctypes.c_uint32())
@@ -210,13 +73,6 @@ class Pass:
         if code < 0:
             _refuse(code)
         return int(version.value)
-
-    def _number(self, call: Callable[..., int], number: Any) -> int:
-        with self._lock:
-            code = call(self._hand, ctypes.byref(number))
-        if code < 0:
-            _refuse(code)
-        return int(number.value)
 
     def try_put(self, key: Octets, value: Octets) -> Optional[bytes]:
         """Gives the key the value, or raises Busy. Returns the value before, or None if the key is
@@ -309,19 +165,10 @@ class Pass:
         with self._lock:
             return _format(call(self._hand, _word(to), *longest))
 
-    @contextmanager
-    def pinned(self) -> Iterator[Pass]:
-        """Pins the current version: inside the `with`, each read by this pass is of it."""
-        with self._lock:
-            code = _lib.mst_pin(self._hand)
-        if code < 0:
-            _refuse(code)
-        try:
-            yield self
-        finally:
-            # If the pass was closed inside, this call is refused, and there is nothing to unpin.
-            with self._lock:
-                _lib.mst_unpin(self._hand)
+    def pin(self) -> Pinned:
+        """Pins the current version, for a `with`: until that ends, each read by the result, and by
+        this pass, is of it. A pass that pins neither writes nor counts rows."""
+        return Pinned(self)
 
     def close(self) -> None:
         """Closes the pass. Later calls raise Refused with CLOSED; a second close has no effect."""
@@ -345,38 +192,42 @@ class Pass:
             _lib.mst_close(self._hand)
 
 
-def _pairs(listing: bytes) -> Iterator[Tuple[bytes, bytes]]:
-    at = 0
-    while at < len(listing):
-        key_length, value_length = _LENGTHS.unpack_from(listing, at)
-        middle = at + 4 + key_length
-        yield listing[at + 4 : middle], listing[middle : middle + value_length]
-        at = middle + value_length
+class Pinned(Reads):
+    """A pass while it pins a version, from its pin: it has the reads alone. The pin ends with the
+    `with`, by unpin, or with its pass; then reads raise Refused with CLOSED."""
+
+    def __init__(self, of: Pass) -> None:
+        if not isinstance(of, Pass):
+            raise TypeError("a pin comes from a pass")
+        self._lock, self._room, self._key_room = of._lock, of._room, of._key_room
+        self._long_room = of._long_room
+        with self._lock:
+            code = _lib.mst_pin(of._hand)
+        if code < 0:
+            _refuse(code)
+        self._hand = of._hand
+        self._of: Optional[Pass] = of  # so it stays open
+
+    def unpin(self) -> None:
+        """Ends the pin before the `with` ends. A second unpin has no effect."""
+        with self._lock:
+            # If the pass was closed, this call is refused, and there is nothing to unpin.
+            _lib.mst_unpin(self._hand)
+            self._hand = ctypes.pointer(Hand())
+        self._of = None
+
+    def __enter__(self) -> Pinned:
+        return self
+
+    def __exit__(self, *_: object) -> None:
+        self.unpin()
+
+    def __reduce__(self) -> NoReturn:
+        # A copy would not know of its end.
+        raise TypeError("a pin is neither copied nor pickled")
 
 
-# The most pairs of a page of items.
-_PAGE_MOST = 64
-
-
-def _items(
-    listing: Callable[[bytes, bytes, int], List[Tuple[bytes, bytes]]], start: bytes, stop: bytes
-) -> Iterator[Tuple[bytes, bytes]]:
-    page = listing(start, stop, _PAGE_MOST)
-    yield from page
-    while len(page) == _PAGE_MOST:
-        last = page[-1][0]
-        page = listing(last, stop, _PAGE_MOST)
-        # It begins with the last pair of the page before, if that is still there.
-        yield from (pair for pair in page if pair[0] != last)
-
-
-def _format(code: int) -> Format:
-    if code < 0:
-        _refuse(code)
-    return Format(code)
-
-
-def open_store(rows: int, passes: int, format: int = Format.ONE) -> List[Pass]:
+def open_store(*, rows: int, passes: int, format: int = Format.ONE) -> List[Pass]:
     """Opens a store of the empty map and returns its passes.
 
     It has 4 to 65,535 rows and 1 to 32 passes; other numbers raise Refused. A map takes a row for

@@ -8,11 +8,14 @@ from contextlib import contextmanager
 from typing import TYPE_CHECKING, Any, Callable, Iterable, Iterator, List, NoReturn, Optional, Tuple
 
 from ._group import ShardedGroup
-from ._hands import _NO_SHARD, _answer, _block, _block_of_edits, _Hand, _Held, _WriterHand
-from ._library import KEY_LONGEST, ShardedHand
+from ._hands import (
+    _NO_SHARD, _answer, _block, _block_of_edits, _Hand, _Held, _packed_splits, _WriterHand,
+)
+from ._library import ShardedHand
 from ._library import lib as _lib
-from ._passes import Edit, Format, Octets, _format, _items, _octets, _pairs, _word
+from ._passes import Edit
 from ._passes import _packed as _packed_edits
+from ._reads import Format, Octets, _format, _items, _octets, _pairs, _word
 from ._refusals import BUSY, CLOSED, MOVING, Moving
 from ._refusals import refuse as _refuse
 
@@ -20,24 +23,27 @@ if TYPE_CHECKING:
     from typing_extensions import Unpack
 
 
-def _packed(splits: Iterable[Octets]) -> bytes:
-    # A key that is too long is refused by its length, so that is enough.
-    keys = map(_octets, splits)
-    return b"".join(bytes((min(len(key), 255),)) + key[: KEY_LONGEST + 1] for key in keys)
-
-
 class ShardedSnapshot:
     """A snapshot of exactly one block, unless SHA-256 collides, from a reader's snapshot. All reads
-    are of this block. Once the `with` has ended, they raise Refused with CLOSED."""
+    are of this block. Its pins end with the `with`, by release, or with its reader; then reads
+    raise Refused with CLOSED."""
 
     def __init__(self, held: _Held) -> None:
         self._held, self._is_over = held, False
 
-    def _end(self) -> None:
+    def release(self) -> None:
+        """Ends the pins before the `with` ends. A second release has no effect."""
         with self._held.lock:
+            # If the reader was closed, the call is refused, and no pin is left.
+            if not self._is_over:
+                _lib.mst_sharded_release(self._held.hand)
             self._is_over = True
-            # If the reader was closed inside, this call is refused, and no pin is left.
-            _lib.mst_sharded_release(self._held.hand)
+
+    def __enter__(self) -> ShardedSnapshot:
+        return self
+
+    def __exit__(self, *_: object) -> None:
+        self.release()
 
     @contextmanager
     def _taken(self) -> Iterator[_Held]:
@@ -73,12 +79,12 @@ class ShardedSnapshot:
         with self._taken() as held:
             return held.get(key)
 
-    def next(self, key: Octets = b"") -> Optional[Tuple[bytes, bytes]]:
-        """Returns the pair of the least key above `key`, or of the least key of all if `key` is
+    def next(self, after: Octets = b"") -> Optional[Tuple[bytes, bytes]]:
+        """Returns the pair of the least key above `after`, or of the least key of all if `after` is
         empty; None if there is no such pair."""
-        key = _octets(key)
+        after = _octets(after)
         with self._taken() as held:
-            return held.next(key)
+            return held.next(after)
 
     def range(
         self, start: Octets = b"", stop: Octets = b"", limit: int = 2**32 - 1
@@ -158,32 +164,23 @@ class ShardedReader:
         with self._held.lock:
             return self._held.get(key)
 
-    @contextmanager
-    def snapshot(self) -> Iterator[ShardedSnapshot]:
-        """Takes a snapshot of one block for the `with`; while a block is being published, it tries
+    def snapshot(self) -> ShardedSnapshot:
+        """Takes a snapshot of one block, for a `with`; while a block is being published, it tries
         again. It is not promised when a try falls between two blocks; and if the writer's thread
         has died within apply, none may."""
-        with self._taken_by(_lib.mst_sharded_snapshot) as then:
-            yield then
+        return self._taken_by(_lib.mst_sharded_snapshot)
 
-    @contextmanager
-    def try_snapshot(self) -> Iterator[ShardedSnapshot]:
+    def try_snapshot(self) -> ShardedSnapshot:
         """As snapshot, but raises Moving while a block is just being published."""
-        with self._taken_by(_lib.mst_sharded_try_snapshot) as then:
-            yield then
+        return self._taken_by(_lib.mst_sharded_try_snapshot)
 
-    @contextmanager
-    def _taken_by(self, call: Callable[..., int]) -> Iterator[ShardedSnapshot]:
+    def _taken_by(self, call: Callable[..., int]) -> ShardedSnapshot:
         with self._held.lock:
             code = call(self._held.hand)
         if code == MOVING:
             raise Moving()
         _answer(code)
-        then = ShardedSnapshot(self._held)
-        try:
-            yield then
-        finally:
-            then._end()
+        return ShardedSnapshot(self._held)
 
     def close(self) -> None:
         """Closes the reader. Later calls raise Refused with CLOSED; a second close has no
@@ -261,6 +258,12 @@ class ShardedBlock:
                 time.sleep(0)
             self._is_over = True
 
+    def __enter__(self) -> ShardedBlock:
+        return self
+
+    def __exit__(self, *_: object) -> None:
+        self.cancel()
+
     def __reduce__(self) -> NoReturn:
         # A copy would not know of its end.
         raise TypeError("a block is neither copied nor pickled")
@@ -305,12 +308,11 @@ class ShardedWriter:
                 ctypes.byref(number))
         return _block_of_edits(code, number, place, shard)
 
-    @contextmanager
-    def begin(self, edits: Iterable[Edit]) -> Iterator[ShardedBlock]:
-        """Begins the next block, of these edits, for the `with`, with its parts, one for each
-        shard, for threads that the caller has. Until the block ends, all other calls of the writer
-        but close raise Refused with WRONG_STATE. If an edit is not valid, or memory is refused,
-        nothing has changed, and the exception is that of apply.
+    def begin(self, edits: Iterable[Edit]) -> ShardedBlock:
+        """Begins the next block, of these edits, for a `with`, with its parts, one for each shard,
+        for threads that the caller has. Until the block ends, all other calls of the writer but
+        close raise Refused with WRONG_STATE. If an edit is not valid, or memory is refused, nothing
+        has changed, and the exception is that of apply.
 
             with writer.begin(edits) as block:
                 list(pool.map(ShardedPart.prepare, block.parts))
@@ -323,11 +325,7 @@ class ShardedWriter:
             code = _lib.mst_sharded_begin(
                 held.hand, packed, len(packed), ctypes.byref(place), hands, count)
         _block_of_edits(code, ctypes.c_uint64(), place, ctypes.c_size_t(count))
-        block = ShardedBlock(self._held, parts)
-        try:
-            yield block
-        finally:
-            block.cancel()
+        return ShardedBlock(self._held, parts)
 
     def group(self) -> ShardedGroup:
         """Makes a group of the writer, by which any number of threads make blocks. Until the group
@@ -379,7 +377,7 @@ class ShardedWriter:
 
 
 def open_sharded(
-    rows: int, readers: int, splits: Iterable[Octets], format: int = Format.ONE
+    *, rows: int, readers: int = 0, splits: Iterable[Octets] = (), format: int = Format.ONE
 ) -> Tuple[ShardedWriter, Unpack[Tuple[ShardedReader, ...]]]:
     """Opens a sharded map of the empty map, which is block 0, and returns its writer and then its
     readers: `writer, *readers = open_sharded(rows=1000, readers=2, splits=[b"m"])`.
@@ -392,7 +390,7 @@ def open_sharded(
     # 33 hands are as refused as any greater number, and of fewer than none there is no writer.
     count = operator.index(readers) + 1
     count = count if 0 < count <= 32 else 33
-    hands, packed = (ShardedHand * count)(), _packed(splits)
+    hands, packed = (ShardedHand * count)(), _packed_splits(splits)
     _answer(_lib.mst_sharded_open(_word(format), _word(rows), packed, len(packed), hands, count))
     others = [ShardedReader(ctypes.pointer(hands[at])) for at in range(1, count)]
     return (ShardedWriter(ctypes.pointer(hands[0])), *others)

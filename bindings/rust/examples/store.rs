@@ -1,10 +1,10 @@
 //! A writer and a reader that pins, in a thread each.
 //!
 //!     make -C bindings && cd bindings/rust && cargo run --example store
-use mst_store::{Error, Reads};
+use mst_store::{open, Error, Options, Reads};
 
 fn main() -> Result<(), Error> {
-    let mut passes = mst_store::open(1000, 2)?;
+    let mut passes = open(Options { rows: 1000, passes: 2, ..Options::default() })?;
     let mut reader = passes.pop().expect("two were asked for");
     let mut writer = passes.pop().expect("two were asked for");
     writer.put(b"apple", b"30")?;

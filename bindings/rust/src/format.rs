@@ -2,9 +2,10 @@
 use crate::Error;
 
 /// The format of a version: that of its root digest and its proofs.
-#[derive(Debug, Clone, Copy, PartialEq, Eq, Hash)]
+#[derive(Debug, Clone, Copy, Default, PartialEq, Eq, Hash)]
 pub enum Format {
     /// Nodes hold values.
+    #[default]
     One = 1,
     /// Nodes are smaller and hold the SHA-256 of each value: shorter proofs, smaller puts.
     Two = 2,

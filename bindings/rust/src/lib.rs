@@ -7,9 +7,9 @@
 //! the library's `MST_SHORT_ROOM`, with which a put has been made all the same, is never returned.
 //!
 //! ```
-//! use mst_store::Reads;
+//! use mst_store::{open, Options, Reads};
 //!
-//! let mut passes = mst_store::open(1000, 2)?;
+//! let mut passes = open(Options { rows: 1000, passes: 2, ..Options::default() })?;
 //! let mut reader = passes.pop().unwrap();
 //! let mut writer = passes.pop().unwrap();
 //! assert_eq!(writer.put(b"apple", b"30")?, None);
@@ -24,9 +24,9 @@
 //! A migration turns the tree of the map to another format; pinned versions keep theirs:
 //!
 //! ```
-//! use mst_store::{Format, Reads};
+//! use mst_store::{open, Format, Options, Reads};
 //!
-//! let mut passes = mst_store::open(1000, 2)?;
+//! let mut passes = open(Options { rows: 1000, passes: 2, format: Format::One })?;
 //! let mut reader = passes.pop().unwrap();
 //! let mut writer = passes.pop().unwrap();
 //! let mut then = reader.pin();
@@ -39,9 +39,9 @@
 //!
 //! ```
 //! use mst_store::Edit::{Put, Remove};
-//! use mst_store::Reads;
+//! use mst_store::{open, Options, Reads};
 //!
-//! let mut pass = mst_store::open(1000, 1)?.remove(0);
+//! let mut pass = open(Options { rows: 1000, passes: 1, ..Options::default() })?.remove(0);
 //! pass.apply(&[Put(b"apple", b"30"), Put(b"pear", b"12"), Remove(b"apple")])?;
 //! assert_eq!((pass.get(b"apple")?, pass.version()), (None, 1));
 //! # Ok::<(), mst_store::Error>(())
@@ -57,7 +57,8 @@
 //! and a pinned pass does not write:
 //!
 //! ```compile_fail
-//! let mut pass = mst_store::open(1000, 1).unwrap().pop().unwrap();
+//! # use mst_store::{open, Options};
+//! let mut pass = open(Options { rows: 1000, passes: 1, ..Options::default() }).unwrap().remove(0);
 //! pass.pin().put(b"apple", b"30");
 //! ```
 #![deny(missing_debug_implementations, missing_docs)]
@@ -101,16 +102,21 @@ fn microseconds(longest: Duration) -> u64 {
     u64::try_from(longest.as_micros()).unwrap_or(raw::WAIT)
 }
 
-/// Opens a store of the empty map in format 1, and returns its passes, as many as are asked for.
-///
-/// A map takes a row for each of its pairs and nodes; a store has 4 to 65,535 rows and 1 to 32
-/// passes.
-pub fn open(rows: u32, passes: usize) -> Result<Vec<Pass>, Error> {
-    open_format(Format::One, rows, passes)
+/// The shape and the format of a store. By default there are no rows and no passes, which is
+/// refused, so both have to be given.
+#[derive(Debug, Clone, Copy, Default, PartialEq, Eq, Hash)]
+pub struct Options {
+    /// The rows, 4 to 65,535: a map takes one for each of its pairs and nodes.
+    pub rows: u32,
+    /// The passes, 1 to 32.
+    pub passes: usize,
+    /// The format in which the store opens, by default [`Format::One`].
+    pub format: Format,
 }
 
-/// As [`open`], in another format.
-pub fn open_format(format: Format, rows: u32, passes: usize) -> Result<Vec<Pass>, Error> {
+/// Opens a store of the empty map, and returns its passes, as many as are asked for.
+pub fn open(options: Options) -> Result<Vec<Pass>, Error> {
+    let Options { rows, passes, format } = options;
     // 33 hands are as refused as any greater number, and take no room.
     let count = passes.min(33);
     let mut hands: Vec<Hand> = (0..count).map(|_| Hand::EMPTY).collect();
@@ -279,7 +285,7 @@ impl Pass {
     }
 
     /// Returns how many rows the current version takes, if no other pass writes and none pins.
-    pub fn try_rows(&mut self) -> Result<u32, TryError> {
+    pub fn rows(&mut self) -> Result<u32, TryError> {
         let mut rows = 0;
         // Safety: both pointers are valid.
         match unsafe { raw::mst_rows(&mut self.hand, &mut rows) } {
@@ -291,7 +297,7 @@ impl Pass {
     /// Returns how many rows are free to the next write, also while versions are pinned, if no
     /// other pass writes. As long as nobody writes, pins or unpins, a write that takes at most that
     /// many rows is not refused as `NoFreeRows`, and one that takes more is.
-    pub fn try_free_rows(&mut self) -> Result<u32, TryError> {
+    pub fn free_rows(&mut self) -> Result<u32, TryError> {
         let mut rows = 0;
         // Safety: both pointers are valid.
         match unsafe { raw::mst_free_rows(&mut self.hand, &mut rows) } {

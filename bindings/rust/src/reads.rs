@@ -104,16 +104,16 @@ pub trait Reads: Held {
         value(code, &room).map_err(Error::of)
     }
 
-    /// Returns the pair of the least key above `key`, or of the least key of all if `key` is empty;
-    /// None if there is no such pair.
-    fn next(&mut self, key: &[u8]) -> Result<Option<Pair>, Error> {
+    /// Returns the pair of the least key above `after`, or of the least key of all if `after` is
+    /// empty; None if there is no such pair.
+    fn next(&mut self, after: &[u8]) -> Result<Option<Pair>, Error> {
         let (mut room, mut found, mut length) = ([0; VALUE_LONGEST], [0; KEY_LONGEST], 0);
         // Safety: as in get.
         let code = unsafe {
             raw::mst_next(
                 self.hand(),
-                key.as_ptr(),
-                key.len(),
+                after.as_ptr(),
+                after.len(),
                 found.as_mut_ptr(),
                 found.len(),
                 &mut length,
@@ -136,9 +136,9 @@ pub trait Reads: Held {
     /// are of one version; those of a free pass are not, if another pass writes between them.
     ///
     /// ```
-    /// use mst_store::Reads;
+    /// use mst_store::{open, Options, Reads};
     ///
-    /// let mut pass = mst_store::open(1000, 1)?.remove(0);
+    /// let mut pass = open(Options { rows: 1000, passes: 1, ..Options::default() })?.remove(0);
     /// for number in 0..20_u8 {
     ///     pass.put(&[number; 32], b"")?;
     /// }
@@ -167,9 +167,9 @@ pub trait Reads: Held {
     /// `Memory` at a page for which there is none.
     ///
     /// ```
-    /// use mst_store::Reads;
+    /// use mst_store::{open, Options, Reads};
     ///
-    /// let mut pass = mst_store::open(1000, 1)?.remove(0);
+    /// let mut pass = open(Options { rows: 1000, passes: 1, ..Options::default() })?.remove(0);
     /// pass.put(b"apple", b"30")?;
     /// pass.put(b"pear", b"12")?;
     /// let mut then = pass.pin();

@@ -7,11 +7,11 @@
 //! [`Group`] several threads share a writer.
 //!
 //! ```
-//! use mst_store::sharded;
+//! use mst_store::sharded::{open, Options};
 //! use mst_store::Edit::{Put, Remove};
-//! use mst_store::Format;
 //!
-//! let (mut writer, mut readers) = sharded::open(Format::One, 1000, 1, &[b"m"])?; // two shards
+//! let two_shards = Options { rows: 1000, readers: 1, splits: &[b"m"], ..Options::default() };
+//! let (mut writer, mut readers) = open(two_shards)?;
 //! assert_eq!(writer.apply(&[Put(b"apple", b"30"), Remove(b"pear")]).unwrap(), 1);
 //! let mut then = readers[0].snapshot();
 //! assert_eq!(then.number(), 1);
@@ -23,8 +23,9 @@
 //! A snapshot takes its reader until it is dropped:
 //!
 //! ```compile_fail
-//! # use mst_store::{sharded, Format};
-//! let (_, mut readers) = sharded::open(Format::One, 1000, 1, &[]).unwrap();
+//! # use mst_store::sharded::{open, Options};
+//! let options = Options { rows: 1000, readers: 1, ..Options::default() };
+//! let (_, mut readers) = open(options).unwrap();
 //! let then = readers[0].snapshot();
 //! readers[0].get(b"apple");
 //! drop(then);
@@ -41,19 +42,27 @@ use crate::{
 use std::fmt;
 use std::thread;
 
+/// The shape and the format of a sharded map. By default there are no rows, which is refused, so
+/// they have to be given.
+#[derive(Debug, Clone, Copy, Default, PartialEq, Eq, Hash)]
+pub struct Options<'a> {
+    /// The rows of each shard, 4 to 65,535.
+    pub rows: u32,
+    /// The readers, 0 to 31.
+    pub readers: usize,
+    /// At most 1,023 keys that rise strictly, from above that of one zero byte: the keys from one
+    /// of them on, and below the next, are those of a shard. By default there is one shard.
+    pub splits: &'a [&'a [u8]],
+    /// The format of the map, by default [`Format::One`].
+    pub format: Format,
+}
+
 /// Opens a sharded map of the empty map, which is block 0, and returns its writer and its readers,
 /// as many as are asked for.
 ///
-/// The splits are at most 1,023 keys that rise strictly, from above that of one zero byte: the keys
-/// from one of them on, and below the next, are those of a shard. Each shard has 4 to 65,535 rows,
-/// and there are 0 to 31 readers. The map keeps its format; [`Snapshot::copy_to`] copies it to a map
-/// of another.
-pub fn open(
-    format: Format,
-    rows: u32,
-    readers: usize,
-    splits: &[&[u8]],
-) -> Result<(Writer, Vec<Reader>), Error> {
+/// The map keeps its format; [`Snapshot::copy_to`] copies it to a map of another.
+pub fn open(options: Options<'_>) -> Result<(Writer, Vec<Reader>), Error> {
+    let Options { rows, readers, splits, format } = options;
     // 33 hands are as refused as any greater number, and take no room.
     let count = readers.min(32) + 1;
     let packed = edits::splits(splits);
@@ -220,11 +229,10 @@ impl Writer {
     /// If an edit is not valid, or memory is refused, nothing has changed.
     ///
     /// ```
-    /// use mst_store::sharded;
+    /// use mst_store::sharded::{open, Options};
     /// use mst_store::Edit::Put;
-    /// use mst_store::Format;
     ///
-    /// let (mut writer, _) = sharded::open(Format::One, 1000, 0, &[b"m"])?;
+    /// let (mut writer, _) = open(Options { rows: 1000, splits: &[b"m"], ..Options::default() })?;
     /// let (block, mut parts) = writer.begin(&[Put(b"apple", b"30"), Put(b"pear", b"12")]).unwrap();
     /// std::thread::scope(|threads| {
     ///     for part in &mut parts {
@@ -457,16 +465,16 @@ impl Snapshot<'_> {
         self.0.get(key)
     }
 
-    /// Returns the pair of the least key above `key`, or of the least key of all if `key` is empty;
-    /// None if there is no such pair.
-    pub fn next(&mut self, key: &[u8]) -> Result<Option<Pair>, Error> {
+    /// Returns the pair of the least key above `after`, or of the least key of all if `after` is
+    /// empty; None if there is no such pair.
+    pub fn next(&mut self, after: &[u8]) -> Result<Option<Pair>, Error> {
         let (mut room, mut found, mut length) = ([0; VALUE_LONGEST], [0; KEY_LONGEST], 0);
         // Safety: each pointer is valid for the length that goes with it, and no room is another's.
         let code = unsafe {
             raw::mst_sharded_next(
                 &mut self.0.hand,
-                key.as_ptr(),
-                key.len(),
+                after.as_ptr(),
+                after.len(),
                 found.as_mut_ptr(),
                 found.len(),
                 &mut length,

@@ -1,6 +1,6 @@
 //! Groups: threads that share the one writer of a sharded map. Each call is told the number of a
 //! block that has its edits, or why they alone are refused.
-use mst_store::sharded::{self, BlockError, Group, GroupError, Reader, Writer};
+use mst_store::sharded::{open, BlockError, Group, GroupError, Options, Reader, Writer};
 use mst_store::Edit::{Put, Remove};
 use mst_store::{Edit, Error, Format};
 use std::collections::{BTreeMap, BTreeSet};
@@ -19,7 +19,7 @@ type Change = (Vec<u8>, Option<Vec<u8>>);
 fn opened(format: Format) -> (Writer, Vec<Reader>) {
     let splits: Vec<_> = (b'b'..=b'h').map(|first| [first]).collect();
     let parts: Vec<&[u8]> = splits.iter().map(|it| &it[..]).collect();
-    sharded::open(format, 256, 1, &parts).unwrap()
+    open(Options { rows: 256, readers: 1, splits: &parts, format }).unwrap()
 }
 
 /// Up to three changes of keys of this thread alone.
@@ -134,7 +134,8 @@ fn asks(group: &Group, own: usize) -> u64 {
 
 #[test]
 fn a_refused_call_fails_no_other() {
-    let (writer, mut readers) = sharded::open(Format::One, 80, 1, &[b"m"]).unwrap();
+    let options = Options { rows: 80, readers: 1, splits: &[b"m"], ..Options::default() };
+    let (writer, mut readers) = open(options).unwrap();
     let group = Arc::new(writer.into_group().unwrap());
     let start = |own| {
         let group = Arc::clone(&group);

@@ -1,6 +1,6 @@
 //! Sharded maps, compared with BTreeMaps: what a snapshot has is what one block left, and so has a
 //! copy of it. Blocks by several threads are as those by one.
-use mst_store::sharded::{self, BlockError, Part, Reader, Snapshot, Writer};
+use mst_store::sharded::{open, BlockError, Options, Part, Reader, Snapshot, Writer};
 use mst_store::Edit::{Put, Remove};
 use mst_store::{Edit, Error, Format};
 use std::collections::BTreeMap;
@@ -19,7 +19,7 @@ type Told = (u64, [u8; 32]);
 fn opened(format: Format, rows: u32, readers: usize) -> (Writer, Vec<Reader>) {
     let splits: Vec<Vec<u8>> = (1..16).map(|number| vec![16 * number]).collect();
     let parts: Vec<&[u8]> = splits.iter().map(Vec::as_slice).collect();
-    sharded::open(format, rows, readers, &parts).unwrap()
+    open(Options { rows, readers, splits: &parts, format }).unwrap()
 }
 
 /// Numbers that look random, from a seed.
@@ -106,7 +106,9 @@ fn each_snapshot_keeps_its_block() {
 
 #[test]
 fn a_refused_block_changes_no_shard() {
-    let (mut writer, mut readers) = sharded::open(Format::Two, 12, 2, &[b"b", b"c", b"d"]).unwrap();
+    let options =
+        Options { rows: 12, readers: 2, splits: &[b"b", b"c", b"d"], format: Format::Two };
+    let (mut writer, mut readers) = open(options).unwrap();
     let (mut reader, mut other) = (readers.remove(0), readers.remove(0));
     assert_eq!(writer.apply(&[Put(b"a", b"old"), Put(b"c", b"old")]), Ok(1));
     let (root, mut then) = (writer.root(), other.snapshot());
@@ -140,8 +142,10 @@ fn a_copy_is_a_map_that_was_filled_directly() {
         for _ in 0..30 {
             makes(&mut writer, &mut map, &mut seed);
         }
-        let (mut copied, mut lookers) = sharded::open(to, 999, 1, &[b"a"]).unwrap();
-        let (mut direct, _) = sharded::open(to, 500, 0, &[b"a"]).unwrap();
+        let of =
+            |rows, readers| open(Options { rows, readers, splits: &[b"a"], format: to }).unwrap();
+        let (mut copied, mut lookers) = of(999, 1);
+        let (mut direct, _) = of(500, 0);
         let puts: Vec<_> = map.iter().map(|(key, value)| Put(key, value)).collect();
         assert_eq!(direct.apply(&puts), Ok(1));
         let mut then = readers[0].snapshot();
@@ -151,7 +155,7 @@ fn a_copy_is_a_map_that_was_filled_directly() {
         shows(&mut now, (1, direct.root()), &map);
         assert_eq!((now.format(), now.shards()), (to, 2));
         // a full map is as it was
-        let (mut full, _) = sharded::open(to, 8, 0, &[b"a"]).unwrap();
+        let (mut full, _) = of(8, 0);
         let refused = then.copy_to(&mut full).unwrap_err();
         assert_eq!(refused.error, Error::NoFreeRows);
         assert!(refused.shard.is_some_and(|shard| shard < 2));
@@ -221,7 +225,9 @@ fn refused_blocks_by_threads() {
     fn sent<T: Send>(of: T) -> T {
         of
     }
-    let (mut writer, _) = sharded::open(Format::Two, 12, 0, &[b"b", b"c", b"d"]).unwrap();
+    let splits: &[&[u8]] = &[b"b", b"c", b"d"];
+    let (mut writer, _) =
+        open(Options { rows: 12, splits, format: Format::Two, ..Options::default() }).unwrap();
     let root = writer.root();
     let keys: Vec<_> = (0..12).map(|last| [b'c', last]).collect();
     let mut edits = vec![Put(b"d", b"1"), Put(b"a", b"1")];
@@ -249,12 +255,18 @@ fn refused_blocks_by_threads() {
 
 #[test]
 fn openings_that_are_refused() {
-    let of = |splits: &[&[u8]]| sharded::open(Format::One, 16, 1, splits).map(|_| ()).unwrap_err();
+    let of = |splits: &[&[u8]]| {
+        open(Options { rows: 16, readers: 1, splits, ..Options::default() }).unwrap_err()
+    };
     assert_eq!(of(&[b""]), Error::BadSplits);
     assert_eq!(of(&[b"b", b"b"]), Error::BadSplits);
     assert_eq!(of(&[&[1; 33]]), Error::BadSplits);
     assert_eq!(of(&[&[1; 300]]), Error::BadSplits);
-    let shaped = |rows, readers| sharded::open(Format::Two, rows, readers, &[]).map(|_| ());
+    let shaped = |rows, readers| {
+        let format = Format::Two;
+        open(Options { rows, readers, format, ..Options::default() }).map(|_| ())
+    };
+    assert_eq!(open(Options::default()).unwrap_err(), Error::BadShape);
     assert_eq!(shaped(3, 1), Err(Error::BadShape));
     assert_eq!(shaped(16, 32), Err(Error::BadShape));
     assert_eq!(shaped(16, usize::MAX), Err(Error::BadShape));

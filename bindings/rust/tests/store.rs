@@ -1,6 +1,6 @@
 //! The store's answers, compared with those of a BTreeMap, over writes by a fixed generator.
 use mst_store::Edit::{Put, Remove};
-use mst_store::{open, open_format, Error, Format, Pass, Reads, TryError};
+use mst_store::{open, Error, Format, Options, Pass, Reads, TryError};
 use std::collections::BTreeMap;
 use std::iter::FusedIterator;
 use std::thread;
@@ -29,13 +29,18 @@ impl Random {
     }
 }
 
+/// A store in format 1.
+fn opened(rows: u32, passes: usize) -> Result<Vec<Pass>, Error> {
+    open(Options { rows, passes, ..Options::default() })
+}
+
 fn one(rows: u32) -> Pass {
-    open(rows, 1).unwrap().pop().unwrap()
+    opened(rows, 1).unwrap().pop().unwrap()
 }
 
 /// A store of one pass in this format, with these pairs.
 fn filled(format: Format, pairs: impl IntoIterator<Item = (Vec<u8>, Vec<u8>)>) -> Pass {
-    let mut pass = open_format(format, 4000, 1).unwrap().pop().unwrap();
+    let mut pass = open(Options { rows: 4000, passes: 1, format }).unwrap().pop().unwrap();
     for (key, value) in pairs {
         pass.put(&key, &value).unwrap();
     }
@@ -78,7 +83,7 @@ fn answers_are_those_of_a_map() {
     }
     assert!(pass.page_after(&[], &[], usize::MAX).unwrap().into_iter().eq(map.clone()));
     assert!(pass.range(&[], &[], usize::MAX).unwrap().into_iter().eq(map.clone()));
-    assert!(pass.try_rows().unwrap() as usize >= map.len());
+    assert!(pass.rows().unwrap() as usize >= map.len());
 }
 
 /// Takes out each pair that a reader comes to, which are all.
@@ -95,7 +100,7 @@ fn empty(writer: &mut Pass, reader: &mut impl Reads, map: &BTreeMap<Vec<u8>, Vec
 #[test]
 fn items_are_the_pairs_of_their_pages() {
     for count in [0, 1, 63, 64, 65, 127, 128, 190, 300_u16] {
-        let mut passes = open(2000, 2).unwrap();
+        let mut passes = opened(2000, 2).unwrap();
         let (mut reader, mut writer) = (passes.pop().unwrap(), passes.pop().unwrap());
         let key = |number: u16| [&[255; 30][..], &number.to_be_bytes()].concat();
         let map: BTreeMap<_, _> = (0..count).map(|number| (key(number), vec![7])).collect();
@@ -166,7 +171,7 @@ fn a_batch_leaves_the_map_of_its_edits_as_one_version() {
 
 #[test]
 fn a_batch_is_made_whole_or_not_at_all() {
-    let mut passes = open(64, 2).unwrap();
+    let mut passes = opened(64, 2).unwrap();
     let (mut reader, mut writer) = (passes.pop().unwrap(), passes.pop().unwrap());
     writer.apply(&[Put(b"a", b"1"), Put(b"b", b"2")]).unwrap();
     let mut then = reader.pin();
@@ -229,7 +234,7 @@ fn a_migration_gives_the_root_of_a_store_in_that_format() {
 
 #[test]
 fn a_pinned_version_keeps_its_format() {
-    let mut passes = open(1000, 2).unwrap();
+    let mut passes = opened(1000, 2).unwrap();
     let (mut reader, mut writer) = (passes.pop().unwrap(), passes.pop().unwrap());
     writer.put(b"key", b"value").unwrap();
     let (root, proof) = (writer.root(), writer.prove(b"key"));
@@ -249,7 +254,7 @@ fn a_pinned_version_keeps_its_format() {
 
 #[test]
 fn a_pinned_version_stays_while_another_thread_writes() {
-    let mut passes = open(20_000, 2).unwrap();
+    let mut passes = opened(20_000, 2).unwrap();
     let (mut reader, mut writer) = (passes.pop().unwrap(), passes.pop().unwrap());
     for i in 0..50u8 {
         writer.put(&[i], &[0]).unwrap();
@@ -275,7 +280,7 @@ fn a_pinned_version_stays_while_another_thread_writes() {
 
 #[test]
 fn two_writers_wait_for_each_other() {
-    let passes = open(4000, 2).unwrap();
+    let passes = opened(4000, 2).unwrap();
     thread::scope(|scope| {
         for (who, mut pass) in passes.into_iter().enumerate() {
             scope.spawn(move || {
@@ -321,9 +326,12 @@ fn refusals_have_their_errors() {
     assert_eq!(pass.put(&[255; 32], &[1; 64]), Ok(None));
     assert_eq!(pass.version(), 1);
     for (rows, passes) in [(3, 1), (65_536, 1), (1000, 0), (1000, 33), (1000, usize::MAX)] {
-        assert_eq!(open(rows, passes).err(), Some(Error::BadShape));
+        assert_eq!(opened(rows, passes).err(), Some(Error::BadShape));
     }
-    assert_eq!(open_format(Format::Two, 3, 1).err(), Some(Error::BadShape));
+    let options = Options { rows: 3, passes: 1, format: Format::Two };
+    assert_eq!(open(options).err(), Some(Error::BadShape));
+    assert_eq!(open(Options::default()).err(), Some(Error::BadShape));
+    assert_eq!(Options::default().format, Format::One);
     for number in [0, 3, u32::MAX] {
         assert_eq!(Format::try_from(number), Err(Error::UnknownFormat));
     }
@@ -345,7 +353,7 @@ fn passes_are_shown_and_refusals_lifted() {
     }
     let mut pass = one(1000);
     assert_eq!(written(&mut pass), Err(TryError::Refused(Error::BadKey)));
-    assert_eq!(open(3, 1).unwrap_err(), Error::BadShape);
+    assert_eq!(opened(3, 1).unwrap_err(), Error::BadShape);
     assert!(format!("{pass:?}").starts_with("Pass"));
     assert!(format!("{:?}", pass.pin()).starts_with("Pinned"));
     assert!(format!("{:?}", pass.items(b"", b"")).starts_with("Items"));
@@ -354,7 +362,7 @@ fn passes_are_shown_and_refusals_lifted() {
 
 #[test]
 fn rows_are_spent_and_counted() {
-    let mut passes = open(8, 2).unwrap();
+    let mut passes = opened(8, 2).unwrap();
     let (mut reader, mut writer) = (passes.pop().unwrap(), passes.pop().unwrap());
     let refused = (0..20u8).find_map(|i| writer.put(&[i], b"").err());
     assert_eq!(refused, Some(Error::NoFreeRows));
@@ -362,15 +370,15 @@ fn rows_are_spent_and_counted() {
     assert_eq!(writer.try_migrate(Format::Two), Err(TryError::Refused(Error::NoFreeRows)));
     assert_eq!(writer.migrate(Format::One), Ok(Format::One));
     let then = reader.pin();
-    assert_eq!(writer.try_rows(), Err(TryError::Refused(Error::RowsPinned)));
-    let free = writer.try_free_rows().unwrap();
+    assert_eq!(writer.rows(), Err(TryError::Refused(Error::RowsPinned)));
+    let free = writer.free_rows().unwrap();
     drop(then);
-    assert_eq!(writer.try_rows(), Ok(8 - free));
+    assert_eq!(writer.rows(), Ok(8 - free));
 }
 
 #[test]
 fn a_pass_knows_the_version_that_it_made() {
-    let mut passes = open(32, 2).unwrap();
+    let mut passes = opened(32, 2).unwrap();
     let (mut one, mut other) = (passes.pop().unwrap(), passes.pop().unwrap());
     assert_eq!((one.made(), other.made()), (None, None));
     one.put(b"key", b"1").unwrap();
@@ -389,18 +397,18 @@ fn a_leaked_pin_ends_with_the_next() {
 
 #[test]
 fn a_pin_ends_with_its_pass() {
-    let mut passes = open(1000, 2).unwrap();
+    let mut passes = opened(1000, 2).unwrap();
     let (mut reader, mut writer) = (passes.pop().unwrap(), passes.pop().unwrap());
     std::mem::forget(reader.pin());
-    assert_eq!(writer.try_rows(), Err(TryError::Refused(Error::RowsPinned)));
+    assert_eq!(writer.rows(), Err(TryError::Refused(Error::RowsPinned)));
     drop(reader);
-    assert_eq!(writer.try_rows(), Ok(0));
+    assert_eq!(writer.rows(), Ok(0));
 }
 
 #[test]
 fn the_store_goes_with_its_last_pass() {
     for _ in 0..200 {
-        let mut passes = open(65_535, 3).unwrap();
+        let mut passes = opened(65_535, 3).unwrap();
         let mut last = passes.remove(1);
         last.put(b"key", b"value").unwrap();
         drop(passes);

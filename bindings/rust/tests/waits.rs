@@ -1,5 +1,5 @@
 //! Calls that wait: for no longer than a time, and in eight threads, each of which is served.
-use mst_store::{open, Edit, Error, Format, Pass, Reads, TryError};
+use mst_store::{open, Edit, Error, Format, Options, Pass, Reads, TryError};
 use std::sync::atomic::{AtomicBool, Ordering::SeqCst};
 use std::sync::Mutex;
 use std::thread;
@@ -10,6 +10,10 @@ const LONG: Duration = Duration::from_secs(60);
 
 /// Each test has the processors for itself.
 static ALONE: Mutex<()> = Mutex::new(());
+
+fn opened(rows: u32, passes: usize) -> Vec<Pass> {
+    open(Options { rows, passes, ..Options::default() }).unwrap()
+}
 
 /// Calls with too short a time until one is busy, and has made nothing. With more time it is made.
 fn busy_then_made<T>(
@@ -34,7 +38,7 @@ fn busy_then_made<T>(
 #[test]
 fn calls_wait_no_longer_than_they_may() {
     let _alone = ALONE.lock();
-    let mut passes = open(65_535, 2).unwrap();
+    let mut passes = opened(65_535, 2);
     let (mut mover, mut pass) = (passes.remove(0), passes.remove(0));
     let keys: Vec<_> = (0..20_000u32).map(u32::to_be_bytes).collect();
     let many: Vec<_> = keys.iter().map(|key| Edit::Put(key, b"")).collect();
@@ -63,7 +67,7 @@ fn calls_wait_no_longer_than_they_may() {
 #[test]
 fn refusals_wait_for_no_time() {
     let refused = |error| Err(TryError::Refused(error));
-    let mut full = open(4, 1).unwrap().remove(0);
+    let mut full = opened(4, 1).remove(0);
     assert_eq!(full.put_within(b"a", b"1", Duration::MAX), Ok(None));
     assert_eq!(full.put_within(b"a", b"1", LONG), Ok(Some(b"1".to_vec())));
     let mut rest = (b'b'..).map(|key| full.put_within(&[key], b"", LONG));
@@ -77,7 +81,7 @@ fn refusals_wait_for_no_time() {
 
 /// Whether of eight threads that write for two seconds the slowest makes a quarter of the mean.
 fn all_are_served() -> bool {
-    let passes = open(4096, 8).unwrap();
+    let passes = opened(4096, 8);
     let ended = AtomicBool::new(false);
     let puts: Vec<u64> = thread::scope(|scope| {
         let threads: Vec<_> = passes

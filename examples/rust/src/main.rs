@@ -7,14 +7,14 @@
 //! `libmst_store.a`, nothing has to be made first. No release is published yet, and `make` needs
 //! the kit. Without both, `MST_STORE_UNLINKED=1 cargo check` type-checks this program.
 use mst_store::Edit::{Put, Remove};
-use mst_store::{Edit, Error, Pass, Reads};
+use mst_store::{open, Edit, Error, Options, Pass, Reads};
 
 /// Rows of a store: enough for some 100 keys, one pinned version, and a batch.
 const ROWS: u32 = 1_000;
 
 /// A replica: the writer of its store, and a reader for audits.
 fn replica() -> Result<(Pass, Pass), Error> {
-    let mut passes = mst_store::open(ROWS, 2)?.into_iter();
+    let mut passes = open(Options { rows: ROWS, passes: 2, ..Options::default() })?.into_iter();
     let writer = passes.next().expect("two were asked for");
     let reader = passes.next().expect("two were asked for");
     Ok((writer, reader))

@@ -13,7 +13,7 @@ const benchKeys = 1000
 // filled opens a store of 1,000 keys of 16 bytes with values of 32.
 func filled(b *testing.B, passes int) ([]*mst.Pass, [][]byte) {
 	b.Helper()
-	opened, err := mst.Open(mst.Format1, mst.RowsMost, passes)
+	opened, err := mst.Open(mst.Options{Rows: mst.RowsMost, Passes: passes})
 	if err != nil {
 		b.Fatal(err)
 	}

@@ -30,10 +30,10 @@ func TestAWriterIsRefusedWhileAGroupHasIt(t *testing.T) {
 	batch := new(mst.Batch).Put([]byte("a"), []byte("1"))
 	first, then := groupOf(t, writer), snapshotOf(t, readers[1])
 	for name, call := range writerCalls(writer) {
-		expect(t, name, call(), mst.ErrPinned)
+		expect(t, name, call(), mst.ErrWrongState)
 	}
 	_, err := then.CopyTo(writer)
-	expect(t, "CopyTo", err, mst.ErrPinned)
+	expect(t, "CopyTo", err, mst.ErrWrongState)
 	if number, err := first.Apply(batch); number != 1 || err != nil {
 		t.Fatal(number, err)
 	}
@@ -61,7 +61,7 @@ func TestAGroupIsClosedWithItsWriter(t *testing.T) {
 	block, _, err := writer.Begin(new(mst.Batch))
 	expect(t, "Begin", err, nil)
 	_, err = writer.Group()
-	expect(t, "Group of a block", err, mst.ErrPinned)
+	expect(t, "Group of a block", err, mst.ErrWrongState)
 	block.Cancel()
 	group, batch := groupOf(t, writer), new(mst.Batch).Put([]byte("a"), []byte("1"))
 	_, err = block.Commit()
@@ -167,7 +167,7 @@ func TestTheRuntimeClosesAForgottenGroup(t *testing.T) {
 	}
 	_, err := writer.Number()
 	for deadline := time.Now().Add(time.Minute); err != nil; _, err = writer.Number() {
-		expect(t, "Number", err, mst.ErrPinned)
+		expect(t, "Number", err, mst.ErrWrongState)
 		if time.Now().After(deadline) {
 			t.Fatal("the group stays")
 		}

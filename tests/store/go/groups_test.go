@@ -225,9 +225,9 @@ func isRefused(writer int, err error) bool {
 	case 0:
 		return errors.As(err, &shard) && shard.Shard == 1 && errors.Is(err, mst.ErrNoFreeRows)
 	case 1:
-		return errors.As(err, &edit) && edit.Place == 2 && errors.Is(err, mst.ErrKey)
+		return errors.As(err, &edit) && edit.Place == 2 && errors.Is(err, mst.ErrBadKey)
 	case 2:
-		return errors.As(err, &edit) && edit.Place == 2 && errors.Is(err, mst.ErrValue)
+		return errors.As(err, &edit) && edit.Place == 2 && errors.Is(err, mst.ErrBadValue)
 	}
 	return err == nil
 }
@@ -249,7 +249,9 @@ func ask(t *testing.T, group *mst.ShardedGroup, writer int) {
 }
 
 func TestAGroupRefusesNoCallForAnother(t *testing.T) {
-	writer, readers, err := mst.OpenSharded(mst.Format2, 80, 1, [][]byte{{'b'}})
+	writer, readers, err := mst.OpenSharded(mst.ShardedOptions{
+		Rows: 80, Readers: 1, Splits: [][]byte{{'b'}}, Format: mst.Format2,
+	})
 	if err != nil {
 		t.Fatal(err)
 	}

@@ -139,7 +139,7 @@ func TestItemsThatEndWithAnError(t *testing.T) {
 	}
 	for _, bounds := range [][2][]byte{{make([]byte, 33), nil}, {nil, make([]byte, 33)}} {
 		_, err := iterator(pass.Items(bounds[0], bounds[1])).all()
-		expect(t, "long bounds", err, mst.ErrKey)
+		expect(t, "long bounds", err, mst.ErrBadKey)
 	}
 	_, err = iterator(new(mst.Pass).Items(nil, nil)).all()
 	expect(t, "no pass", err, mst.ErrClosed)
@@ -165,7 +165,7 @@ func TestItemsOfASnapshot(t *testing.T) {
 			known.checkItems(t, then.Items(bounds[0], bounds[1]), bounds[0], bounds[1])
 		}
 		_, err = iterator(then.Items(make([]byte, 33), nil)).all()
-		expect(t, "long bounds", err, mst.ErrKey)
+		expect(t, "long bounds", err, mst.ErrBadKey)
 		then.Release()
 		_, err = iterator(then.Items(nil, nil)).all()
 		expect(t, "a snapshot that has ended", err, mst.ErrClosed)

@@ -20,7 +20,7 @@ func one(t *testing.T, rows int) *mst.Pass {
 
 func open(t *testing.T, format mst.Format, rows, passes int) []*mst.Pass {
 	t.Helper()
-	opened, err := mst.Open(format, rows, passes)
+	opened, err := mst.Open(mst.Options{Rows: rows, Passes: passes, Format: format})
 	if err != nil || len(opened) != passes {
 		t.Fatalf("%d passes, %v", len(opened), err)
 	}

@@ -33,24 +33,24 @@ func TestKeysAndValues(t *testing.T) {
 	pass := one(t, 1000)
 	for _, length := range []int{0, 33, 5000, 1 << 17} {
 		key := make([]byte, length)
-		expect(t, "Get", get(pass, key), mst.ErrKey)
-		expect(t, "Put", put(pass, key, nil), mst.ErrKey)
+		expect(t, "Get", get(pass, key), mst.ErrBadKey)
+		expect(t, "Put", put(pass, key, nil), mst.ErrBadKey)
 		_, _, err := pass.Remove(key)
-		expect(t, "Remove", err, mst.ErrKey)
+		expect(t, "Remove", err, mst.ErrBadKey)
 		_, err = pass.Prove(key)
-		expect(t, "Prove", err, mst.ErrKey)
+		expect(t, "Prove", err, mst.ErrBadKey)
 	}
 	_, _, err := pass.Next(make([]byte, 33))
-	expect(t, "Next", err, mst.ErrKey)
+	expect(t, "Next", err, mst.ErrBadKey)
 	_, err = pass.Range(make([]byte, 33), nil, -1)
-	expect(t, "Range from", err, mst.ErrKey)
+	expect(t, "Range from", err, mst.ErrBadKey)
 	_, err = pass.Range(nil, make([]byte, 33), -1)
-	expect(t, "Range to", err, mst.ErrKey)
+	expect(t, "Range to", err, mst.ErrBadKey)
 	_, err = pass.PageAfter(make([]byte, 33), nil, -1)
-	expect(t, "PageAfter", err, mst.ErrKey)
+	expect(t, "PageAfter", err, mst.ErrBadKey)
 	_, err = pass.PageAfter(nil, make([]byte, 33), -1)
-	expect(t, "PageAfter to", err, mst.ErrKey)
-	expect(t, "Put", put(pass, []byte("key"), make([]byte, 65)), mst.ErrValue)
+	expect(t, "PageAfter to", err, mst.ErrBadKey)
+	expect(t, "Put", put(pass, []byte("key"), make([]byte, 65)), mst.ErrBadValue)
 	expect(t, "Put", put(pass, make([]byte, 32), make([]byte, 64)), nil)
 	expect(t, "Put", put(pass, []byte("k\x00y"), []byte("\x00v\x00")), nil)
 	if value, present, err := pass.Get([]byte("k\x00y")); string(value) != "\x00v\x00" {
@@ -64,14 +64,14 @@ func TestKeysAndValues(t *testing.T) {
 func TestEdits(t *testing.T) {
 	pass := one(t, 1000)
 	add := map[error][]func(*mst.Batch){
-		mst.ErrKey: {
+		mst.ErrBadKey: {
 			func(b *mst.Batch) { b.Put(nil, nil) },
 			func(b *mst.Batch) { b.Remove(nil) },
 			func(b *mst.Batch) { b.Put(make([]byte, 33), make([]byte, 65)) },
 			func(b *mst.Batch) { b.Remove(make([]byte, 70_000)) },
 			func(b *mst.Batch) { b.Remove(make([]byte, 1<<16)) },
 		},
-		mst.ErrValue: {
+		mst.ErrBadValue: {
 			func(b *mst.Batch) { b.Put([]byte("key"), make([]byte, 65)) },
 			func(b *mst.Batch) { b.Put([]byte("key"), make([]byte, 70_000)) },
 		},
@@ -108,15 +108,39 @@ func TestShapesAndFormats(t *testing.T) {
 	for _, it := range [][2]int{
 		{3, 1}, {65_536, 1}, {1000, 0}, {1000, 33}, {1000, -1}, {-1, 1}, {1<<32 + 4, 1}, {1000, 1 << 40},
 	} {
-		_, err := mst.Open(mst.Format1, it[0], it[1])
-		expect(t, "Open", err, mst.ErrShape)
+		_, err := mst.Open(mst.Options{Rows: it[0], Passes: it[1]})
+		expect(t, "Open", err, mst.ErrBadShape)
 	}
+	_, err := mst.Open(mst.Options{})
+	expect(t, "Open", err, mst.ErrBadShape)
 	pass := one(t, 1000)
-	for _, format := range []mst.Format{0, 3, 1 << 31} {
-		_, err := mst.Open(format, 1000, 1)
-		expect(t, "Open", err, mst.ErrFormat)
+	for _, format := range []mst.Format{3, 1 << 31} {
+		_, err := mst.Open(mst.Options{Rows: 1000, Passes: 1, Format: format})
+		expect(t, "Open", err, mst.ErrUnknownFormat)
 		_, err = pass.Migrate(format)
-		expect(t, "Migrate", err, mst.ErrFormat)
+		expect(t, "Migrate", err, mst.ErrUnknownFormat)
+	}
+	_, err = pass.Migrate(0)
+	expect(t, "Migrate", err, mst.ErrUnknownFormat)
+}
+
+func TestTheFormatOfOptions(t *testing.T) {
+	for format, wanted := range map[mst.Format]mst.Format{
+		0: mst.Format1, mst.Format1: mst.Format1, mst.Format2: mst.Format2,
+	} {
+		told, err := open(t, format, 4, 1)[0].Format()
+		if err != nil || told != wanted {
+			t.Fatal(format, told, err)
+		}
+		options := mst.ShardedOptions{Rows: 4, Readers: 1, Format: format}
+		_, readers, err := mst.OpenSharded(options)
+		if err != nil {
+			t.Fatal(err)
+		}
+		told, err = snapshotOf(t, readers[0]).Format()
+		if err != nil || told != wanted {
+			t.Fatal(format, told, err)
+		}
 	}
 }
 
@@ -124,16 +148,16 @@ func TestAPinnedPassNeitherWritesNorPins(t *testing.T) {
 	pass := one(t, 1000)
 	pinned, err := pass.Pin()
 	expect(t, "Pin", err, nil)
-	expect(t, "Put", put(pass, []byte("key"), nil), mst.ErrPinned)
+	expect(t, "Put", put(pass, []byte("key"), nil), mst.ErrWrongState)
 	_, _, err = pass.Remove([]byte("key"))
-	expect(t, "Remove", err, mst.ErrPinned)
-	expect(t, "Apply", pass.Apply(new(mst.Batch)), mst.ErrPinned)
+	expect(t, "Remove", err, mst.ErrWrongState)
+	expect(t, "Apply", pass.Apply(new(mst.Batch)), mst.ErrWrongState)
 	_, err = pass.Migrate(mst.Format2)
-	expect(t, "Migrate", err, mst.ErrPinned)
+	expect(t, "Migrate", err, mst.ErrWrongState)
 	_, err = pass.Rows()
-	expect(t, "Rows", err, mst.ErrPinned)
+	expect(t, "Rows", err, mst.ErrWrongState)
 	_, err = pass.Pin()
-	expect(t, "Pin", err, mst.ErrPinned)
+	expect(t, "Pin", err, mst.ErrWrongState)
 	pinned.Unpin()
 	expect(t, "Put", put(pass, []byte("key"), nil), nil)
 }
@@ -231,7 +255,7 @@ func TestClosed(t *testing.T) {
 
 // What nothing refers to any more is closed by the runtime.
 func TestTheRuntimeClosesWhatIsForgotten(t *testing.T) {
-	passes, err := mst.Open(mst.Format1, 65_535, 2)
+	passes, err := mst.Open(mst.Options{Rows: 65_535, Passes: 2})
 	expect(t, "Open", err, nil)
 	kept := passes[0]
 	_, err = passes[1].Pin()

@@ -36,7 +36,9 @@ func openSharded(
 	t *testing.T, format mst.Format, rows, readers int,
 ) (*mst.ShardedWriter, []*mst.ShardedReader) {
 	t.Helper()
-	writer, opened, err := mst.OpenSharded(format, rows, readers, splitsOf16())
+	writer, opened, err := mst.OpenSharded(mst.ShardedOptions{
+		Rows: rows, Readers: readers, Splits: splitsOf16(), Format: format,
+	})
 	if err != nil {
 		t.Fatal(err)
 	}
@@ -135,6 +137,9 @@ func proves(t *testing.T, then *mst.ShardedSnapshot, format mst.Format, of told)
 	if directory, err := then.Directory(); len(directory) != 16 || err != nil {
 		t.Fatal(directory, err)
 	}
+	if shards, err := then.Shards(); shards != 16 || err != nil {
+		t.Fatal(shards, err)
+	}
 	known := mstverifier.Format(format)
 	for number := 0; number < 256; number += 5 {
 		key := []byte{byte(number)}
@@ -176,7 +181,9 @@ func TestASnapshotKeepsItsBlock(t *testing.T) {
 }
 
 func TestARefusedBlockChangesNoShard(t *testing.T) {
-	writer, readers, err := mst.OpenSharded(mst.Format2, 12, 2, [][]byte{{'b'}, {'c'}, {'d'}})
+	writer, readers, err := mst.OpenSharded(mst.ShardedOptions{
+		Rows: 12, Readers: 2, Splits: [][]byte{{'b'}, {'c'}, {'d'}}, Format: mst.Format2,
+	})
 	if err != nil {
 		t.Fatal(err)
 	}
@@ -224,11 +231,13 @@ func TestACopyIsAMapThatWasFilledDirectly(t *testing.T) {
 		for made := 0; made < 30; made++ {
 			last = makes(t, writer, last, chance)
 		}
-		copied, lookers, err := mst.OpenSharded(to, 999, 1, [][]byte{{'a'}})
+		options := mst.ShardedOptions{Rows: 999, Readers: 1, Splits: [][]byte{{'a'}}, Format: to}
+		copied, lookers, err := mst.OpenSharded(options)
 		if err != nil {
 			t.Fatal(err)
 		}
-		direct, _, err := mst.OpenSharded(to, 500, 0, [][]byte{{'a'}})
+		options.Rows, options.Readers = 500, 0
+		direct, _, err := mst.OpenSharded(options)
 		if err != nil {
 			t.Fatal(err)
 		}
@@ -252,7 +261,8 @@ func TestACopyIsAMapThatWasFilledDirectly(t *testing.T) {
 // has ended.
 func refusesCopies(t *testing.T, then *mst.ShardedSnapshot, to mst.Format) {
 	t.Helper()
-	full, _, err := mst.OpenSharded(to, 8, 0, [][]byte{{'a'}})
+	options := mst.ShardedOptions{Rows: 8, Splits: [][]byte{{'a'}}, Format: to}
+	full, _, err := mst.OpenSharded(options)
 	if err != nil {
 		t.Fatal(err)
 	}
@@ -272,14 +282,15 @@ func refusesCopies(t *testing.T, then *mst.ShardedSnapshot, to mst.Format) {
 
 func TestBlocksRefuse(t *testing.T) {
 	for _, splits := range [][][]byte{{{}}, {{0}}, {{2}, {2}}, {{2}, {1}}, {make([]byte, 33)}} {
-		_, _, err := mst.OpenSharded(mst.Format1, 16, 1, splits)
-		if !errors.Is(err, mst.ErrSplits) {
+		_, _, err := mst.OpenSharded(mst.ShardedOptions{Rows: 16, Readers: 1, Splits: splits})
+		if !errors.Is(err, mst.ErrBadSplits) {
 			t.Fatal(splits, err)
 		}
 	}
 	for _, shape := range [][2]int{{3, 1}, {65536, 1}, {-1, 1}, {16, 32}, {16, -1}} {
-		_, _, err := mst.OpenSharded(mst.Format2, shape[0], shape[1], nil)
-		if !errors.Is(err, mst.ErrShape) {
+		options := mst.ShardedOptions{Rows: shape[0], Readers: shape[1], Format: mst.Format2}
+		_, _, err := mst.OpenSharded(options)
+		if !errors.Is(err, mst.ErrBadShape) {
 			t.Fatal(shape, err)
 		}
 	}
@@ -288,7 +299,7 @@ func TestBlocksRefuse(t *testing.T) {
 	batch.Put([]byte("a"), nil).Remove(nil)
 	var bad *mst.EditError
 	_, err := writer.Apply(&batch)
-	if !errors.As(err, &bad) || bad.Place != 1 || !errors.Is(err, mst.ErrKey) {
+	if !errors.As(err, &bad) || bad.Place != 1 || !errors.Is(err, mst.ErrBadKey) {
 		t.Fatal(err)
 	}
 	if number, err := writer.Number(); number != 0 || err != nil {
@@ -298,13 +309,13 @@ func TestBlocksRefuse(t *testing.T) {
 		t.Fatal(number, err)
 	}
 	then := snapshotOf(t, readers[0])
-	if _, err := readers[0].Snapshot(); !errors.Is(err, mst.ErrPinned) {
+	if _, err := readers[0].Snapshot(); !errors.Is(err, mst.ErrWrongState) {
 		t.Fatal(err)
 	}
-	if _, err := readers[0].TrySnapshot(); !errors.Is(err, mst.ErrPinned) {
+	if _, err := readers[0].TrySnapshot(); !errors.Is(err, mst.ErrWrongState) {
 		t.Fatal(err)
 	}
-	if _, err := then.Prove(nil); !errors.Is(err, mst.ErrKey) {
+	if _, err := then.Prove(nil); !errors.Is(err, mst.ErrBadKey) {
 		t.Fatal(err)
 	}
 }
@@ -370,10 +381,10 @@ func TestBlocksByThreadsAreThoseByOne(t *testing.T) {
 		}
 		block := begin(t, writer, &batch)
 		cancelled.Cancel()
-		if _, err := writer.Number(); !errors.Is(err, mst.ErrPinned) {
+		if _, err := writer.Number(); !errors.Is(err, mst.ErrWrongState) {
 			t.Fatal(err)
 		}
-		if _, _, err := writer.Begin(&batch); !errors.Is(err, mst.ErrPinned) {
+		if _, _, err := writer.Begin(&batch); !errors.Is(err, mst.ErrWrongState) {
 			t.Fatal(err)
 		}
 		if number, err := block.Commit(); number != made || err != nil {
@@ -386,7 +397,9 @@ func TestBlocksByThreadsAreThoseByOne(t *testing.T) {
 }
 
 func TestBlocksByThreadsRefuse(t *testing.T) {
-	writer, _, err := mst.OpenSharded(mst.Format2, 12, 0, [][]byte{{'b'}, {'c'}, {'d'}})
+	writer, _, err := mst.OpenSharded(mst.ShardedOptions{
+		Rows: 12, Splits: [][]byte{{'b'}, {'c'}, {'d'}}, Format: mst.Format2,
+	})
 	if err != nil {
 		t.Fatal(err)
 	}

@@ -91,7 +91,7 @@ func TestRefusalsWaitForNoTime(t *testing.T) {
 	if !errors.Is(err, mst.ErrNoFreeRows) {
 		t.Errorf("a full store: %v", err)
 	}
-	if _, _, err := pass.RemoveWithin(nil, long); !errors.Is(err, mst.ErrKey) {
+	if _, _, err := pass.RemoveWithin(nil, long); !errors.Is(err, mst.ErrBadKey) {
 		t.Errorf("no key: %v", err)
 	}
 	then, err := pass.Pin()
@@ -99,7 +99,7 @@ func TestRefusalsWaitForNoTime(t *testing.T) {
 		t.Fatal(err)
 	}
 	defer then.Unpin()
-	if _, err := pass.MigrateWithin(mst.Format2, long); !errors.Is(err, mst.ErrPinned) {
+	if _, err := pass.MigrateWithin(mst.Format2, long); !errors.Is(err, mst.ErrWrongState) {
 		t.Errorf("a pinned pass: %v", err)
 	}
 }

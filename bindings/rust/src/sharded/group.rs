@@ -13,11 +13,10 @@ use std::ptr;
 /// Once it is dropped, its writer is too: no more blocks are made, and the readers go on.
 ///
 /// ```
-/// use mst_store::sharded;
+/// use mst_store::sharded::{open, Options};
 /// use mst_store::Edit::Put;
-/// use mst_store::Format;
 ///
-/// let (writer, _) = sharded::open(Format::One, 1000, 0, &[b"m"])?;
+/// let (writer, _) = open(Options { rows: 1000, splits: &[b"m"], ..Options::default() })?;
 /// let group = writer.into_group()?;
 /// std::thread::scope(|threads| {
 ///     threads.spawn(|| group.apply(&[Put(b"apple", b"30")]).unwrap());
@@ -32,8 +31,8 @@ use std::ptr;
 /// While it is lent, as to a thread, it does not end:
 ///
 /// ```compile_fail
-/// # use mst_store::{sharded, Format};
-/// # let (writer, _) = sharded::open(Format::One, 1000, 0, &[]).unwrap();
+/// # use mst_store::sharded::{open, Options};
+/// # let (writer, _) = open(Options { rows: 1000, ..Options::default() }).unwrap();
 /// let group = writer.into_group().unwrap();
 /// let lent = &group;
 /// let writer = group.into_writer();
