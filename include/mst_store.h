@@ -296,6 +296,12 @@ int32_t mst_prove(mst_pass *pass, const uint8_t *key, size_t key_length,
 int32_t mst_version(mst_pass *pass, uint64_t *version);
 
 /*
+ * Sets *count to the number of pairs that the map has. Returns MST_OK or MST_CLOSED. It reads the
+ * tree: the head of each node, and a word of each entry that is not in the lowest layer.
+ */
+int32_t mst_len(mst_pass *pass, uint64_t *count);
+
+/*
  * Returns the format of the version, 1 or 2, in which its root digest and its proofs are. Otherwise
  * returns MST_CLOSED.
  */
@@ -658,6 +664,12 @@ int32_t mst_sharded_next(mst_handle *snapshot, const uint8_t *key, size_t key_le
 int32_t mst_sharded_range(mst_handle *snapshot, const uint8_t *from, size_t from_length,
                           const uint8_t *to, size_t to_length, uint32_t limit,
                           uint8_t *room, size_t room_length, size_t *count, size_t *length);
+
+/*
+ * Sets *count to the number of pairs that a snapshot has in all shards together. Returns MST_OK;
+ * MST_CLOSED; MST_WRONG_STATE for what is no snapshot. It reads the tree of each shard.
+ */
+int32_t mst_sharded_len(mst_handle *snapshot, uint64_t *count);
 
 /*
  * Returns the format of a snapshot, 1 or 2, in which its root digest and its proofs are. Returns

@@ -124,6 +124,7 @@ static void closed_hands(void) {
     puts_edit("", "1");
     EXPECT(made_by(&hand) == MST_CLOSED && place == 77 && shard == 77);
     EXPECT(mst_sharded_number(&hand, &number) == MST_CLOSED && number == 77);
+    EXPECT(mst_sharded_len(&hand, &number) == MST_CLOSED && number == 77);
     EXPECT(mst_sharded_shards(&hand) == MST_CLOSED);
     EXPECT(mst_sharded_try_snapshot(&hand) == MST_CLOSED);
     EXPECT(mst_sharded_snapshot(&hand) == MST_CLOSED);
@@ -142,7 +143,9 @@ static void closed_hands(void) {
 /* What only a snapshot answers. */
 static void answers_nothing(mst_handle *hand) {
     size_t told = 77;
+    uint64_t pairs_told = 77;
     EXPECT(mst_sharded_release(hand) == MST_WRONG_STATE);
+    EXPECT(mst_sharded_len(hand, &pairs_told) == MST_WRONG_STATE && pairs_told == 77);
     EXPECT(mst_sharded_next(hand, TEXT("a"), key_room, 32, &told, room, 64) == MST_WRONG_STATE);
     EXPECT(mst_sharded_next(hand, long_bytes, 33, key_room, 32, &told, room, 64) == MST_BAD_KEY);
     EXPECT(mst_sharded_range(hand, NULL, 0, NULL, 0, 9, room, 64, &told, &told)

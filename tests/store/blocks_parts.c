@@ -105,7 +105,8 @@ static int serves_nothing(mst_handle *by, int is_block) {
     mst_sharded_group *group = NULL;
     const void *held = by->at;
     int is = mst_sharded_shards(by) == MST_WRONG_STATE
-        && mst_sharded_number(by, &number) == MST_WRONG_STATE && number == 77
+        && mst_sharded_number(by, &number) == MST_WRONG_STATE
+        && mst_sharded_len(by, &number) == MST_WRONG_STATE && number == 77
         && mst_sharded_try_snapshot(by) == MST_WRONG_STATE
         && mst_sharded_snapshot(by) == MST_WRONG_STATE
         && mst_sharded_release(by) == MST_WRONG_STATE

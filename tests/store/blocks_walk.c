@@ -102,10 +102,19 @@ static void lists(mst_handle *then, const struct block *block, int first) {
            : told == MST_ABSENT && next_length == 77);
 }
 
+/* Whether a snapshot has as many pairs as its block. */
+static int has_len(mst_handle *then, const struct block *block) {
+    uint64_t told = 77, count = 0;
+    for (int key = 0; key < KEYS; key++)
+        count += block->values[key] >= 0;
+    return mst_sharded_len(then, &told) == MST_OK && told == count;
+}
+
 /* Each answer of a snapshot is that of its block, with the root digest that the writer had then. */
 static void audits(uint32_t format, mst_handle *then, const struct block *block) {
     size_t count = 0, bytes = 0;
     EXPECT(has_number(then, block->number) && mst_sharded_format(then) == (int32_t)format);
+    EXPECT(has_len(then, block));
     EXPECT(mst_sharded_root(then, root, sizeof root) == MST_ROOT_LENGTH
            && memcmp(root, block->root, sizeof root) == 0);
     for (int at = 0; at < KEYS; at += 1 + (int)random_below(32)) {

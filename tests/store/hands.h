@@ -14,7 +14,7 @@
 /* What a call was. */
 enum kind {
     PUT, REMOVE, BATCH, MIGRATION, WITHOUT_ROOM, GET, NEXT, RANGE, PAGE, PROOF, VERSION, MADE,
-    FORMAT, TAKEN_ROWS, FREE_ROWS, PIN, UNPIN, WRONG_STATE, ROOT, KINDS
+    LENGTH, FORMAT, TAKEN_ROWS, FREE_ROWS, PIN, UNPIN, WRONG_STATE, ROOT, KINDS
 };
 
 struct hand {
@@ -148,6 +148,13 @@ static enum kind ask_made(int hand) {
     return MADE;
 }
 
+static enum kind ask_len(int hand) {
+    uint64_t count = UNTOUCHED;
+    EXPECT(mst_len(&passes[hand], &count) == MST_OK);
+    EXPECT(count == list_of(hand)->count);
+    return LENGTH;
+}
+
 static enum kind ask_format(int hand) {
     EXPECT(mst_format(&passes[hand]) == (int32_t)list_of(hand)->format);
     return FORMAT;
@@ -163,6 +170,7 @@ static enum kind read_once(int hand) {
     case 9: return ask_version(hand);
     case 10: return ask_made(hand);
     case 11: return ask_format(hand);
+    case 12: return ask_len(hand);
     default: return choice < 32 ? next_once(hand) : get_once(hand);
     }
 }

@@ -11,7 +11,7 @@ static void closed_hands(mst_pass *pass) {
     EXPECT(mst_root(pass, root, sizeof root) == MST_CLOSED);
     EXPECT(mst_root(pass, NULL, 0) == MST_CLOSED);
     EXPECT(mst_prove(pass, TEXT("a"), proof, sizeof proof, &length) == MST_CLOSED);
-    EXPECT(mst_version(pass, &version) == MST_CLOSED);
+    EXPECT(mst_version(pass, &version) == MST_CLOSED && mst_len(pass, &version) == MST_CLOSED);
     EXPECT(mst_format(pass) == MST_CLOSED);
     EXPECT(mst_rows(pass, &rows) == MST_CLOSED);
     EXPECT(mst_free_rows(pass, &rows) == MST_CLOSED && mst_made(pass, &version) == MST_CLOSED);

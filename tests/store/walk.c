@@ -26,7 +26,7 @@ static const char *const names[KINDS] = {
     [PUT] = "puts", [REMOVE] = "removes", [BATCH] = "batches", [MIGRATION] = "migrations",
     [WITHOUT_ROOM] = "writes without room", [GET] = "gets", [NEXT] = "nexts", [RANGE] = "ranges",
     [PAGE] = "pages", [PROOF] = "proofs", [VERSION] = "versions", [MADE] = "versions made",
-    [FORMAT] = "formats", [TAKEN_ROWS] = "rows", [FREE_ROWS] = "free rows", [PIN] = "pins",
+    [LENGTH] = "lengths", [FORMAT] = "formats", [TAKEN_ROWS] = "rows", [FREE_ROWS] = "free rows", [PIN] = "pins",
     [UNPIN] = "unpins", [WRONG_STATE] = "calls in a wrong state", [ROOT] = "roots",
 };
 

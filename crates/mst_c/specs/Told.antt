@@ -136,6 +136,12 @@ VersionTold None number code number' hand = (code ≡ closed) × (number' ≡ nu
 VersionTold (Some s) number code number' hand =
     (t : State) × (hand ≡ Some t) × Versions s number' t × (code ≡ pos 0)
 
+-- -7 for an empty hand, otherwise the number of the version's pairs is written
+abbrev pub LenTold : Option State → ℕ → ℤ → ℕ → Option State → Type 0
+LenTold None count code count' hand = (code ≡ closed) × (count' ≡ count) × (hand ≡ None)
+LenTold (Some s) count code count' hand =
+    (t : State) × (hand ≡ Some t) × Reads (λ _ m. length m) s count' t × (code ≡ pos 0)
+
 abbrev pub count_code : Result (Option ℕ) Uncounted → ℤ
 count_code (Ok (Some n)) = pos 0
 count_code (Ok None) = rows_pinned

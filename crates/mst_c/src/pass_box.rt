@@ -321,6 +321,27 @@ impl PassBox {
         }
     }
 
+    /// How many pairs the version has.
+    pub(crate) fn len(&mut self) -> u64
+        ensures reads { Reads (λ _ m. length m) self.old result self.new }
+    {
+        match replace(&mut self.state, State::Away) {
+            State::Away => unreachable!(),
+            State::Free(laid) => {
+                let mut pass = self.store.lift(laid);
+                let len = pass.len();
+                put_back(&mut self.state, State::Free(pass.lay()));
+                len
+            }
+            State::Pinned(laid) => {
+                let mut pinned = self.store.lift_pinned(laid);
+                let len = pinned.len();
+                put_back(&mut self.state, State::Pinned(pinned.lay()));
+                len
+            }
+        }
+    }
+
     /// How many rows the map takes, if the pass is free; none if a pin was found.
     pub(crate) fn rows(&mut self) -> Result<Option<u32>, Uncounted>
         ensures counts { Counts self.old result self.new }

@@ -1,6 +1,6 @@
 //! The calls as C is told of them.
 ghost use Rattle.std.specs.Prelude.{◌≡◌, ◌≤◌, ◌++◌, length, drop, Some, None, ◌↔◌, IsOk, IfOk};
-ghost use Rattle.mst_c.specs.Told.{value_code, room_after, unwritten_code as code_of_unwritten, done_code as code_of_done, bytes_code, GetTold, PutTold, RootTold, ProveTold, PinTold, UnpinTold, CloseTold, RemoveTold, VersionTold, RowsTold, count_code, count_after, NextTold, IsBound, bound_of, pair_code, key_room_after, value_room_after, key_size_after};
+ghost use Rattle.mst_c.specs.Told.{value_code, room_after, unwritten_code as code_of_unwritten, done_code as code_of_done, bytes_code, GetTold, PutTold, RootTold, ProveTold, PinTold, UnpinTold, CloseTold, RemoveTold, VersionTold, LenTold, RowsTold, count_code, count_after, NextTold, IsBound, bound_of, pair_code, key_room_after, value_room_after, key_size_after};
 
 use crate::codes::{
     ABSENT, BAD_KEY, BAD_VALUE, BUSY, CLOSED, MEMORY, NO_FREE_ROWS, ROWS_PINNED, SHORT_ROOM,
@@ -229,6 +229,18 @@ pub fn version(alloc: Global, hand: &mut Hand, number: &mut u64) -> i32
         return CLOSED;
     };
     *number = taken.held.version();
+    give(hand, taken);
+    0
+}
+
+/// As `mst_len` of `mst_exports` says.
+pub fn len(alloc: Global, hand: &mut Hand, count: &mut u64) -> i32
+    ensures told { LenTold hand.old.held count.old result count.new hand.new.held }
+{
+    let Some(mut taken) = take(alloc, hand) else {
+        return CLOSED;
+    };
+    *count = taken.held.len();
     give(hand, taken);
     0
 }

@@ -13,7 +13,7 @@ use Rattle.mst_c_blocks.specs.declared.role_box.Role.{Role}
 use Rattle.mst_c_blocks.specs.declared.asking.Unread.{Unread}
 use Rattle.mst_c_blocks.specs.declared.asking.Unread.TheVariants.{NoSnapshot, Memory}
 use Rattle.mst_c_blocks.specs.Holding.{Reads, Lists}
-use Rattle.mst_c_blocks.specs.Told.{Nothing}
+use Rattle.mst_c_blocks.specs.Told.{Nothing, number_code, number_after}
 
 -- the answer to a question for the map of all shards
 abbrev pub OfMap : {R : Type 0} → (List Pair → R) → Whole → R → Type 0
@@ -81,6 +81,15 @@ RangeTold (Some r) from to limit room count size code room' count' size' hand =
     × (room' ≡ room_after room (option_map pairs_bytes (pairs_of a)))
     × (count' ≡ count_of count (pairs_of a))
     × (size' ≡ size_after size (option_map pairs_bytes (pairs_of a))))
+
+-- ---- how many pairs
+
+-- -7 for an empty hand, otherwise the number of the snapshot's pairs is written, if this is one
+abbrev pub LenTold : Option Role → ℕ → ℤ → ℕ → Option Role → Type 0
+LenTold None count code count' hand = (code ≡ closed) × (count' ≡ count) × (hand ≡ None)
+LenTold (Some r) count code count' hand = (a : Option ℕ) × (t : Role) × (hand ≡ Some t)
+    × Reads (OfMap (λ m. length m)) r a t × (code ≡ number_code a)
+    × (count' ≡ number_after count a)
 
 -- ---- formats
 

@@ -1,10 +1,11 @@
 //! What only a snapshot reads, as C is told of it.
 ghost use Rattle.std.specs.Prelude.{◌≡◌, ◌<◌, Some, length};
 ghost use Rattle.mst_c.specs.Told.{key_room_after, value_room_after, key_size_after};
-ghost use Rattle.mst_c_blocks.specs.Reading.{unread_code as code_of_unread, next_code, next_of, one_format_code, NextTold, RangeTold, FormatTold};
+ghost use Rattle.mst_c_blocks.specs.Reading.{unread_code as code_of_unread, next_code, next_of, one_format_code, NextTold, RangeTold, LenTold, FormatTold};
 
 use crate::asking::Unread;
 use crate::hand::{BlocksHand, give, take};
+use crate::telling::tell_number;
 use mst_c::codes::{BAD_KEY, CLOSED, MEMORY, WRONG_STATE};
 use mst_c::formats::number_of;
 use mst_c::ranging::tell_pairs;
@@ -98,6 +99,18 @@ pub fn range(
         Ok(pairs) => tell_pairs(pairs.as_slice(), room, count, size),
         Err(fault) => unread_code(fault),
     }
+}
+
+/// As `mst_sharded_len` of `mst_exports` says.
+pub fn len(alloc: Global, hand: &mut BlocksHand, count: &mut u64) -> i32
+    ensures told { LenTold hand.old.held count.old result count.new hand.new.held }
+{
+    let Some(mut taken) = take(alloc, hand) else {
+        return CLOSED;
+    };
+    let found = taken.held.len();
+    give(hand, taken);
+    tell_number(found, count)
 }
 
 /// The code of a snapshot's format.

@@ -258,6 +258,16 @@ impl RoleBox {
         }
     }
 
+    /// How many pairs all shards have together, of a snapshot.
+    pub(crate) fn len(&mut self) -> Option<u64>
+        ensures reads { Reads (OfMap (λ m. length m)) self.old result self.new }
+    {
+        match &mut self.role {
+            Role::Snapshot(snapshot) => Some(snapshot.len()),
+            _ => None,
+        }
+    }
+
     /// The format of all shards, of a snapshot.
     pub(crate) fn format(&mut self) -> Option<Format>
         ensures reads { Reads HasFormat self.old result self.new }

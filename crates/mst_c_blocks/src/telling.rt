@@ -33,8 +33,9 @@ pub fn shards(alloc: Global, hand: &mut BlocksHand) -> i32
     count_code(count)
 }
 
-/// The code of a block's number. The number is written then, if there is one.
-fn tell_number(found: Option<u64>, number: &mut u64) -> i32
+/// The code of a block's number, or of how many pairs it has. The number is written then, if there
+/// is one.
+pub(crate) fn tell_number(found: Option<u64>, number: &mut u64) -> i32
     ensures code { result ≡ number_code found }
     ensures number { number.new ≡ number_after number.old found }
 {

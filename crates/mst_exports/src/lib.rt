@@ -11,7 +11,7 @@ ghost use Rattle.mst_c.specs.Formats.{format_named, FormatTold, MigrateTold};
 ghost use Rattle.mst_c.specs.Knowing.{FreeRowsTold, MadeTold};
 ghost use Rattle.mst_c.specs.Opened.{Opened, IsSize, AllEmpty};
 ghost use Rattle.mst_c.specs.Ranges.{RangeTold};
-ghost use Rattle.mst_c.specs.Told.{GetTold, PutTold, RootTold, ProveTold, PinTold, UnpinTold, CloseTold, RemoveTold, VersionTold, RowsTold, NextTold};
+ghost use Rattle.mst_c.specs.Told.{GetTold, PutTold, RootTold, ProveTold, PinTold, UnpinTold, CloseTold, RemoveTold, VersionTold, LenTold, RowsTold, NextTold};
 
 mod sharded_calls;
 
@@ -128,6 +128,14 @@ pub extern "C" fn mst_version(alloc: Global, hand: &mut Hand, number: &mut u64) 
     ensures told { VersionTold hand.old.held number.old result number.new hand.new.held }
 {
     telling::version(alloc, hand, number)
+}
+
+/// Sets `count` to the number of the version's pairs. Returns 0; or -7, and then the count stays.
+#[unsafe(no_mangle)]
+pub extern "C" fn mst_len(alloc: Global, hand: &mut Hand, count: &mut u64) -> i32
+    ensures told { LenTold hand.old.held count.old result count.new hand.new.held }
+{
+    telling::len(alloc, hand, count)
 }
 
 /// Returns the number of the version's format, 1 or 2; or -7.

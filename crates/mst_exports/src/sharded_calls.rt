@@ -8,7 +8,7 @@ ghost use Rattle.mst_c_blocks.specs.Making.{ApplyTold};
 ghost use Rattle.mst_c_blocks.specs.Opened.{BlocksOpened, NoneHeld};
 ghost use Rattle.mst_c_blocks.specs.Parts.{BeginTold, PrepareTold, CommitTold, CancelTold};
 ghost use Rattle.mst_c_blocks.specs.Proving.{ProveTold, DirectoryTold};
-ghost use Rattle.mst_c_blocks.specs.Reading.{NextTold, RangeTold, FormatTold};
+ghost use Rattle.mst_c_blocks.specs.Reading.{NextTold, RangeTold, LenTold, FormatTold};
 ghost use Rattle.mst_c_blocks.specs.Splits.{PacksSplits};
 ghost use Rattle.mst_c_blocks.specs.Told.{GetTold, ShardsTold, NumberTold, RootTold, TryTold, ReleaseTold, CloseTold};
 
@@ -225,6 +225,15 @@ pub extern "C" fn mst_sharded_range(
         result room.new count.new length.new hand.new.held }
 {
     reading::range(alloc, hand, from, to, limit, room, count, length)
+}
+
+/// Sets `count` to the number of the pairs of a snapshot's block, of all shards together. Returns
+/// 0; or -7, -8 for what is no snapshot, and then the count stays.
+#[unsafe(no_mangle)]
+pub extern "C" fn mst_sharded_len(alloc: Global, hand: &mut BlocksHand, count: &mut u64) -> i32
+    ensures told { LenTold hand.old.held count.old result count.new hand.new.held }
+{
+    reading::len(alloc, hand, count)
 }
 
 /// Returns the number of the format of a snapshot's block, 1 or 2; -7; -8 for what is no

@@ -7,6 +7,7 @@ pub mod Look
 pub mod Successor
 pub mod Fillings
 pub mod Gathering
+pub mod Lengths
 pub mod Parts
 pub mod NodeTexts
 pub mod Trails

@@ -2,8 +2,8 @@
 //!
 //! Each call is exact by the sorted list of the map's pairs, and walks the rows of the tree without
 //! making that list: [`get`], [`next`] and [`prove`] go down one path, [`range`] visits only the
-//! nodes that its answer meets. Only [`root`] needs more of a root than its link: each other call
-//! has a twin that takes only the link.
+//! nodes that its answer meets, [`len`] visits each. Only [`root`] needs more of a root than its
+//! link: each other call has a twin that takes only the link.
 //!
 //! ```
 //! get(&mut rows, &root, &apple)                              // Some(30)
@@ -19,6 +19,7 @@
 #![tactic(auto)]
 
 mod buffer;
+mod counting;
 mod descent;
 mod following;
 mod laws;
@@ -27,6 +28,7 @@ mod proving;
 mod ranges;
 mod roots;
 
+pub use counting::{len, len_below};
 pub use descent::head_at;
 pub use following::{next, next_below};
 pub use laws::each_map_may_be_read;

@@ -2,6 +2,7 @@ pub mod Clean
 pub mod Counted
 pub mod Kept
 pub mod Later
+pub mod Lengths
 pub mod Matching
 pub mod Numbered
 pub mod Routed

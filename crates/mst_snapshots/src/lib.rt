@@ -24,6 +24,7 @@
 
 mod bounds;
 mod comparing;
+mod counting;
 mod directory_pin;
 mod laws;
 mod pinning;

@@ -7,6 +7,7 @@ ghost use Rattle.mst_shards.specs.BlockHistory.{IsNumber, IsOneBlock};
 ghost use Rattle.mst_shards.specs.Directory.{AllIn, OfClean};
 ghost use Rattle.mst_shards.specs.Sharding.{map_of};
 
+use crate::counting::len_among;
 use crate::directory_pin::DirectoryPin;
 use crate::pinning::unpin_directory;
 use crate::ranging::{get_at, next_among, range_among};
@@ -84,6 +85,14 @@ impl<A: Allocator + Copy> Snapshot<A> {
         ensures same { self.new ≡ self.old }
     {
         self.directory.format(self.map.directory())
+    }
+
+    /// Returns how many pairs the map of all shards has. It takes no memory.
+    pub fn len(&mut self) -> u64
+        ensures found { result ≡ length (map_of self.old.sharding) }
+        ensures same { self.new ≡ self.old }
+    {
+        len_among(self.map.stores(), &mut self.pins)
     }
 
     /// Returns the value of the key in the map of all shards, or `None` if the key has no value. It

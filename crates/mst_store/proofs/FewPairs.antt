@@ -1,5 +1,5 @@
 -- A map that stands on rows of a store has at most as many pairs as the store has rows.
-use Rattle.std.proofs.Common.{◌≡◌, ◌≢◌, ℕ, ◌<◌, ◌≤◌, ◌||◌, Bool, true, false, eqb, if◌then◌else◌, List, [], ◌∷◌, ◌++◌, length, Option, Some, None, refl, ap, subst, arith}
+use Rattle.std.proofs.Common.{◌≡◌, ◌≢◌, ℕ, ◌^◌, ◌<◌, ◌≤◌, ◌||◌, Bool, true, false, eqb, if◌then◌else◌, List, [], ◌∷◌, ◌++◌, length, Option, Some, None, refl, ap, subst, arith}
 use Rattle.std.specs.List.{list_any, AllByRecursion, IsDistinct}
 use Rattle.std.proofs.lemmas.Bool.Decides.{nat_tests}
 use Rattle.std.proofs.lemmas.Map.Steps.{length-le_from_distinct_below}
@@ -18,15 +18,17 @@ use Rattle.mst_arena.specs.Standing.{Placed, none, head, Chain, end, cell, link_
 use Rattle.mst_arena.proofs.Stands.{all-append, all-front, all-back}
 use Rattle.mst_path.proofs.lemmas.versions.Versions.{rows_of_map}
 use Rattle.mst_words.specs.declared.view.View.{View}
-use Rattle.mst_words.specs.Access.{may_read, content_of}
+use Rattle.mst_words.specs.Access.{Seated, may_read, content_of}
 use Rattle.mst_words.specs.Records.{known_row}
 use Rattle.mst_words.specs.Stored.{rows_in}
 use Rattle.mst_words.proofs.Accesses.{inside}
+use Rattle.mst_versions.specs.declared.parameters.PassParameters.{PassParameters}
 use Rattle.mst_versions.specs.declared.reading.PinnedVersion.{PinnedVersion}
 use Rattle.mst_batching.specs.declared.preparing.Preparation.{Preparation}
 use Rattle.mst_versions.specs.Pinned.{PinsVersion}
 use Rattle.mst_batching.specs.Preparing.{batch_of, IsPrepared}
 use Rattle.mst_versions.specs.Turns.{SeatState}
+use Rattle.mst_store.specs.Passes.{IsPinning}
 
 -- ---- numbers below n, of which none stands twice
 
@@ -102,6 +104,21 @@ few_pinned m m' at p few =
     (after m'.0.pinned_history) p.has.stands in
     let same : m'.0.rows ≡ m.0.rows = ap (λ (z : Me Slot View). z.0.rows) p.rest in
     omega (arith, pairs, same, few)
+
+-- as many as one word counts
+pub counted_pinned : (m m' : Me Slot View) (at : PinnedVersion) → PinsVersion m at m'
+    → m.0.rows ≤ 65535 → length (after m'.0.pinned_history) < 2 ^ 64
+counted_pinned m m' at p few = let pairs = few_pinned m m' at p few in omega (arith, pairs)
+
+-- also where the pin was made before
+pub counted_at_pin : (n : PassParameters) (at : PinnedVersion) (s : Seated) → IsPinning n at s
+    → length (after s.me.0.pinned_history) < 2 ^ 64
+counted_at_pin n at s p =
+    let pairs = few_pairs _ (content_of s.me.0) s.me.0.rows (readable s.me.0) _
+    (after s.me.0.pinned_history) p.pinned.stands in
+    let rows : s.me.0.rows ≡ n.rows = p.rows_is in
+    let few : n.rows ≤ 65535 = p.few_rows in
+    omega (arith, pairs, rows, few)
 
 -- ---- what a pass prepares
 

@@ -113,6 +113,19 @@ impl<'a, A: Allocator + Copy> Pass<'a, A> {
         }
     }
 
+    /// Returns how many pairs the map has. It takes no memory.
+    ///
+    /// It reads the head of each node, and the links of the entries above the lowest layer.
+    pub fn len(&mut self) -> u64
+        ensures answers { Answers (λ _ m. length m) self.old result self.new }
+        ensures once { self.new.asked ≡ self.old.asked + 1 }
+    {
+        let at = reading::pin(&mut self.seat, self.parameters);
+        let len = reading::len(&mut self.seat, &at);
+        self.seat.unpin(self.parameters.number, at.pinned);
+        len
+    }
+
     /// Returns the format of the current version: that of the last migration, or the one that the
     /// store was opened with if there was no migration. It takes no memory.
     pub fn format(&mut self) -> Format

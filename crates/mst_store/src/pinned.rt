@@ -126,6 +126,14 @@ impl<'a, A: Allocator + Copy> Pinned<'a, A> {
         reading::range(&mut self.seat, alloc, &self.at, from, to, limit)
     }
 
+    /// Returns how many pairs the pinned version has. It takes no memory.
+    pub fn len(&mut self) -> u64
+        ensures found { result ≡ length (after_events self.old.seen) }
+        ensures same { self.new ≡ self.old }
+    {
+        reading::len(&mut self.seat, &self.at)
+    }
+
     /// Returns the format of the pinned version, whatever migrations were made since the pin. It
     /// takes no memory.
     pub fn format(&mut self) -> Format

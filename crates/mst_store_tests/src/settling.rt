@@ -20,13 +20,16 @@ fn adds(pass: &mut Pass<Global>, key: &[u8], value: &[u8]) -> bool
     }
 }
 
-// Whether two passes that each put a key, and then meet, get what both put.
+// Whether two passes that each put a key, and then meet, get what both put, and count it.
 fn both_get_both<'a>(one: &mut Pass<'a, Global>, other: &mut Pass<'a, Global>) -> bool
     requires of_one { one.old.store ≡ other.old.store }
 {
     let put = adds(one, b"a", b"x") && adds(other, b"b", b"x");
     meet(one, other);
-    put && gets(one, b"b", Some(b"x")) && gets(other, b"a", Some(b"x"))
+    put && gets(one, b"b", Some(b"x"))
+        && gets(other, b"a", Some(b"x"))
+        && one.len() == 2
+        && other.len() == 2
 }
 
 #[test]

@@ -1,5 +1,5 @@
 -- What each call leaves of its pass follows from what its contract says.
-use Rattle.std.proofs.Common.{◌≡◌, ◌⊎◌, ℕ, ◌+◌, List, [], ◌∷◌, ◌++◌, refl, sym, ap, ◌∙◌, subst, ⊎_elim, arith}
+use Rattle.std.proofs.Common.{◌≡◌, ◌⊎◌, ℕ, ◌+◌, List, [], ◌∷◌, ◌++◌, length, refl, sym, ap, ◌∙◌, subst, ⊎_elim, arith}
 use Rattle.mst_key.specs.declared.format.Format.{Format}
 use Rattle.mst_key.specs.declared.history.Change.{Change}
 use Rattle.mst_key.specs.declared.history.Change.TheVariants.{Put, Remove, Migrate, Batch}
@@ -24,7 +24,7 @@ use Rattle.mst_store.specs.declared.faults.ChangeFault.{ChangeFault}
 use Rattle.mst_store.specs.declared.faults.BatchFault.{BatchFault}
 use Rattle.mst_store.specs.Passes.{Known, having_asked, having_missed, made_by, format_seen, Looks, FindsBusy, Answers, Wrote, Refuses}
 use Rattle.mst_store.specs.Waiting.{WroteAfter, RefusesAfter, RefusesBatchAfter, as_tried, as_tried_batch}
-use Rattle.mst_theorem.specs.Headline.{Reading, Operation, got, came_next, ranged, told_format, told_root, proved, told_version, has_seen, counted, refused, silent, wrote, read, left_by, IsTold, Stays, Adds, IsHonest}
+use Rattle.mst_theorem.specs.Headline.{Reading, Operation, got, came_next, ranged, told_format, told_root, proved, told_len, told_version, has_seen, counted, refused, silent, wrote, read, left_by, IsTold, Stays, Adds, IsHonest}
 use Rattle.mst_theorem.specs.ByContract.{Reads, IsRefused, IsRefusedMore, Hears, IsSilent, Says, IsPublished, ByContract}
 
 looks_stays : (p q : Known) → Looks p q → Stays p q
@@ -170,6 +170,7 @@ says (ranged from to limit found) p q h = reads (λ _ m. map_range m from to lim
 says (told_format found) p q h = reads (λ f _. f) p found q h
 says (told_root digest) p q h = reads text.root p digest q h
 says (proved k proof) p q h = reads (λ f m. proof_text f m k) p proof q h
+says (told_len number) p q h = reads (λ _ m. length m) p number q h
 says (told_version number) p q h =
     (⊎_elim (λ (x : Looks p q). looks_stays p q x) (λ (x : q ≡ p). same_stays p q x) h.0, h.1)
 says (has_seen number answer) p q h = (looks_stays p q h.0, h.1)

@@ -3,8 +3,8 @@
 --
 -- Writes are `try_put`, `put`, `try_remove`, `remove`, `try_apply`, `apply`, `try_migrate` and, of
 -- a prepared batch, `publish` and `reveal`; one that returns an error is `refused`, and so is a
--- `prepare` that does. Reads are `get`, `next`, `range`, `format`, `root`, `prove`, of a pass and
--- of a pinned one, `version`, `has_seen`, `rows` and, of a prepared batch, `found`.
+-- `prepare` that does. Reads are `get`, `next`, `range`, `len`, `format`, `root`, `prove`, of a
+-- pass and of a pinned one, `version`, `has_seen`, `rows` and, of a prepared batch, `found`.
 --
 -- All others are `silent`, and their answers are not judged by the map: `number` and `made` tell of
 -- the pass; `free_rows`, and a `rows` that found a version pinned, of what readers hold (where none
@@ -32,7 +32,7 @@ use Rattle.mst_store.specs.Passes.{Known, format_seen, having_asked, made_by, Lo
 use Rattle.mst_store.specs.Preparing.{published}
 use Rattle.mst_store.specs.Settling.{having_seen}
 use Rattle.mst_store.specs.Waiting.{WroteAfter, RefusesAfter, RefusesBatchAfter}
-use Rattle.mst_theorem.specs.Headline.{Operation, Reading, wrote, read, got, came_next, ranged, told_format, told_root, proved, told_version, has_seen, counted, refused, silent}
+use Rattle.mst_theorem.specs.Headline.{Operation, Reading, wrote, read, got, came_next, ranged, told_format, told_root, proved, told_len, told_version, has_seen, counted, refused, silent}
 
 -- a read of a pass, or of a pinned one, which sees nothing new
 abbrev pub Reads : {R : Type 0} → (Format → List Pair → R) → Known → R → Known → Type 0
@@ -72,6 +72,7 @@ Says (ranged from to limit found) p q = Reads (λ _ m. map_range m from to limit
 Says (told_format found) p q = Reads (λ f _. f) p found q
 Says (told_root digest) p q = Reads text.root p digest q
 Says (proved k proof) p q = Reads (λ f m. proof_text f m k) p proof q
+Says (told_len number) p q = Reads (λ _ m. length m) p number q
 Says (told_version number) p q = (Looks p q ⊎ (q ≡ p)) × (number ≡ length q.seen)
 Says (has_seen number answer) p q = Looks p q × ((answer ≡ true) ↔ (number ≤ length q.seen))
 Says (counted rows) p q = Looks p q × ((rows ≡ rows_of (format_seen q) (after q.seen))

@@ -44,6 +44,7 @@ pub data Reading : Type 0 where
   told_format : (found : Format) → Reading
   told_root : (digest : List ℕ) → Reading
   proved : (key proof : List ℕ) → Reading
+  told_len : (number : ℕ) → Reading
   told_version : (number : ℕ) → Reading
   has_seen : (number : ℕ) (answer : Bool) → Reading
   counted : (rows : ℕ) → Reading
@@ -63,6 +64,7 @@ IsTold s (ranged from to limit found) = found ≡ map_range s.pairs from to limi
 IsTold s (told_format found) = found ≡ s.format
 IsTold s (told_root digest) = digest ≡ text.root s.format s.pairs
 IsTold s (proved k proof) = proof ≡ proof_text s.format s.pairs k
+IsTold s (told_len number) = number ≡ length s.pairs
 IsTold s (told_version number) = number ≡ s.changes
 IsTold s (has_seen number answer) = (answer ≡ true) ↔ (number ≤ s.changes)
 IsTold s (counted rows) = rows ≡ rows_of s.format s.pairs

@@ -74,6 +74,17 @@ pub fn next<A: Allocator + Copy>(
     mst_read::next_below(seat, at.link, bound)
 }
 
+/// How many pairs the pinned version has. Of each node it reads the head, and of those above the
+/// lowest layer the links of the entries.
+pub fn len<A: Allocator + Copy>(seat: &mut PassSeat<'_, A>, at: &PinnedVersion) -> u64
+    requires pinned { HasPinned at.now seat.old.me.0 }
+    requires few { length (after seat.old.me.0.pinned_history) < 2 ^ 64 }
+    ensures found { result ≡ length (after seat.old.me.0.pinned_history) }
+    ensures same { seat.new ≡ seat.old }
+{
+    mst_read::len_below(seat, at.link)
+}
+
 /// The format of the pinned version: one load.
 pub fn format<A: Allocator + Copy>(seat: &mut PassSeat<'_, A>, at: &PinnedVersion) -> Format
     requires pinned { HasPinned at.now seat.old.me.0 }

@@ -1,5 +1,5 @@
 //! What the calls read from the rows: a range no more than its limit needs, a look-up and a next
-//! pair one path.
+//! pair one path, a count of the pairs the heads of all nodes and the entries above layer 0.
 //!
 //! The rows are of 300 pairs in three layers, with the numbers in three bytes as keys. The counts
 //! were worked out separately, from the layers of these keys (Python's hashlib): the head of each
@@ -127,5 +127,38 @@ fn no_call_reads_more_rows_than_it_needs(rt: HostRuntime) {
     let mut map = map_of_300(&rt, rt.alloc());
     for (place, case) in READS.iter().enumerate() {
         confirm_at(&rt, holds(&rt, rt.alloc(), &mut map, *case), place);
+    }
+}
+
+/// How many pairs are counted in a map of the first numbers in a format, and how many heads and
+/// entries are read for it: all nodes, and the entries above the lowest layer
+/// (`vectors/nodes.py`).
+type Count = (Format, u32, u32, u32);
+
+const COUNTS: &[Count] = &[
+    (Format::One, 0, 0, 0),
+    (Format::One, 1, 1, 0),
+    (Format::One, 17, 1, 0),
+    (Format::One, 300, 22, 19),
+    (Format::One, 3_000, 185, 175),
+    (Format::Two, 0, 0, 0),
+    (Format::Two, 1, 1, 0),
+    (Format::Two, 17, 4, 3),
+    (Format::Two, 300, 83, 76),
+    (Format::Two, 3_000, 732, 707),
+];
+
+/// Whether each pair is counted, and no more is read for it.
+fn counts_all(rt: &impl Abort, alloc: Global, (format, count, heads, entries): Count) -> bool {
+    let pairs = numbered(rt, alloc, count);
+    let mut map = StandingMap::new(rt, alloc, format, pairs.as_slice());
+    map.forget_reads();
+    map.len() == u64::from(count) && is_within(map.reads(), heads, entries, 0)
+}
+
+#[test]
+fn each_pair_is_counted_by_the_heads_of_nodes(rt: HostRuntime) {
+    for (place, case) in COUNTS.iter().enumerate() {
+        confirm_at(&rt, counts_all(&rt, rt.alloc(), *case), place);
     }
 }

@@ -107,6 +107,11 @@ impl StandingMap {
         mst_read::range(alloc, &mut self.rows, &self.root, from, to, limit)
     }
 
+    /// How many pairs there are.
+    pub fn len(&mut self) -> u64 {
+        mst_read::len(&mut self.rows, &self.root)
+    }
+
     /// The root digest.
     pub fn root(&mut self) -> [u8; 32] {
         mst_read::root(&mut self.rows, &self.root)

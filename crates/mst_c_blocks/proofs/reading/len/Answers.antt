@@ -1,0 +1,5 @@
+use Rattle.std.proofs.Common.{rules}
+use Rattle.mst_c_blocks.proofs.reading.len.Goals as goal
+
+pub returns : goal.returns
+returns c = search rules
