@@ -16,7 +16,8 @@ pub(crate) const MOST_ITEMS: usize = 65_535;
 /// No call promises that what was put for a row is found there: who asks looks at the item.
 #[derive(Drop)]
 pub(crate) struct Places<T, A: Allocator> {
-    /// For each row the place of its item and one, or 0 for no item.
+    /// For each row the place of its item and one, or 0 for no item. Rows behind its end have none:
+    /// it grows within its room, so that the memory of a list that is not used is not touched.
     numbers: Vec<u16, A>,
     pub(crate) items: Vec<T, A>,
     /// The place of the item that goes first when there is no room.
@@ -31,10 +32,7 @@ impl<T: Drop, A: Allocator + Copy> Places<T, A> {
         ensures room { IfOk result (λ p. vec_capacity p.items ≡ most) }
         ensures rows_room { IfOk result (λ p. vec_capacity p.numbers ≡ rows) }
     {
-        let mut numbers = Vec::with_capacity(alloc, rows as usize)?;
-        for _ in 0..rows {
-            numbers.push_reserved(0);
-        }
+        let numbers = Vec::with_capacity(alloc, rows as usize)?;
         let items = Vec::with_capacity(alloc, most as usize)?;
         Ok(Places {
             numbers,
@@ -74,6 +72,32 @@ impl<T: Drop, A: Allocator> Places<T, A> {
         let rows = self.numbers.len();
         if one < rows && other < rows {
             self.numbers.swap(one, other);
+        } else if one < rows || other < rows {
+            self.swap_behind(one, other);
+        }
+    }
+
+    /// Swaps as [`Places::swap`] does, where one of the rows lies behind the end of the numbers.
+    #[inline(never)]
+    fn swap_behind(&mut self, one: usize, other: usize)
+        ensures same { self.new.items ≡ self.old.items }
+        ensures rows_room { vec_capacity self.new.numbers ≡ vec_capacity self.old.numbers }
+    {
+        let last = one.max(other);
+        self.reach(last);
+        if last < self.numbers.len() {
+            self.numbers.swap(one, other);
+        }
+    }
+
+    /// Has the numbers reach this row, if there is room for it.
+    fn reach(&mut self, row: usize)
+        ensures same { self.new.items ≡ self.old.items }
+        ensures rows_room { vec_capacity self.new.numbers ≡ vec_capacity self.old.numbers }
+    {
+        let end = self.numbers.capacity().min(row.saturating_add(1));
+        for _ in self.numbers.len()..end {
+            self.numbers.push_reserved(0);
         }
     }
 
@@ -118,6 +142,7 @@ impl<T: Drop, A: Allocator> Places<T, A> {
         ensures room { vec_capacity self.new.items ≡ vec_capacity self.old.items }
         ensures rows_room { vec_capacity self.new.numbers ≡ vec_capacity self.old.numbers }
     {
+        self.reach(row);
         if row >= self.numbers.len() {
             return None;
         }
