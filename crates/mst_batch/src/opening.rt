@@ -1,11 +1,12 @@
 //! The items of the tree after a batch: the nodes that an edit touches are opened.
-ghost use Rattle.std.specs.Prelude.{◌≡◌, ◌++◌, ◌≤◌, length, take, drop, [], ◌∷◌, OnOk};
+ghost use Rattle.std.specs.Prelude.{◌≡◌, true, ◌++◌, ◌≤◌, length, take, drop, [], ◌∷◌, OnOk};
 ghost use Rattle.std.specs.List.{AllByRecursion, slice_range};
 ghost use Rattle.mst_key.specs.declared.format.Format.{Format};
 ghost use Rattle.mst_key.specs.Edits.{AreAbove, AreRising};
 ghost use Rattle.mst_key.specs.History.{batched, key_of};
 ghost use Rattle.mst_key.specs.Layer.{layer_in};
-ghost use Rattle.mst_key.specs.Map.{Pair};
+ghost use Rattle.mst_key.specs.Map.{Pair, key_cmp};
+ghost use Rattle.std.specs.declared.cmp.Ordering.TheVariants.{Less};
 ghost use Rattle.mst_node.specs.Tree.{pairs};
 ghost use Rattle.mst_arena.specs.Standing.{Placed, rows_of, tree_of};
 ghost use Rattle.mst_batch.specs.Items.{items_pairs, pair_among, IsItem, IsTold};
@@ -85,6 +86,34 @@ fn searched_range_of(edits: &[&Edit], key: &Key) -> (usize, usize)
     (start, end)
 }
 
+/// Whether the first eight bytes tell that a key comes before another.
+fn begins_before(one: &[u8], other: &[u8]) -> bool
+    ensures less { result ≡ true → key_cmp one.now other.now ≡ Less }
+{
+    match one.first_chunk::<8>() {
+        None => false,
+        Some(first) => match other.first_chunk::<8>() {
+            None => false,
+            Some(second) => u64::from_be_bytes(*first) < u64::from_be_bytes(*second),
+        },
+    }
+}
+
+/// Whether a key comes before another. Most keys differ in their first eight bytes, which are
+/// compared as one number.
+fn is_before(key: &Key, other: &Key) -> bool
+    ensures less { result ≡ true → key_cmp key.now other.now ≡ Less }
+{
+    begins_before(key.bytes(), other.bytes()) || key.precedes(other)
+}
+
+/// Whether an edit is of a key.
+fn is_of(edit: &Edit, key: &Key) -> bool
+    ensures same { result ≡ true → key_of edit.now ≡ key.now }
+{
+    edit.key() == key
+}
+
 /// Where a key lies among edits whose keys rise: behind those of lesser keys, and before those of
 /// greater ones. In between is the edit of the key, if there is one.
 pub(crate) fn range_of(edits: &[&Edit], key: &Key) -> (usize, usize)
@@ -98,7 +127,8 @@ pub(crate) fn range_of(edits: &[&Edit], key: &Key) -> (usize, usize)
     // most entries of a node that is opened lie before the first edit that is left
     match edits {
         [] => (0, 0),
-        [first, ..] if key.precedes(first.key()) => (0, 0),
+        [first, ..] if is_before(key, first.key()) => (0, 0),
+        [first, ..] if is_of(first, key) => (0, 1),
         _ => searched_range_of(edits, key),
     }
 }

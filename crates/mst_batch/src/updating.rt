@@ -40,8 +40,8 @@ fn is_update<R: Rows>(rows: &mut R, root: &Root, edit: &Edit) -> bool
     }
 }
 
-/// Whether the edits are few, and each puts a value at a key that the map has. A batch of which that
-/// is not told is planned in another way, which takes more time.
+/// Whether the edits are few, and each puts a value at a key that the map has. Edits of which that
+/// is not told are planned in another way, which takes more time.
 pub(crate) fn are_updates<R: Rows>(rows: &mut R, root: &Root, edits: &[&Edit]) -> bool
     requires stands { MapStands (R.content rows.old) root.now }
     ensures updates { result ≡ true → (f : Format) (m : List Pair)

@@ -8,4 +8,4 @@ returns-in-len1-up-clause-after c =
     all_above c.args.edits.now c.first-item.result c.args.key.now c.requires.rising
     c.in-len1-up.len_at_least c.first-item.is
     (subst (λ (k : List ℕ). key_cmp c.args.key.now k ≡ Less) c.key.ensures.key
-    (c.precedes.ensures.less.0 c.if-precedes.true))
+    (c.is_before.ensures.less c.if-is_before.true))
