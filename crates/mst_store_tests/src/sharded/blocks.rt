@@ -34,7 +34,8 @@ pub(crate) fn make_block<A: Allocator + Copy>(
     writer
 }
 
-/// Whether each shard has the value of this block in a snapshot.
+/// Whether each shard has the value of this block in a snapshot, and there is no other pair. Block
+/// 0 is the empty map.
 pub(crate) fn is_whole<A: Allocator + Copy>(
     rt: &impl Abort,
     snapshot: &mut Snapshot<A>,
@@ -45,5 +46,8 @@ pub(crate) fn is_whole<A: Allocator + Copy>(
         found(rt, snapshot, b"m"),
         found(rt, snapshot, b"z"),
     ];
-    snapshot.number() == number && values.iter().all(|value| u64::from(*value) == number)
+    let pairs = if number == 0 { 0 } else { 3 };
+    snapshot.len() == pairs
+        && snapshot.number() == number
+        && values.iter().all(|value| u64::from(*value) == number)
 }

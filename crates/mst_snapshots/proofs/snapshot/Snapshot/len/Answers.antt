@@ -1,4 +1,4 @@
-use Rattle.std.proofs.Common.{◌≡◌, ◌+◌, ◌≤◌, List, ℕ, length, vec_items, vec_len, rules, sym, ap, subst, arith, ◌∙◌}
+use Rattle.std.proofs.Common.{◌≡◌, ◌+◌, List, length, vec_items, rules, sym, ap, subst, arith, ◌∙◌}
 use Rattle.std.specs.Arc.{arc_value}
 use Rattle.mst_store.specs.Passes.{Known, StoreId}
 use Rattle.mst_shards.specs.BlockHistory.{Whole, whole}
