@@ -235,6 +235,14 @@ public:
         });
     }
 
+    // Returns how many pairs all shards have together. It counts them anew each time, by the nodes
+    // of their trees.
+    std::uint64_t len() {
+        std::uint64_t count = 0;
+        mst::detail::require(mst_sharded_len(at(), &count));
+        return count;
+    }
+
     // Returns the format of the map, in which the root digest and the proofs are.
     mst::format format() {
         return static_cast<mst::format>(mst::detail::require(mst_sharded_format(at())));

@@ -242,6 +242,14 @@ public:
         return number;
     }
 
+    // Returns how many pairs the version has. It counts them anew each time, by the nodes of the
+    // tree.
+    std::uint64_t len() {
+        std::uint64_t count = 0;
+        require_done(mst_len(at(), &count));
+        return count;
+    }
+
     // Returns the format of the version, in which its root digest and its proofs are.
     mst::format format() { return told_format(mst_format(at())); }
 };

@@ -222,6 +222,21 @@ func (r *Reads) Version() (version uint64, err error) {
 	return uint64(number), nil
 }
 
+// Len returns how many pairs the version has. It counts them anew each time, by the nodes of the
+// tree.
+func (r *Reads) Len() (uint64, error) {
+	s, err := r.take()
+	if err != nil {
+		return 0, err
+	}
+	defer s.giveBack()
+	var count C.uint64_t
+	if told := C.mst_len(&s.hand, &count); told != C.MST_OK {
+		return 0, refusal(told)
+	}
+	return uint64(count), nil
+}
+
 // Format returns the format of the version, in which its root digest and its proofs are.
 func (r *Reads) Format() (Format, error) {
 	s, err := r.take()

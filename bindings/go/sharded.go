@@ -440,6 +440,21 @@ func (s *ShardedSnapshot) Root() (root Root, err error) {
 	return m.root()
 }
 
+// Len returns how many pairs all shards have together. It counts them anew each time, by the nodes
+// of their trees. The error is ErrClosed.
+func (s *ShardedSnapshot) Len() (uint64, error) {
+	m, err := s.take()
+	if err != nil {
+		return 0, err
+	}
+	defer m.mutex.Unlock()
+	var count C.uint64_t
+	if told := C.mst_sharded_len(&m.hand, &count); told != C.MST_OK {
+		return 0, refusal(told)
+	}
+	return uint64(count), nil
+}
+
 // Format returns the format of the map, in which the root digest and the proofs are. The error is
 // ErrClosed.
 func (s *ShardedSnapshot) Format() (Format, error) {

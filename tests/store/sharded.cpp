@@ -72,7 +72,7 @@ bool is_pair(const mst::pair &one, const known::value_type &other) {
 
 // Whether a snapshot is of this block.
 bool shows(mst::sharded::snapshot &then, const block &of) {
-    bool is = then.number() == of.number && then.root() == of.root;
+    bool is = then.number() == of.number && then.root() == of.root && then.len() == of.map.size();
     for (unsigned number = 0; number < 256; number += 5) {
         auto key = one_byte(number);
         auto above = of.map.upper_bound(key);
@@ -230,6 +230,7 @@ void ends() {
     EXPECT(is_refused(MST_CLOSED, [&] { (void)then.root(); }));
     moved.release();
     EXPECT(is_refused(MST_CLOSED, [&] { (void)moved.get("a"); }));
+    EXPECT(is_refused(MST_CLOSED, [&] { (void)moved.len(); }));
     EXPECT(reader.get("a") == "1" && is_refused(MST_BAD_KEY, [&] { (void)reader.get(""); }));
     auto none = moved.items();
     EXPECT(is_refused(MST_CLOSED, [&] { none.begin(); }) && none.begin() == none.end());

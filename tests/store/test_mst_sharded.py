@@ -46,6 +46,7 @@ class Blocks(unittest.TestCase):
     def shows(self, then, told, known):
         """Whether a snapshot has this number, root digest and map."""
         self.assertEqual((then.number(), then.root()), told)
+        self.assertEqual((then.len(), bool(then)), (len(known), True))
         self.assertEqual(then.range(), sorted(known.items()))
         some = sorted(pair for pair in known.items() if b"0" <= pair[0] < b"p")
         self.assertEqual(then.range(b"0", b"p", 20), some[:20])
@@ -204,7 +205,7 @@ class Blocks(unittest.TestCase):
             self.refused(mst_store.BAD_KEY, then.range, b"", bytes(33))
             self.assertEqual(then.shards(), 2)
         for call in (then.number, then.root, then.format, then.next, then.range, then.directory,
-                     then.shards, lambda: then.get(b"a"), lambda: then.prove(b"a")):
+                     then.shards, then.len, lambda: then.get(b"a"), lambda: then.prove(b"a")):
             self.refused(mst_store.CLOSED, call)
         # a second release ends no later snapshot
         later = reader.snapshot()

@@ -34,7 +34,7 @@ class Answers(unittest.TestCase):
                 value = chance.randbytes(chance.randrange(65))
                 self.assertEqual(store.put(key, value), known.get(key))
                 known[key] = value
-            self.assertEqual(store.version(), step + 1)
+            self.assertEqual((store.version(), store.len()), (step + 1, len(known)))
             asked = key_by(chance)
             self.assertEqual(store.get(asked), known.get(asked))
             above = min((key for key in known if key > asked), default=None)
@@ -163,6 +163,19 @@ class Answers(unittest.TestCase):
         self.assertEqual((reader.migrate(2), reader.migrate(1), reader.version()), (2, 2, 4))
         self.assertEqual((writer.format(), writer.root()), (1, seen[0]))
 
+    def test_a_length_is_of_the_version(self):
+        reader, writer = open_store(rows=1000, passes=2)
+        with reader.pin() as then:
+            writer.apply((bytes([key]), b"1") for key in range(200))
+            writer.put(b"\7", b"2")
+            self.assertEqual((then.len(), reader.len(), writer.len()), (0, 0, 200))
+            self.assertTrue(then)
+        with reader.pin() as then:
+            writer.remove(b"\7")
+            writer.remove(b"none")
+            self.assertEqual((then.len(), writer.len()), (200, 199))
+        self.assertEqual(reader.len(), 199)
+
     def test_a_batch_leaves_the_map_of_its_edits_as_one_version(self):
         chance, store, known = random.Random(11), one(4000), {}
         for step in range(300):
@@ -203,6 +216,7 @@ class Answers(unittest.TestCase):
     def test_the_empty_map(self):
         store = one()
         self.assertEqual((store.next(), list(store.items()), store.version()), (None, [], 0))
+        self.assertEqual((store.len(), bool(store)), (0, True))
         for format in Format:
             self.assertEqual((store.migrate(format), store.format()), (Format.ONE, format))
             proof = store.prove(b"key")

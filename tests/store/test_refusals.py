@@ -146,7 +146,8 @@ class Refusals(unittest.TestCase):
             store.put(b"key", b"")
         for call in (lambda: store.get(b"key"), store.next, store.range, store.root, store.version,
                      store.rows, lambda: store.prove(b"key"), lambda: store.put(b"key", b""),
-                     lambda: store.remove(b"key"), store.format, lambda: store.migrate(2),
+                     lambda: store.remove(b"key"), store.format, store.len,
+                     lambda: store.migrate(2),
                      lambda: store.try_migrate(3), lambda: store.apply([(b"", b"")]),
                      store.pin):
             self.refused(mst_store.CLOSED, call)
@@ -164,7 +165,7 @@ class Refusals(unittest.TestCase):
         then = store.pin()  # as within a `with`
         self.refused(mst_store.WRONG_STATE, store.pin)
         then.unpin()
-        for call in (then.root, then.next, then.range, then.version, then.format,
+        for call in (then.root, then.next, then.range, then.version, then.format, then.len,
                      lambda: then.get(b"key"), lambda: then.prove(b"key")):
             self.refused(mst_store.CLOSED, call)
         # a second unpin ends no later pin

@@ -64,6 +64,23 @@ static void reads_and_writes(mst::pass &pass) {
     EXPECT(!pass.put(zero, zero) && pass.get(zero) == zero && pass.remove(zero) == zero);
 }
 
+// How many pairs there are: of no key, of keys that are replaced and taken out, and while pinned.
+static void lengths() {
+    auto passes = mst::open({2000, 2});
+    EXPECT(passes[0].len() == 0 && passes[1].pin().len() == 0);
+    for (int i = 0; i < 300; i++) passes[0].put("k" + std::to_string(i), "1");
+    passes[0].put("k7", "2");
+    auto then = passes[1].pin();
+    for (int i = 0; i < 300; i += 3) passes[0].remove("k" + std::to_string(i));
+    passes[0].remove("none");
+    EXPECT(then.len() == 300 && passes[1].len() == 300 && passes[0].len() == 200);
+    EXPECT(passes[0].len() == passes[0].range().size());
+    then.unpin();
+    EXPECT(passes[1].len() == 200 && code_of([&] { then.len(); }) == MST_CLOSED);
+    passes[1].close();
+    EXPECT(passes[0].len() == 200 && code_of([&] { passes[1].len(); }) == MST_CLOSED);
+}
+
 // More bytes than the first room has, and keys and values with zeros in them.
 static void long_range() {
     auto pass = std::move(mst::open({2000, 1}).front());
@@ -340,6 +357,7 @@ static void threads(std::vector<mst::pass> &passes) {
 int main() {
     auto passes = mst::open({2000, 2});
     reads_and_writes(passes[0]);
+    lengths();
     long_range();
     pages();
     items();

@@ -53,6 +53,7 @@ def _signatures() -> Dict[str, Tuple[Any, ...]]:
         "mst_root": (hand, text, size),
         "mst_prove": (hand, text, size, text, size, pointer(size)),
         "mst_version": (hand, pointer(ctypes.c_uint64)),
+        "mst_len": (hand, pointer(ctypes.c_uint64)),
         "mst_format": (hand,),
         "mst_rows": (hand, pointer(ctypes.c_uint32)),
         "mst_free_rows": (hand, pointer(ctypes.c_uint32)),
@@ -89,6 +90,7 @@ def _sharded_signatures() -> Dict[str, Tuple[Any, ...]]:
         "mst_sharded_range": (
             hand, text, size, text, size, ctypes.c_uint32, text, size, pointer(size), pointer(size),
         ),
+        "mst_sharded_len": (hand, number),
         "mst_sharded_format": (hand,),
         "mst_sharded_root": (hand, text, size),
         "mst_sharded_prove": (hand, text, size, text, size, pointer(size)),

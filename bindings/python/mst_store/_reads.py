@@ -156,6 +156,12 @@ class Reads:
         this call and in each later one, all that the sender had written and read."""
         return self._number(_lib.mst_version, ctypes.c_uint64())
 
+    # No __len__: by it a pass of the empty map would be false, and a test for truth would count.
+    def len(self) -> int:
+        """Returns how many pairs the version has. It counts them anew each time, by the nodes of
+        the tree."""
+        return self._number(_lib.mst_len, ctypes.c_uint64())
+
     def format(self) -> Format:
         """Returns the format of the version, in which its root digest and its proofs are."""
         with self._lock:

@@ -68,6 +68,15 @@ class ShardedSnapshot:
         with self._taken() as held:
             return held.root()
 
+    # No __len__, as of Reads.
+    def len(self) -> int:
+        """Returns how many pairs all shards have together. It counts them anew each time, by the
+        nodes of their trees."""
+        count = ctypes.c_uint64()
+        with self._taken() as held:
+            _answer(_lib.mst_sharded_len(held.hand, ctypes.byref(count)))
+        return int(count.value)
+
     def format(self) -> Format:
         """Returns the format of the map, in which its root digest and its proofs are."""
         with self._taken() as held:

@@ -110,6 +110,7 @@ extern "C" {
         length: *mut usize,
     ) -> i32;
     pub(crate) fn mst_version(pass: *mut Hand, version: *mut u64) -> i32;
+    pub(crate) fn mst_len(pass: *mut Hand, count: *mut u64) -> i32;
     pub(crate) fn mst_format(pass: *mut Hand) -> i32;
     pub(crate) fn mst_rows(pass: *mut Hand, rows: *mut u32) -> i32;
     pub(crate) fn mst_free_rows(pass: *mut Hand, rows: *mut u32) -> i32;

@@ -117,6 +117,7 @@ extern "C" {
         count: *mut usize,
         length: *mut usize,
     ) -> i32;
+    pub(crate) fn mst_sharded_len(reader: *mut ShardedHand, count: *mut u64) -> i32;
     pub(crate) fn mst_sharded_format(reader: *mut ShardedHand) -> i32;
     pub(crate) fn mst_sharded_root(
         handle: *mut ShardedHand,

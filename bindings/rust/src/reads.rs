@@ -92,6 +92,7 @@ fn listing(
 
 /// The reads: of the current version by a free pass, of the pinned one by a pinned pass. They wait
 /// for no one.
+#[allow(clippy::len_without_is_empty)] // next tells that without a count
 pub trait Reads: Held {
     /// Returns the value of the key, or None if the key is absent.
     fn get(&mut self, key: &[u8]) -> Result<Option<Vec<u8>>, Error> {
@@ -242,6 +243,17 @@ pub trait Reads: Held {
         // The hand holds a pass, so nothing is refused.
         assert_eq!(code, 0, "the library and this crate do not fit");
         version
+    }
+
+    /// Returns how many pairs the version has. It counts them anew each time, by the nodes of the
+    /// tree. [`Reads::next`] tells sooner whether there is any.
+    fn len(&mut self) -> u64 {
+        let mut count = 0;
+        // Safety: both pointers are valid.
+        let code = unsafe { raw::mst_len(self.hand(), &mut count) };
+        // The hand holds a pass, so nothing is refused.
+        assert_eq!(code, 0, "the library and this crate do not fit");
+        count
     }
 
     /// Returns the format of the version, in which its root digest and its proofs are.

@@ -529,6 +529,18 @@ impl Snapshot<'_> {
         })
     }
 
+    /// Returns how many pairs all shards have together. It counts them anew each time, by the nodes
+    /// of their trees. [`Snapshot::next`] tells sooner whether there is any.
+    #[allow(clippy::len_without_is_empty)] // next tells that without a count
+    pub fn len(&mut self) -> u64 {
+        let mut count = 0;
+        // Safety: both pointers are valid.
+        let code = unsafe { raw::mst_sharded_len(&mut self.0.hand, &mut count) };
+        // The hand holds a snapshot, so nothing is refused.
+        assert_eq!(code, 0, "the library and this crate do not fit");
+        count
+    }
+
     /// Returns the format of the map, in which the root digest and the proofs are.
     pub fn format(&mut self) -> Format {
         // Safety: the hand is valid. It holds a snapshot, so nothing is refused.

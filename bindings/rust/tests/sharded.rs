@@ -68,6 +68,7 @@ fn shows(then: &mut Snapshot<'_>, told: Told, map: &Map) {
         assert_eq!(then.get(&[key]), Ok(map.get(&vec![key]).cloned()));
     }
     let pairs: Vec<_> = map.clone().into_iter().collect();
+    assert_eq!(then.len(), pairs.len() as u64);
     assert_eq!(then.next(b""), Ok(pairs.first().cloned()));
     assert_eq!(then.range(b"0", b"p", 9).unwrap().len(), pairs_within(map).min(9));
     assert_eq!(then.items(b"0", b"p").count(), pairs_within(map));

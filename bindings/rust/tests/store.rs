@@ -59,7 +59,7 @@ fn answers_are_those_of_a_map() {
             let value = random.bytes(length);
             assert_eq!(pass.put(&key, &value), Ok(map.insert(key, value)));
         }
-        assert_eq!(pass.version(), step + 1);
+        assert_eq!((pass.version(), pass.len()), (step + 1, map.len() as u64));
         let asked = random.key();
         assert_eq!(pass.get(&asked), Ok(map.get(&asked).cloned()));
         let above = map.range(asked.clone()..).find(|(key, _)| **key > asked);
@@ -210,6 +210,27 @@ fn a_root_is_of_the_pairs_alone() {
     assert_eq!(one_way.root(), other_way.root());
     let proof = one_way.prove(b"none").unwrap();
     assert!(!proof.is_empty() && proof.capacity() < 4096);
+}
+
+#[test]
+fn a_length_is_of_the_version() {
+    let mut passes = opened(2000, 2).unwrap();
+    let (mut reader, mut writer) = (passes.pop().unwrap(), passes.pop().unwrap());
+    assert_eq!((writer.len(), reader.pin().len()), (0, 0));
+    for i in 0..=255u8 {
+        writer.put(&[i], b"1").unwrap();
+    }
+    writer.put(&[7], b"2").unwrap();
+    let mut then = reader.pin();
+    for i in 0..100u8 {
+        writer.remove(&[i]).unwrap();
+    }
+    writer.remove(b"none").unwrap();
+    assert_eq!((then.len(), writer.len()), (256, 156));
+    drop(then);
+    assert_eq!(reader.len(), 156);
+    drop(writer);
+    assert_eq!(reader.len(), 156);
 }
 
 #[test]

@@ -101,6 +101,7 @@ type reader interface {
 	Next(key []byte) (mst.Pair, bool, error)
 	Range(from, to []byte, limit int) ([]mst.Pair, error)
 	PageAfter(after, to []byte, limit int) ([]mst.Pair, error)
+	Len() (uint64, error)
 }
 
 func (m model) read(t *testing.T, by reader, chance *rand.Rand) {
@@ -121,6 +122,15 @@ func (m model) read(t *testing.T, by reader, chance *rand.Rand) {
 	wanted = first(m.pairs(append(key[:len(key):len(key)], 0), to), limit)
 	if found, err := by.PageAfter(key, to, limit); err != nil || !areEqual(found, wanted) {
 		t.Fatalf("PageAfter %x to %x: %v, %v, and not %v", key, to, found, err, wanted)
+	}
+	m.counts(t, by)
+}
+
+// counts tests whether a version has as many pairs.
+func (m model) counts(t *testing.T, by reader) {
+	t.Helper()
+	if count, err := by.Len(); err != nil || count != uint64(len(m)) {
+		t.Fatalf("%d pairs, %v, and not %d", count, err, len(m))
 	}
 }
 
@@ -186,6 +196,30 @@ func TestAnswersAreThoseOfAMap(t *testing.T) {
 	for step := 0; step < 200; step++ {
 		known.read(t, pinned, chance)
 		known.read(t, pass, chance)
+	}
+}
+
+func TestALengthIsOfTheVersion(t *testing.T) {
+	chance, passes, known := rand.New(rand.NewSource(13)), open(t, mst.Format2, 4000, 2), model{}
+	for round := 0; round < 20; round++ {
+		pinned, err := passes[1].Pin()
+		if err != nil {
+			t.Fatal(err)
+		}
+		kept := model{}
+		for key, value := range known {
+			kept[key] = value
+		}
+		for step := 0; step < 30; step++ {
+			known.write(t, passes[0], chance)
+			known.counts(t, passes[0])
+		}
+		kept.counts(t, pinned)
+		kept.counts(t, passes[1])
+		pinned.Unpin()
+		known.counts(t, passes[1])
+		_, err = pinned.Len()
+		expect(t, "Len", err, mst.ErrClosed)
 	}
 }
 

@@ -242,6 +242,7 @@ func TestClosed(t *testing.T) {
 			"Root":    func() error { _, err := it.Root(); return err },
 			"Prove":   func() error { _, err := it.Prove([]byte("key")); return err },
 			"Version": func() error { _, err := it.Version(); return err },
+			"Len":     func() error { _, err := it.Len(); return err },
 			"Format":  func() error { _, err := it.Format(); return err },
 			"Rows":    func() error { _, err := it.Rows(); return err },
 			"Remove":  func() error { _, _, err := it.Remove([]byte("key")); return err },

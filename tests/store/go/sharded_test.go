@@ -116,6 +116,9 @@ func shows(t *testing.T, then *mst.ShardedSnapshot, of told) {
 	if err != nil || len(pairs) != len(of.known) {
 		t.Fatal(len(pairs), len(of.known), err)
 	}
+	if count, err := then.Len(); count != uint64(len(pairs)) || err != nil {
+		t.Fatal(count, len(pairs), err)
+	}
 	for place, pair := range pairs {
 		var last []byte
 		if place > 0 {
@@ -477,6 +480,9 @@ func TestReadersGoOnWithoutAWriter(t *testing.T) {
 	// of a reader's next snapshot the older one knows nothing
 	next := snapshotOf(t, readers[0])
 	if _, err := then.Root(); !errors.Is(err, mst.ErrClosed) {
+		t.Fatal(err)
+	}
+	if _, err := then.Len(); !errors.Is(err, mst.ErrClosed) {
 		t.Fatal(err)
 	}
 	if err := readers[0].Close(); err != nil {
