@@ -34,7 +34,7 @@ def roots(client, checkpoint):
 def main(port, folder, format):
     client, listed = connect(port), {}
     writer, *readers = open_store(rows=ROWS, passes=3, format=format)
-    versions = Versions([it.pinned for it in readers])
+    versions = Versions([it.pin for it in readers])
     versions.serve(os.path.join(folder, "gatherer"))
     for checkpoint in itertools.count(1):
         told = checkpoints.until(client, lambda: roots(client, checkpoint))
