@@ -1,13 +1,9 @@
 /* Ranges that begin behind a key. */
 #include "mst_store.h"
+#include "paging.h"
 #include <string.h>
 
-/*
- * Writes the least key above one of 1 to 32 bytes, and returns its length, or 0 if there is none.
- * Below 32 bytes that is the key with a zero byte behind it. Behind a key of 32 bytes no longer one
- * follows, so it is the next number of its length, without the zero bytes at its end.
- */
-static size_t least_above(const uint8_t *key, size_t length, uint8_t *above) {
+size_t least_above(const uint8_t *key, size_t length, uint8_t *above) {
     memcpy(above, key, length);
     if (length < MST_KEY_LONGEST) {
         above[length] = 0;

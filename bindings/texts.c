@@ -52,7 +52,7 @@ static const char *of_sharded_proof(int32_t told) {
 /* Refusals of the store, and those that the verifier shares with it. */
 static const char *of_store(int32_t told) {
     switch (told) {
-    case MST_ABSENT: return "there is no such key";
+    case MST_ABSENT: return "there is no such key, pair or shard";
     case MST_SHORT_ROOM: return "the room is too short";
     case MST_UNKNOWN_FORMAT: return "no format has this number";
     case MST_BAD_ROOT: return "a root digest has 32 bytes";

@@ -10,10 +10,11 @@
  *
  * mst_open makes a store of the empty map and puts a pass into each hand of an array. Each thread
  * uses a hand of its own. Reads take none of the store's locks, and by their code wait for no other
- * thread (a tool checks it, nothing proves it; mst_range and mst_prove call malloc, which may have
- * locks). One pass at a time has the turn; meanwhile mst_try_put and its like return MST_BUSY for
- * another pass, while mst_put, mst_remove, mst_apply and mst_migrate wait, and mst_put_within and
- * its like wait for a time that is given. The store is freed when its last pass is closed.
+ * thread (a tool checks it, nothing proves it; mst_range, mst_prove and mst_differing call malloc,
+ * which may have locks). One pass at a time has the turn; meanwhile mst_try_put and its like return
+ * MST_BUSY for another pass, while mst_put, mst_remove, mst_apply and mst_migrate wait, and
+ * mst_put_within and its like wait for a time that is given. The store is freed when its last pass
+ * is closed.
  *
  *     mst_pass passes[2] = {MST_PASS_CLOSED, MST_PASS_CLOSED};
  *     uint8_t root[MST_ROOT_LENGTH];
@@ -40,10 +41,10 @@
  *     caller. It may be moved to another place, if the old place is not used again;
  *   - a hand is in one call at a time. If it goes from one thread to another, it goes with a lock,
  *     with the start or the end of a thread, or with a sequentially consistent atomic;
- *   - pointers are valid for their lengths, that of mst_open for its count of hands, and what a
- *     call writes overlaps nothing else that it is given. If a length is 0, the pointer is not read
- *     and may be null. A null room of mst_put, mst_remove, mst_put_within and mst_remove_within may
- *     have any length;
+ *   - pointers are valid for their lengths, that of mst_open for its count of hands, that of
+ *     mst_pinned_versions for as many numbers as it has room for, and what a call writes overlaps
+ *     nothing else that it is given. If a length is 0, the pointer is not read and may be null. A
+ *     null room of mst_put, mst_remove, mst_put_within and mst_remove_within may have any length;
  *   - during a call no other thread writes what the call reads (key, value, bounds, edits), or
  *     touches what it may write (the hand, rooms, and where it tells lengths and numbers);
  *   - malloc, posix_memalign, realloc and free are of one allocator, and malloc and realloc align to
@@ -131,7 +132,7 @@ typedef struct mst_pass {
  */
 #define MST_OK 0
 
-/* There is no such key. This is an answer, not a refusal. */
+/* There is no such key, pair or shard. This is an answer, not a refusal. */
 #define MST_ABSENT (-1)
 
 /*
@@ -154,10 +155,10 @@ typedef struct mst_pass {
 #define MST_CLOSED (-7)
 
 /*
- * A pinned pass neither writes, migrates, pins nor counts rows; a free one does not unpin. Of a
- * sharded map the writer alone makes blocks, only a reader takes a snapshot, and only a snapshot
- * lists pairs and proves answers; a block that was begun is only committed or cancelled, and a part
- * of one only prepared, until its block is.
+ * A pinned pass neither writes, migrates, pins, counts rows nor lists pinned versions; a free one
+ * does not unpin. Of a sharded map the writer alone makes blocks, only a reader takes a snapshot,
+ * and only a snapshot lists pairs and proves answers; a block that was begun is only committed or
+ * cancelled, and a part of one only prepared, until its block is.
  */
 #define MST_WRONG_STATE (-8)
 
@@ -171,9 +172,10 @@ typedef struct mst_pass {
 #define MST_BAD_SHAPE (-10)
 
 /*
- * Another pass has the turn: it writes, migrates or counts rows. Nothing has changed: try again. Of
- * a block: a thread has died within a call, and the shard takes no more edits; of one that was
- * begun: a part of it is just being prepared.
+ * Another pass has the turn: it writes, migrates, counts rows or lists pinned versions. Nothing has
+ * changed: try again. Of a block, and of the free rows of a shard: a thread has died within a call,
+ * and the shard takes no more edits; of a block that was begun: a part of it is just being
+ * prepared.
  */
 #define MST_BUSY (-21)
 
@@ -322,6 +324,15 @@ int32_t mst_rows(mst_pass *pass, uint32_t *rows);
 int32_t mst_free_rows(mst_pass *pass, uint32_t *rows);
 
 /*
+ * Finds the versions that are pinned. Returns MST_OK: their numbers stand first in `versions`, in
+ * rising order, each once, and *count is how many they are: MST_PASSES_MOST at most, and no more
+ * than the store has passes. The current version is among them only if it is pinned. Returns
+ * MST_SHORT_ROOM if `versions` has room for fewer: *count is their number, and the room is as it
+ * was. Returns MST_CLOSED; MST_WRONG_STATE for a pinned pass; MST_BUSY: both are as they were.
+ */
+int32_t mst_pinned_versions(mst_pass *pass, uint64_t *versions, size_t room_count, size_t *count);
+
+/*
  * Sets *version to the version that the last write of this pass made: its last put, remove, batch
  * or migration that was not refused. Unlike mst_version it is never one that another pass made
  * since. Returns MST_OK; MST_CLOSED; MST_ABSENT if the pass has made none.
@@ -454,6 +465,63 @@ size_t mst_edit_put(uint8_t *room, size_t at, const uint8_t *key, size_t key_len
 
 /* As mst_edit_put, a remove of the key. */
 size_t mst_edit_remove(uint8_t *room, size_t at, const uint8_t *key, size_t key_length);
+
+/* ---- where two maps differ ---- */
+
+/*
+ * Finds a piece of a proof that mst_prove made: with `number` 0 the text of the top node, with 1
+ * that of the node below it, and so on. In format 2 there is one more piece behind the texts, in
+ * which the value stands. Returns MST_OK: *piece is where it begins, within the proof, and *length
+ * how many bytes it has. Returns MST_ABSENT if the proof has no such piece, or is cut short before
+ * its end. It takes bytes of any kind, and verifies nothing.
+ */
+int32_t mst_proof_piece(const uint8_t *proof, size_t proof_length, uint32_t number,
+                        const uint8_t **piece, size_t *length);
+
+/* A key at which two maps differ, with its two values. One that is absent is null; an empty one is
+ * not. */
+typedef struct mst_difference {
+    const uint8_t *key, *ours, *theirs;
+    size_t key_length, ours_length, theirs_length;
+} mst_difference;
+
+/*
+ * Tells where the map of our pass differs from another one, of which only the root digest need be
+ * trusted: calls `tell` once for each such key, by rising keys. It goes down both trees from their
+ * root digests, passes subtrees with equal digests unread, and asks for the others node by node.
+ *
+ * `ask` is to set *piece and *length to the piece with this number of the other map's proof of this
+ * key, as mst_prove and mst_proof_piece find it, all of one version of the other map: in this
+ * process, or by a message to another one. The bytes have to stay until the next call of `ask`, or
+ * until mst_differing returns. No piece is asked for twice. Each text is tested by its digest, its
+ * form, its layer and its keys, as mst_verify tests the texts of a proof, and in format 2 each
+ * value by its digest. So if the root digest is a map's, what `tell` is told is so, unless two
+ * texts have one SHA-256.
+ *
+ *     static int32_t ask(void *with, const uint8_t *key, size_t key_length, uint32_t number,
+ *                        const uint8_t **piece, size_t *length) {
+ *         struct other *other = with;    // a pinned pass, and a room
+ *         size_t proof;
+ *         int32_t told = mst_prove(other->pass, key, key_length, other->room, sizeof other->room,
+ *                                  &proof);
+ *         return told != MST_OK ? told
+ *             : mst_proof_piece(other->room, proof, number, piece, length);
+ *     }
+ *
+ * The root digest has 32 bytes and is of the format of our version. A free pass is pinned for the
+ * call, so our map stays too. `ask` and `tell` make no call with our hand; what `tell` is given
+ * stays until it returns. `with` is handed to both. If one of them returns another number than
+ * MST_OK, the call ends and returns it.
+ *
+ * Returns MST_OK if each difference was told. Otherwise returns MST_CLOSED; of mst_verifier.h
+ * MST_BAD_ROOT for a root digest of another length, and for a piece that is not the one asked for
+ * MST_P4_NO_NODE, MST_P5_OTHER_DIGEST, MST_P6_LAYER_NOT_BELOW, MST_P7_KEY_OUTSIDE, or of a value
+ * MST_P2_CUT_SHORT, MST_P3_LEFT_OVER, MST_P10_OTHER_VALUE; MST_MEMORY.
+ */
+int32_t mst_differing(mst_pass *ours, const uint8_t *root, size_t root_length,
+                      int32_t (*ask)(void *with, const uint8_t *key, size_t key_length,
+                                     uint32_t number, const uint8_t **piece, size_t *length),
+                      int32_t (*tell)(void *with, const mst_difference *difference), void *with);
 
 /* ---- writes that wait for the turn ---- */
 
@@ -598,6 +666,14 @@ size_t mst_split(uint8_t *room, size_t at, const uint8_t *key, size_t key_length
  * was begun or a part of one.
  */
 int32_t mst_sharded_shards(mst_handle *hand);
+
+/*
+ * Sets *rows to the number of rows that are free to the next block in a shard, as mst_free_rows of
+ * a store. Shards are numbered from 0, and the number of the shards is that of the directory.
+ * Returns MST_OK; MST_CLOSED; MST_WRONG_STATE for what is no writer; MST_ABSENT if there is no such
+ * shard; MST_BUSY.
+ */
+int32_t mst_sharded_free_rows(mst_handle *writer, size_t shard, uint32_t *rows);
 
 /*
  * Makes the next block of edits of all shards, in the form of mst_try_apply. Readers see none of

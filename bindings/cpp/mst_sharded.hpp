@@ -402,6 +402,16 @@ public:
     }
     ~writer() { close(); }
 
+    // Returns how many rows are free to the next block in the shard with this number, from 0, or in
+    // the directory, which has the number of the shards; nothing if there is no such shard.
+    std::optional<std::uint32_t> free_rows(std::size_t shard) {
+        std::uint32_t rows = 0;
+        int code = mst_sharded_free_rows(at(), shard, &rows);
+        if (code == MST_ABSENT) return std::nullopt;
+        mst::detail::require(code);
+        return rows;
+    }
+
     // Makes the edits of all shards as the next block, and returns its number: one more than that
     // of the block before. Readers see none of them before all are made. No edits make a block too.
     // If the block is refused, nothing has changed in any shard: refused_edit tells which edit is

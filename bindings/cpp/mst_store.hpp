@@ -16,6 +16,7 @@
 // never thrown. Keys have 1 to 32 bytes, values 0 to 64. What the header mst_store.h says that a
 // caller owes, callers of this one owe too.
 #pragma once
+#include "mst_differing.hpp"
 #include "mst_store.h"
 #include "mst_store_answers.hpp"
 
@@ -27,6 +28,7 @@
 #include <optional>
 #include <string>
 #include <string_view>
+#include <type_traits>
 #include <utility>
 #include <vector>
 
@@ -232,6 +234,17 @@ public:
         }
     }
 
+    // Returns where the map differs from another one of the same format, of which only this root
+    // digest need be trusted: by rising keys, what mst_differing tells. `ask` is called with a key,
+    // a std::string_view, and a number, and returns this piece of the other map's proof of the key
+    // as a std::vector<std::uint8_t>. It does not use this pass. What it throws is thrown.
+    //
+    //     then.differing(root, [&](std::string_view key, std::uint32_t number) {
+    //         return mst::proof_piece(other.prove(key), number).value(); });
+    template <typename Ask> std::vector<difference> differing(const digest &root, Ask &&ask) {
+        return detail::walk<std::remove_reference_t<Ask>>(ask).over(at(), root);
+    }
+
     // Returns the number of the version: how many writes and migrations there were before it.
     // Sent with a message, it, or that of made, is all that read-your-writes over threads needs: a
     // pass that is not pinned, and has here at least the number that it was sent, has seen, in this
@@ -367,6 +380,18 @@ public:
         if (code == MST_BUSY) return std::nullopt;
         require_done(code);
         return rows;
+    }
+
+    // Returns the versions that are pinned, in rising order, each once; nothing if another pass has
+    // the turn.
+    std::optional<std::vector<std::uint64_t>> pinned_versions() {
+        std::vector<std::uint64_t> versions(MST_PASSES_MOST);
+        std::size_t count = 0;
+        int code = mst_pinned_versions(at(), versions.data(), versions.size(), &count);
+        if (code == MST_BUSY) return std::nullopt;
+        require_done(code);
+        versions.resize(count);
+        return versions;
     }
 
     // Returns the version that the last write of this pass made, whatever others wrote since;

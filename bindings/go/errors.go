@@ -39,6 +39,8 @@ var (
 	ErrBadSplits = errors.New("mst: splits are at most 1023 keys that rise from above the least")
 	// ErrOvertaken says that another than the writer of blocks has written. No call leads to this.
 	ErrOvertaken = errors.New("mst: another than the writer of blocks has written")
+	// ErrOtherPiece says that a piece of a proof is not the one that was asked for.
+	ErrOtherPiece = errors.New("mst: a piece is not the one that was asked for")
 	// ErrMoving says that a block is just being published, so that there is no snapshot of one
 	// block.
 	ErrMoving = errors.New("mst: a block is just being published")
@@ -65,6 +67,9 @@ var refusals = map[C.int32_t]error{
 func refusal(told C.int32_t) error {
 	if err, isKnown := refusals[told]; isKnown {
 		return err
+	}
+	if -20 <= told && told <= -11 { // what a verifier tests, P1 to P10
+		return ErrOtherPiece
 	}
 	return fmt.Errorf("mst: the library answered %d", int32(told))
 }

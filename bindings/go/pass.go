@@ -97,6 +97,26 @@ func (p *Pass) FreeRows() (int, error) {
 	return int(rows), nil
 }
 
+// PinnedVersions returns the versions that are pinned, in rising order, each once. The current one
+// is among them only if it is pinned. The error is ErrClosed, ErrWrongState, or ErrBusy.
+func (p *Pass) PinnedVersions() ([]uint64, error) {
+	s, err := p.take()
+	if err != nil {
+		return nil, err
+	}
+	defer s.giveBack()
+	var room [PassesMost]C.uint64_t
+	var count C.size_t
+	if told := C.mst_pinned_versions(&s.hand, &room[0], PassesMost, &count); told != C.MST_OK {
+		return nil, refusal(told)
+	}
+	versions := make([]uint64, count)
+	for i := range versions {
+		versions[i] = uint64(room[i])
+	}
+	return versions, nil
+}
+
 // Made returns the version that the last write of this pass made, whatever other passes wrote
 // since, and whether it has made one. The error is ErrClosed.
 func (p *Pass) Made() (version uint64, present bool, err error) {

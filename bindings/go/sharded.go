@@ -139,6 +139,29 @@ func (w *ShardedWriter) Shards() (int, error) {
 	return m.shards()
 }
 
+// FreeRows returns how many rows are free to the next block in the shard with this number, from 0,
+// or in the directory, which has the number of the shards, and whether there is such a shard. The
+// error is ErrClosed, or ErrBusy once a thread has died within a call.
+func (w *ShardedWriter) FreeRows(shard int) (rows int, present bool, err error) {
+	m, err := w.take()
+	if err != nil {
+		return 0, false, err
+	}
+	defer m.mutex.Unlock()
+	if shard < 0 {
+		return 0, false, nil
+	}
+	var free C.uint32_t
+	switch told := C.mst_sharded_free_rows(&m.hand, C.size_t(shard), &free); told {
+	case C.MST_OK:
+		return int(free), true, nil
+	case C.MST_ABSENT:
+		return 0, false, nil
+	default:
+		return 0, false, refusal(told)
+	}
+}
+
 // Apply makes the edits of the batch, of all shards, as the next block, and returns its number: one
 // more than that of the block before. Readers see none of them before all are made. No edits make a
 // block too. After an error nothing has changed in any shard. The error is ErrClosed, an

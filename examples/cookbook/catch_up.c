@@ -4,110 +4,78 @@
 #include <stdlib.h>
 #include <string.h>
 
-#define PAGE 256
-
-/* The edits of a batch, in a room that grows. */
-struct batch {
-    uint8_t *edits;
-    size_t room, length, count;
+/* The other replica, of which the root digest is trusted, and the edits that make ours its equal.
+   On another machine `ask` sends the key and the number, and has the piece from the answer. */
+struct other {
+    mst_pass *pass; /* pinned, so that the root digest and all pieces are of one version */
+    uint8_t *proof, *edits;
+    size_t proof_room, edits_room, length;
+    unsigned asked, count;
 };
 
-/* Sees that the room has a place for one more edit, and counts that. */
-static int32_t grow(struct batch *batch) {
-    if (batch->room - batch->length < MST_EDIT_LONGEST) {
-        size_t room = 2 * batch->room + MST_EDIT_LONGEST;
-        uint8_t *edits = realloc(batch->edits, room);
-        if (edits == NULL)
-            return MST_MEMORY;
-        batch->edits = edits;
-        batch->room = room;
-    }
-    batch->count++;
+/* Sees that the room has so many bytes; what was in it stays. */
+static int32_t grow(uint8_t **room, size_t *length, size_t wanted) {
+    uint8_t *grown = *length < wanted ? realloc(*room, 2 * wanted) : *room;
+
+    if (grown == NULL)
+        return MST_MEMORY;
+    *length = *length < wanted ? 2 * wanted : *length;
+    *room = grown;
     return MST_OK;
 }
 
-/* Adds a put of this pair of theirs, if ours has another value or none. */
-static int32_t add_put(struct batch *batch, const mst_pair *pair, mst_pass *ours) {
-    uint8_t value[MST_VALUE_LONGEST];
+/* Asks for one text of a node, as a piece of the proof of a key. */
+static int32_t ask(void *with, const uint8_t *key, size_t key_length, uint32_t number,
+                   const uint8_t **piece, size_t *length) {
+    struct other *it = with;
+    size_t proof = 0;
 
-    int32_t told = mst_get(ours, pair->key, pair->key_length, value, sizeof value);
-    if (told < MST_ABSENT)
+    it->asked++;
+    int32_t told = mst_prove(it->pass, key, key_length, it->proof, it->proof_room, &proof);
+    if (told == MST_SHORT_ROOM && grow(&it->proof, &it->proof_room, proof) == MST_OK)
+        told = mst_prove(it->pass, key, key_length, it->proof, it->proof_room, &proof);
+    return told != MST_OK ? told : mst_proof_piece(it->proof, proof, number, piece, length);
+}
+
+/* Adds an edit for a key at which the two differ. */
+static int32_t add_edit(void *with, const mst_difference *at) {
+    struct other *it = with;
+
+    int32_t told = grow(&it->edits, &it->edits_room, it->length + MST_EDIT_LONGEST);
+    if (told != MST_OK)
         return told;
-    if (told == (int32_t)pair->value_length && memcmp(value, pair->value, pair->value_length) == 0)
-        return MST_OK;
-    told = grow(batch);
-    if (told == MST_OK)
-        batch->length = mst_edit_put(batch->edits, batch->length, pair->key, pair->key_length,
-                                     pair->value, pair->value_length);
-    return told;
+    it->length = at->theirs == NULL
+        ? mst_edit_remove(it->edits, it->length, at->key, at->key_length)
+        : mst_edit_put(it->edits, it->length, at->key, at->key_length, at->theirs,
+                       at->theirs_length);
+    it->count++;
+    return MST_OK;
 }
 
-/* Adds a remove of this key of ours, if theirs lacks it. */
-static int32_t add_remove(struct batch *batch, const mst_pair *pair, mst_pass *theirs) {
-    uint8_t value[MST_VALUE_LONGEST];
-
-    int32_t told = mst_get(theirs, pair->key, pair->key_length, value, sizeof value);
-    if (told != MST_ABSENT)
-        return told < 0 ? told : MST_OK;
-    told = grow(batch);
-    if (told == MST_OK)
-        batch->length = mst_edit_remove(batch->edits, batch->length, pair->key, pair->key_length);
-    return told;
-}
-
-/* Adds what each pair of one map asks for, page by page, until no page is left. */
-static int32_t add_all(struct batch *batch, mst_pass *one, mst_pass *other,
-                       int32_t (*add)(struct batch *, const mst_pair *, mst_pass *)) {
-    uint8_t room[PAGE * MST_PAIR_LONGEST], last[MST_KEY_LONGEST];
-    size_t last_length = 0, count = 0, length = 0;
-    mst_pair pair = {NULL, NULL, 0, 0};
-
-    for (;;) {
-        int32_t told = mst_page_after(one, last, last_length, NULL, 0, PAGE, room, sizeof room,
-                                      &count, &length);
-        if (told != MST_OK || count == 0)
-            return told;
-        for (size_t at = 0; told == MST_OK && at < length;) {
-            at = mst_pair_at(room, at, &pair);
-            told = add(batch, &pair, other);
-        }
-        if (told != MST_OK)
-            return told;
-        last_length = pair.key_length;
-        memcpy(last, pair.key, last_length);
-    }
-}
-
-/* Makes our map theirs: our readers see the one or the other, and nothing between. Nobody else may
-   write ours meanwhile. Tells how many edits that took. */
-static int32_t catch_up(mst_pass *ours, mst_pass *pinned, size_t *count) {
-    struct batch batch = {NULL, 0, 0, 0};
+/* Makes our map that of the root digest: our readers see the one or the other, and nothing between.
+   Nobody else may write ours meanwhile. */
+static int32_t catch_up(mst_pass *ours, const uint8_t *root, struct other *other) {
     size_t place;
 
-    int32_t told = add_all(&batch, pinned, ours, add_put);
+    int32_t told = mst_differing(ours, root, MST_ROOT_LENGTH, ask, add_edit, other);
     if (told == MST_OK)
-        told = add_all(&batch, ours, pinned, add_remove);
-    if (told == MST_OK)
-        told = mst_apply(ours, batch.edits, batch.length, &place);
-    free(batch.edits);
-    *count = batch.count;
+        told = mst_apply(ours, other->edits, other->length, &place);
     return told;
 }
 
-/* Whether two maps of one format are equal: their root digests are enough. */
-static int is_equal(mst_pass *ours, mst_pass *theirs) {
-    uint8_t roots[2][MST_ROOT_LENGTH];
+/* Whether our map has this root digest now. */
+static int has_root(mst_pass *ours, const uint8_t *root) {
+    uint8_t own[MST_ROOT_LENGTH];
 
-    mst_root(ours, roots[0], MST_ROOT_LENGTH);
-    mst_root(theirs, roots[1], MST_ROOT_LENGTH);
-    return memcmp(roots[0], roots[1], MST_ROOT_LENGTH) == 0;
+    mst_root(ours, own, sizeof own);
+    return memcmp(own, root, sizeof own) == 0;
 }
 
 /* Opens a store with the keys of the numbers from one up to below another. */
 static int32_t fill(mst_pass *pass, int from, int to) {
     char name[16];
 
-    int32_t told = mst_open(1, 1000, pass, 1);
+    int32_t told = mst_open(1, 10000, pass, 1);
     for (int number = from; told >= MST_ABSENT && number < to; number++) {
         size_t length = (size_t)snprintf(name, sizeof name, "user %d", number);
         told = mst_put(pass, (const uint8_t *)name, length, (const uint8_t *)"new", 3, NULL, 0);
@@ -117,20 +85,28 @@ static int32_t fill(mst_pass *pass, int from, int to) {
 
 int main(void) {
     mst_pass ours = MST_PASS_CLOSED, theirs = MST_PASS_CLOSED;
-    size_t count = 0;
+    struct other other = {&theirs, NULL, NULL, 0, 0, 0, 0, 0};
+    uint8_t root[MST_ROOT_LENGTH];
+    uint64_t keys = 0;
 
-    int32_t told = fill(&ours, 0, 100);
+    int32_t told = fill(&ours, 0, 5000);
     if (told == MST_OK)
-        told = fill(&theirs, 10, 130);
+        told = fill(&theirs, 10, 5030);
     if (told == MST_OK)
-        told = mst_pin(&theirs); /* all pages, and the root digest, are of one version */
+        told = mst_pin(&theirs);
+    mst_root(&theirs, root, sizeof root);
+    mst_len(&theirs, &keys);
     if (told == MST_OK)
-        told = catch_up(&ours, &theirs, &count);
+        told = catch_up(&ours, root, &other);
     if (told == MST_OK)
-        printf("%zu edits, then the roots %s\n", count,
-               is_equal(&ours, &theirs) ? "are equal" : "differ");
+        printf("%u edits, then the roots %s\n"
+               "%u texts of nodes were asked for, of a map of %u keys\n",
+               other.count, has_root(&ours, root) ? "are equal" : "differ", other.asked,
+               (unsigned)keys);
     else
         fprintf(stderr, "%s\n", mst_error_text(told));
+    free(other.proof);
+    free(other.edits);
     mst_close(&ours);
     mst_close(&theirs); /* ends the pin too */
     return told != MST_OK;

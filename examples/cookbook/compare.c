@@ -1,68 +1,96 @@
 /* Two replicas: whether their maps are equal, and at which keys they differ. */
 #include "mst_store.h"
 #include <stdio.h>
+#include <stdlib.h>
 #include <string.h>
 
 #define TEXT(text) (const uint8_t *)(text), sizeof(text) - 1
-#define PAGE 256
 
-/* Prints the key of a pair if it has another value in the other replica, or none. */
-static void tell_key(const char *name, const mst_pair *pair, mst_pass *other) {
-    uint8_t value[MST_VALUE_LONGEST];
+/* The other replica. It may be on another machine: then `ask` sends the key and the number there,
+   and has the piece from the answer. */
+struct other {
+    mst_pass *pass; /* pinned, so that all pieces are of one version */
+    uint8_t *proof;
+    size_t room;
+    unsigned asked;
+};
 
-    int32_t told = mst_get(other, pair->key, pair->key_length, value, sizeof value);
-    if (told != (int32_t)pair->value_length || memcmp(value, pair->value, pair->value_length))
-        printf("differs in %s: %.*s\n", name, (int)pair->key_length, (const char *)pair->key);
-}
+/* Asks for one text of a node, as a piece of the proof of a key. */
+static int32_t ask(void *with, const uint8_t *key, size_t key_length, uint32_t number,
+                   const uint8_t **piece, size_t *length) {
+    struct other *other = with;
+    size_t proof = 0;
+    int32_t told;
 
-/* Asks the other replica for all pairs of one, page by page, until no page is left. */
-static int32_t tell_differing(const char *name, mst_pass *one, mst_pass *other) {
-    uint8_t room[PAGE * MST_PAIR_LONGEST], last[MST_KEY_LONGEST];
-    size_t last_length = 0, count = 0, length = 0;
-    mst_pair pair = {NULL, NULL, 0, 0};
-
-    for (;;) {
-        int32_t told = mst_page_after(one, last, last_length, NULL, 0, PAGE, room, sizeof room,
-                                      &count, &length);
-        if (told != MST_OK || count == 0)
-            return told;
-        for (size_t at = 0; at < length;) {
-            at = mst_pair_at(room, at, &pair);
-            tell_key(name, &pair, other);
-        }
-        last_length = pair.key_length;
-        memcpy(last, pair.key, last_length);
+    other->asked++;
+    while ((told = mst_prove(other->pass, key, key_length, other->proof, other->room, &proof))
+           == MST_SHORT_ROOM) {
+        free(other->proof);
+        other->room = proof;
+        other->proof = malloc(proof);
+        if (other->proof == NULL)
+            return MST_MEMORY;
     }
+    return told != MST_OK ? told : mst_proof_piece(other->proof, proof, number, piece, length);
 }
 
-/* Whether two maps of one format are equal: their root digests are enough. */
-static const char *is_equal(mst_pass *ours, mst_pass *theirs) {
+/* A value that is null is none. */
+static int32_t tell(void *with, const mst_difference *it) {
+    const char *how = it->ours == NULL     ? "is theirs alone"
+                      : it->theirs == NULL ? "is ours alone"
+                                           : "has two values";
+
+    (void)with;
+    printf("%.*s %s\n", (int)it->key_length, (const char *)it->key, how);
+    return MST_OK;
+}
+
+/* Compares replicas of one format: first their root digests, which are enough if they agree. */
+static int32_t compare(mst_pass *ours, mst_pass *theirs) {
     uint8_t roots[2][MST_ROOT_LENGTH];
+    struct other other = {theirs, NULL, 0, 0};
+    uint64_t keys = 0;
 
     mst_root(ours, roots[0], MST_ROOT_LENGTH);
     mst_root(theirs, roots[1], MST_ROOT_LENGTH);
-    return memcmp(roots[0], roots[1], MST_ROOT_LENGTH) == 0 ? "yes" : "no";
+    if (memcmp(roots[0], roots[1], MST_ROOT_LENGTH) == 0) {
+        printf("equal: yes\n");
+        return MST_OK;
+    }
+    printf("equal: no\n");
+    int32_t told = mst_differing(ours, roots[1], MST_ROOT_LENGTH, ask, tell, &other);
+    mst_len(theirs, &keys);
+    printf("%u texts of nodes were asked for, of a map of %u keys\n", other.asked, (unsigned)keys);
+    free(other.proof);
+    return told;
+}
+
+/* Opens a store with so many keys. */
+static int32_t fill(mst_pass *pass, int keys) {
+    char name[16];
+
+    int32_t told = mst_open(1, 10000, pass, 1);
+    for (int number = 0; told >= MST_ABSENT && number < keys; number++) {
+        size_t length = (size_t)snprintf(name, sizeof name, "user %d", number);
+        told = mst_put(pass, (const uint8_t *)name, length, TEXT("old"), NULL, 0);
+    }
+    return told < MST_ABSENT ? told : MST_OK;
 }
 
 int main(void) {
     mst_pass ours = MST_PASS_CLOSED, theirs = MST_PASS_CLOSED;
 
-    if (mst_open(1, 100, &ours, 1) != MST_OK || mst_open(1, 100, &theirs, 1) != MST_OK)
+    if (fill(&ours, 5000) != MST_OK || fill(&theirs, 5000) != MST_OK)
         return 1;
-    mst_put(&ours, TEXT("apple"), TEXT("30"), NULL, 0);
-    mst_put(&ours, TEXT("plum"), TEXT("12"), NULL, 0);
-    mst_put(&theirs, TEXT("plum"), TEXT("12"), NULL, 0);
-    mst_put(&theirs, TEXT("apple"), TEXT("30"), NULL, 0);
-    printf("equal: %s\n", is_equal(&ours, &theirs));
-    mst_put(&theirs, TEXT("apple"), TEXT("35"), NULL, 0);
-    mst_put(&theirs, TEXT("pear"), TEXT("20"), NULL, 0);
+    int32_t told = compare(&ours, &theirs);
+    mst_put(&theirs, TEXT("user 42"), TEXT("new"), NULL, 0);
+    mst_remove(&theirs, TEXT("user 99"), NULL, 0);
+    mst_put(&theirs, TEXT("user 5000"), TEXT("new"), NULL, 0);
     mst_pin(&ours); /* so that neither changes on the way */
     mst_pin(&theirs);
-    printf("equal: %s\n", is_equal(&ours, &theirs));
-    int32_t told = tell_differing("ours", &ours, &theirs);
     if (told == MST_OK)
-        told = tell_differing("theirs", &theirs, &ours);
-    if (told != MST_OK) /* only if memory is refused: the room is long enough */
+        told = compare(&ours, &theirs);
+    if (told != MST_OK) /* a piece was not that of the root digest, or memory was refused */
         fprintf(stderr, "%s\n", mst_error_text(told));
     mst_close(&ours); /* ends its pin too */
     mst_close(&theirs);

@@ -18,7 +18,7 @@ enum {
     LONGEST_WRITE = 2000               /* microseconds; less than a batch here takes */
 };
 
-/* The program's own list, since no call lists pins: by pass who pins which version, since when. */
+/* The program's own list, since no call tells who pins: by pass, which version, since when. */
 static struct entry { const char *who; uint64_t version; time_t since; } pins[PASSES];
 static pthread_mutex_t pins_lock = PTHREAD_MUTEX_INITIALIZER;
 

@@ -13,7 +13,7 @@ LONGEST_WRITE = 0.002  # seconds; less than a batch here takes
 
 
 class Pins:
-    """The program's own list, since no call lists pins: who pins which version, since when."""
+    """The program's own list, since no call tells who pins: who pins which version, since when."""
 
     def __init__(self):
         self._entries, self._lock = {}, threading.Lock()

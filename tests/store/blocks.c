@@ -1,6 +1,6 @@
 /*
  * Blocks of a sharded map: openings that are refused, splits that are none, closed hands and wrong
- * states, blocks that are refused and leave all as it was, and each order of closing.
+ * states, free rows, blocks that are refused and leave all as it was, and each order of closing.
  */
 #include "blocks.h"
 
@@ -118,6 +118,7 @@ static void closed_hands(void) {
     mst_handle hand = MST_HANDLE_CLOSED;
     uint8_t before[64];
     size_t told = 77;
+    uint32_t rows = 77;
     memset(room, 0xA5, sizeof room);
     memcpy(before, room, sizeof room);
     length = 0, place = shard = 77, number = 77;
@@ -125,6 +126,7 @@ static void closed_hands(void) {
     EXPECT(made_by(&hand) == MST_CLOSED && place == 77 && shard == 77);
     EXPECT(mst_sharded_number(&hand, &number) == MST_CLOSED && number == 77);
     EXPECT(mst_sharded_len(&hand, &number) == MST_CLOSED && number == 77);
+    EXPECT(mst_sharded_free_rows(&hand, 0, &rows) == MST_CLOSED && rows == 77);
     EXPECT(mst_sharded_shards(&hand) == MST_CLOSED);
     EXPECT(mst_sharded_try_snapshot(&hand) == MST_CLOSED);
     EXPECT(mst_sharded_snapshot(&hand) == MST_CLOSED);
@@ -158,8 +160,11 @@ static void answers_nothing(mst_handle *hand) {
     EXPECT(mst_sharded_directory(hand, room, 64, &told, &told) == MST_WRONG_STATE && told == 77);
 }
 
-/* A hand that does not hold the writer makes no block. */
+/* A hand that does not hold the writer makes no block, and counts no rows. */
 static void makes_nothing(mst_handle *hand) {
+    uint32_t rows = 77;
+    EXPECT(mst_sharded_free_rows(hand, 0, &rows) == MST_WRONG_STATE);
+    EXPECT(mst_sharded_free_rows(hand, SIZE_MAX, &rows) == MST_WRONG_STATE && rows == 77);
     length = 0, place = shard = 77, number = 77;
     puts_edit("a", "9");
     EXPECT(made_by(hand) == MST_WRONG_STATE && place == 77 && shard == 77 && number == 77);
@@ -255,6 +260,50 @@ static void directories(void) {
     begins = mst_pair_at(pairs, begins, &pair);
     EXPECT(pair.key_length == 2 && pair.value_length == 32 && begins == bytes);
     EXPECT(mst_sharded_close(&hands[0]) == MST_OK && mst_sharded_close(&hands[1]) == MST_OK);
+}
+
+/* ---- free rows ---- */
+
+static int has_free(mst_handle *writer, size_t of, uint32_t wanted) {
+    uint32_t rows = 77;
+    return mst_sharded_free_rows(writer, of, &rows) == MST_OK && rows == wanted;
+}
+
+/* A block of one put, of a key of one shard. */
+static void puts_one(mst_handle *writer, const char *key, const char *value) {
+    length = 0;
+    puts_edit(key, value);
+    EXPECT(made_by(writer) == MST_OK);
+}
+
+/*
+ * The splits are b and m. A lone pair takes two rows in its shard, and two more while a snapshot
+ * keeps those of another value; the other shards are as they were. The directory holds one version,
+ * and beside a snapshot some rows of another.
+ */
+static void free_rows(uint32_t format) {
+    mst_handle hands[2] = {MST_HANDLE_CLOSED, MST_HANDLE_CLOSED};
+    mst_handle *writer = &hands[0], *reader = &hands[1];
+    uint32_t of_directory = 0, beside = 77;
+    EXPECT(mst_sharded_open(format, 64, TEXT("\1b\1m"), hands, 2) == MST_OK);
+    EXPECT(has_free(writer, 0, 64) && has_free(writer, 1, 64) && has_free(writer, 2, 64));
+    EXPECT(mst_sharded_free_rows(writer, 3, &of_directory) == MST_OK && of_directory > 0);
+    puts_one(writer, "c", "1");
+    EXPECT(has_free(writer, 0, 64) && has_free(writer, 1, 62) && has_free(writer, 2, 64));
+    EXPECT(has_free(writer, 3, of_directory) && has_number(writer, 1) && has(writer, "c", "1"));
+    EXPECT(mst_sharded_snapshot(reader) == MST_OK && has_free(writer, 1, 62));
+    puts_one(writer, "c", "2");
+    puts_one(writer, "z", "1");
+    EXPECT(has_free(writer, 0, 64) && has_free(writer, 1, 60) && has_free(writer, 2, 62));
+    EXPECT(mst_sharded_free_rows(writer, 3, &beside) == MST_OK && beside < of_directory);
+    EXPECT(has_number(reader, 1) && has(reader, "c", "1") && has(reader, "z", NULL));
+    EXPECT(mst_sharded_release(reader) == MST_OK);
+    EXPECT(has_free(writer, 1, 62) && has_free(writer, 3, of_directory));
+    EXPECT(mst_sharded_free_rows(writer, 4, &beside) == MST_ABSENT);
+    EXPECT(mst_sharded_free_rows(writer, SIZE_MAX, &beside) == MST_ABSENT && beside < of_directory);
+    EXPECT(has_number(writer, 3) && has(writer, "c", "2") && has(writer, "z", "1"));
+    EXPECT(mst_sharded_snapshot(reader) == MST_OK && have_one_root(writer, reader));
+    EXPECT(mst_sharded_close(writer) == MST_OK && mst_sharded_close(reader) == MST_OK);
 }
 
 /* ---- blocks that are refused ---- */
@@ -355,6 +404,8 @@ int main(void) {
     wrong_states();
     edits_of_one_key();
     directories();
+    free_rows(1);
+    free_rows(2);
     a_shard_without_rows();
     bad_edits();
     return ended("blocks");

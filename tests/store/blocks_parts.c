@@ -102,11 +102,13 @@ static void by_threads(uint32_t blocks) {
 static int serves_nothing(mst_handle *by, int is_block) {
     uint8_t rooms[2][MST_VALUE_LONGEST];
     size_t count = 77, told = 77;
+    uint32_t rows = 77;
     mst_sharded_group *group = NULL;
     const void *held = by->at;
     int is = mst_sharded_shards(by) == MST_WRONG_STATE
         && mst_sharded_number(by, &number) == MST_WRONG_STATE
         && mst_sharded_len(by, &number) == MST_WRONG_STATE && number == 77
+        && mst_sharded_free_rows(by, 0, &rows) == MST_WRONG_STATE && rows == 77
         && mst_sharded_try_snapshot(by) == MST_WRONG_STATE
         && mst_sharded_snapshot(by) == MST_WRONG_STATE
         && mst_sharded_release(by) == MST_WRONG_STATE

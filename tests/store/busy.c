@@ -80,6 +80,9 @@ static void each_is_refused(void) {
     EXPECT(mst_try_apply(pinned, edits, length, &place) == MST_WRONG_STATE);
     EXPECT(mst_rows(other, &rows) == MST_BUSY && rows == 77);
     EXPECT(mst_free_rows(other, &rows) == MST_BUSY && rows == 77);
+    place = 77;
+    EXPECT(mst_pinned_versions(other, NULL, 0, &place) == MST_BUSY && place == 77);
+    EXPECT(mst_pinned_versions(pinned, NULL, 0, &place) == MST_WRONG_STATE && place == 77);
 }
 
 static void keeps_root_and_proof(mst_pass *pass) {

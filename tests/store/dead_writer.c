@@ -61,10 +61,12 @@ static void no_write_is_made(void) {
     EXPECT(mst_try_migrate(free_pass, 2) == MST_BUSY);
 }
 
-/* Counts need the turn too. */
+/* Counts need the turn too, and so does the list of pinned versions. */
 static void no_count_is_told(void) {
     uint32_t rows = 0;
+    size_t count = 0;
     EXPECT(mst_free_rows(free_pass, &rows) == MST_BUSY && mst_rows(free_pass, &rows) == MST_BUSY);
+    EXPECT(mst_pinned_versions(free_pass, NULL, 0, &count) == MST_BUSY);
 }
 
 /* The pairs of the pinned version go into a new store, which has its root digest and is written. */

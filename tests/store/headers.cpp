@@ -14,6 +14,8 @@ mst_handle five = MST_HANDLE_CLOSED;
 
 // Declared first, since a compiler may want that too.
 int32_t each_call(uint8_t *room, size_t length);
+extern "C" int32_t ask(void *, const uint8_t *, size_t, uint32_t, const uint8_t **, size_t *);
+extern "C" int32_t tell(void *, const mst_difference *);
 
 int32_t each_call(uint8_t *room, size_t length) {
     mst_pair pair = mst_pair();
@@ -34,6 +36,9 @@ int32_t each_call(uint8_t *room, size_t length) {
     told += mst_sharded_apply_in_threads(&three, room, length, 4, &place, &end, &number);
     told += mst_sharded_group_apply(four, room, length, &place, &end, &number);
     told += mst_sharded_group_close(four, &three);
+    const uint8_t *piece;
+    told += mst_proof_piece(room, length, 0, &piece, &place);
+    told += mst_differing(&one, room, length, ask, tell, room);
     told += mst_verify(1, room, 32, room, length, room, length, room, length);
     return told + MST_SHARDED_TEST(told) + MST_PART_TEST(told) + MST_VERSION_NUMBER;
 }

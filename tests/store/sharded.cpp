@@ -208,7 +208,10 @@ void openings() {
 #if __cplusplus >= 202002L
     EXPECT(mst::sharded::open({.rows = 16, .splits = {"m"}}).writer.shards() == 2);
 #endif
-    EXPECT(mst::sharded::open({16, 0, {"m"}}).writer.apply(mst::batch().put("a", "1")) == 1);
+    auto writer = mst::sharded::open({16, 0, {"m"}}).writer;
+    EXPECT(writer.apply(mst::batch().put("a", "1")) == 1);
+    EXPECT(writer.free_rows(0) == 14u && writer.free_rows(1) == 16u && writer.free_rows(2) > 0u);
+    EXPECT(writer.free_rows(3) == std::nullopt);
     EXPECT(mst::overtaken(3).code() == MST_OVERTAKEN && mst::overtaken(3).shard() == 3);
 }
 

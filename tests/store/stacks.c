@@ -65,6 +65,30 @@ static void *applies(void *unused) {
     return unused;
 }
 
+/* ---- another map ---- */
+
+static mst_pass another = MST_PASS_CLOSED;
+static uint8_t root[MST_ROOT_LENGTH];
+
+static int32_t ask(void *with, const uint8_t *key, size_t key_length, uint32_t number,
+                   const uint8_t **piece, size_t *piece_length) {
+    (void)with;
+    int32_t made = mst_prove(&another, key, key_length, room, sizeof room, &length);
+    return made != MST_OK ? made : mst_proof_piece(room, length, number, piece, piece_length);
+}
+
+static int32_t tell(void *with, const mst_difference *difference) {
+    (void)with, (void)difference;
+    count++;
+    return MST_OK;
+}
+
+static void *differs(void *unused) {
+    count = 0;
+    told = mst_differing(&pass, root, sizeof root, ask, tell, NULL);
+    return unused;
+}
+
 /* ---- a sharded map ---- */
 
 static mst_handle hands[2] = {MST_HANDLE_CLOSED, MST_HANDLE_CLOSED};
@@ -166,12 +190,17 @@ static void blocks(void) {
     EXPECT(mst_sharded_close(&hands[0]) == MST_OK && mst_sharded_close(&hands[1]) == MST_OK);
 }
 
-int main(void) {
-    EXPECT(mst_open(1, MST_ROWS_MOST, &pass, 1) == MST_OK);
+static void fill(mst_pass *to) {
+    EXPECT(mst_open(1, MST_ROWS_MOST, to, 1) == MST_OK);
     for (uint64_t number = 0; number < KEYS; number += BATCH) {
         fill_batch(number, BATCH);
-        EXPECT(mst_apply(&pass, edits, edits_length, &place) == MST_OK);
+        EXPECT(mst_apply(to, edits, edits_length, &place) == MST_OK);
     }
+}
+
+int main(void) {
+    fill(&pass);
+    fill(&another);
     for (int formats = 0; formats < 2; formats++) {
         tells("get", gets);
         tells("next", nexts);
@@ -179,17 +208,20 @@ int main(void) {
         tells("prove", proves);
         tells("put", puts_one);
         tells("remove", removes);
+        EXPECT(mst_root(&another, root, sizeof root) == MST_ROOT_LENGTH);
+        tells("differing", differs);
+        EXPECT(count == 50);
         fill_batch(0, 10);
         tells("a batch of 10", applies);
         fill_batch(0, BATCH);
         tells("a batch of 1,000", applies);
         migrates(NULL);
-        EXPECT(told == formats + 1);
+        EXPECT(told == formats + 1 && mst_migrate(&another, 2) == formats + 1);
     }
     size_t alone = stack_of(no_call), migration = stack_of(migrates) - alone;
     EXPECT(migration < LIMIT);
     printf("migrate: %zu bytes\n", migration);
-    EXPECT(mst_close(&pass) == MST_OK);
+    EXPECT(mst_close(&pass) == MST_OK && mst_close(&another) == MST_OK);
     blocks();
     return ended("stacks");
 }

@@ -15,6 +15,8 @@ static void closed_hands(mst_pass *pass) {
     EXPECT(mst_format(pass) == MST_CLOSED);
     EXPECT(mst_rows(pass, &rows) == MST_CLOSED);
     EXPECT(mst_free_rows(pass, &rows) == MST_CLOSED && mst_made(pass, &version) == MST_CLOSED);
+    EXPECT(mst_pinned_versions(pass, &version, 1, &length) == MST_CLOSED);
+    EXPECT(mst_pinned_versions(pass, NULL, 0, &length) == MST_CLOSED);
     EXPECT(mst_try_put(pass, TEXT("a"), TEXT("1"), room, sizeof room) == MST_CLOSED);
     EXPECT(mst_try_put(pass, NULL, 0, long_bytes, 65, room, sizeof room) == MST_CLOSED);
     EXPECT(mst_put(pass, TEXT("a"), TEXT("1"), room, sizeof room) == MST_CLOSED);

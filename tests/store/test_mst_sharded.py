@@ -193,6 +193,24 @@ class Blocks(unittest.TestCase):
         (writer,) = open_sharded(rows=16, splits=[b"m"])
         self.assertEqual(writer.apply([(b"a", b"1")]), 1)
 
+    def test_free_rows(self):
+        writer, reader = open_sharded(rows=16, readers=1, splits=[b"m"])
+        listed = writer.free_rows(2)
+        self.assertEqual((writer.free_rows(0), writer.free_rows(1)), (16, 16))
+        writer.apply([(b"a", b"1")])
+        # the pair and its node, and no more in the directory, which listed the shard before
+        self.assertEqual([writer.free_rows(at) for at in range(3)], [14, 16, listed])
+        with reader.snapshot():
+            writer.apply([(b"a", b"2")])
+            self.assertEqual((writer.free_rows(0), writer.free_rows(1)), (12, 16))
+            self.assertLess(writer.free_rows(2), listed)
+        self.assertEqual([writer.free_rows(at) for at in range(3)], [14, 16, listed])
+        for shard in (3, -1, 2**40):
+            self.assertIsNone(writer.free_rows(shard))
+        self.assertRaises(TypeError, writer.free_rows, "0")
+        writer.close()
+        self.refused(mst_store.CLOSED, writer.free_rows, 0)
+
     def test_calls_that_are_refused(self):
         writer, reader = open_sharded(rows=16, readers=1, splits=[b"m"])
         self.refused(mst_store.BAD_KEY, reader.get, b"")

@@ -145,6 +145,43 @@ class Rows(Case):
             self.assertEqual(one.free_rows(), 1)
 
 
+class PinnedVersions(Case):
+    def test_a_version_that_is_pinned_is_listed_once(self):
+        one, other, third = open_store(rows=32, passes=3)
+        self.assertEqual(one.pinned_versions(), [])
+        self.assertIsNone(one.try_put(b"a", b"1"))
+        with other.pin():
+            # the current version, if it is pinned
+            self.assertEqual(one.pinned_versions(), [1])
+            with third.pin():
+                self.assertEqual(one.pinned_versions(), [1])
+            self.assertEqual(one.try_put(b"a", b"2"), b"1")
+            self.assertEqual((one.pinned_versions(), third.pinned_versions()), ([1], [1]))
+            with third.pin():
+                self.assertEqual(one.pinned_versions(), [1, 2])
+        self.assertEqual(one.pinned_versions(), [])
+
+    def test_nothing_changes(self):
+        one, other = open_store(rows=5, passes=2)
+        self.assertIsNone(one.try_put(b"a", b"1"))
+        with other.pin() as then:
+            self.assertEqual(one.try_put(b"a", b"2"), b"1")
+            root, free = one.root(), one.free_rows()
+            for _ in range(3):
+                self.assertEqual(one.pinned_versions(), [1])
+            self.assertEqual((one.root(), one.free_rows(), one.version()), (root, free, 2))
+            self.assertEqual((then.get(b"a"), one.made()), (b"1", 2))
+
+    def test_a_pin_that_was_forgotten_is_found(self):
+        one, other, third = open_store(rows=64, passes=3)
+        self.assertIsNone(one.try_put(b"a", b"1"))
+        other.pin()
+        for _ in range(5):
+            one.try_put(b"a", b"2")
+            with third.pin() as then:
+                self.assertEqual(one.pinned_versions(), [1, then.version()])
+
+
 class Made(Case):
     def test_a_pass_knows_the_version_that_it_made(self):
         one, other = open_store(rows=32, passes=2)

@@ -131,6 +131,7 @@ class Refusals(unittest.TestCase):
         with reader.pin():
             self.refused(mst_store.ROWS_PINNED, writer.rows)
             self.refused(mst_store.WRONG_STATE, reader.free_rows)
+            self.refused(mst_store.WRONG_STATE, reader.pinned_versions)
             free = writer.free_rows()
         self.assertEqual(writer.rows(), 8 - free)
 
@@ -145,7 +146,8 @@ class Refusals(unittest.TestCase):
         with one() as store:
             store.put(b"key", b"")
         for call in (lambda: store.get(b"key"), store.next, store.range, store.root, store.version,
-                     store.rows, lambda: store.prove(b"key"), lambda: store.put(b"key", b""),
+                     store.rows, store.pinned_versions,
+                     lambda: store.prove(b"key"), lambda: store.put(b"key", b""),
                      lambda: store.remove(b"key"), store.format, store.len,
                      lambda: store.migrate(2),
                      lambda: store.try_migrate(3), lambda: store.apply([(b"", b"")]),

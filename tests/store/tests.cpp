@@ -280,6 +280,8 @@ static void pins(mst::pass &writer, mst::pass &reader) {
     writer.put("a", "newer");
     // the pinned version holds rows that the writer's does not
     EXPECT(writer.free_rows().value() < free && writer.made() == writer.version());
+    EXPECT(writer.pinned_versions().value() == std::vector<std::uint64_t>{version});
+    EXPECT(code_of([&] { reader.pinned_versions(); }) == MST_WRONG_STATE);
     EXPECT(then.get("a") == "one" && then.root() == root && then.version() == version);
     EXPECT(then.range("", "", 9).front().second == "one");
     EXPECT(verified(then, "a") == 3);
@@ -289,6 +291,7 @@ static void pins(mst::pass &writer, mst::pass &reader) {
     EXPECT(code_of([&] { reader.get("a"); }) == MST_CLOSED);
     moved_pin.unpin();
     EXPECT(code_of([&] { moved_pin.get("a"); }) == MST_CLOSED);
+    EXPECT(writer.pinned_versions().value().empty());
     EXPECT(moved.get("a") == "newer");
     reader = std::move(moved);
 }

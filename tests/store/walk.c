@@ -26,13 +26,14 @@ static const char *const names[KINDS] = {
     [PUT] = "puts", [REMOVE] = "removes", [BATCH] = "batches", [MIGRATION] = "migrations",
     [WITHOUT_ROOM] = "writes without room", [GET] = "gets", [NEXT] = "nexts", [RANGE] = "ranges",
     [PAGE] = "pages", [PROOF] = "proofs", [VERSION] = "versions", [MADE] = "versions made",
-    [LENGTH] = "lengths", [FORMAT] = "formats", [TAKEN_ROWS] = "rows", [FREE_ROWS] = "free rows", [PIN] = "pins",
-    [UNPIN] = "unpins", [WRONG_STATE] = "calls in a wrong state", [ROOT] = "roots",
+    [LENGTH] = "lengths", [FORMAT] = "formats", [TAKEN_ROWS] = "rows", [FREE_ROWS] = "free rows",
+    [PINNED] = "pinned versions", [PIN] = "pins", [UNPIN] = "unpins",
+    [WRONG_STATE] = "calls in a wrong state", [ROOT] = "roots",
 };
 
 static unsigned long counts[KINDS];
 
-/* ---- counts of rows ---- */
+/* ---- counts of rows, and pinned versions ---- */
 
 /* The rows of the map: counted exactly if no version is pinned. */
 static enum kind ask_rows(int hand) {
@@ -57,6 +58,36 @@ static enum kind ask_free_rows(int hand) {
     EXPECT(told == MST_OK);
     EXPECT(pins > 0 ? rows <= ROWS - now.count : rows == ROWS - whole_of(&now)->rows);
     return FREE_ROWS;
+}
+
+/* The versions that hands pin, in rising order, each once. */
+static size_t list_pinned(uint64_t *versions) {
+    size_t count = 0;
+    for (int hand = 0; hand < HANDS; hand++) {
+        uint64_t version = hands[hand].pinned.changes;
+        size_t at = 0;
+        while (at < count && versions[at] < version)
+            at++;
+        if (!hands[hand].is_pinned || (at < count && versions[at] == version))
+            continue;
+        memmove(&versions[at + 1], &versions[at], (count - at) * sizeof *versions);
+        versions[at] = version;
+        count++;
+    }
+    return count;
+}
+
+static enum kind ask_pinned(int hand) {
+    uint64_t versions[MST_PASSES_MOST] = {UNTOUCHED}, wanted[HANDS];
+    size_t found = UNTOUCHED, count = list_pinned(wanted);
+    int32_t told = mst_pinned_versions(&passes[hand], versions, MST_PASSES_MOST, &found);
+    if (hands[hand].is_pinned) {
+        EXPECT(told == MST_WRONG_STATE && found == UNTOUCHED && versions[0] == UNTOUCHED);
+        return WRONG_STATE;
+    }
+    EXPECT(told == MST_OK && found == count);
+    EXPECT(memcmp(versions, wanted, count * sizeof *wanted) == 0);
+    return PINNED;
 }
 
 /* ---- writes ---- */
@@ -192,12 +223,13 @@ static enum kind migrate_or_read(int hand) {
 
 /* A call that a pinned hand is refused. */
 static enum kind refused_once(int hand) {
-    switch (choose(6)) {
+    switch (choose(7)) {
     case 0: return change_once(hand, 0);
     case 1: return change_once(hand, 1);
     case 2: return apply_once(hand);
     case 3: return migrate_or_read(hand);
     case 4: return ask_rows(hand);
+    case 5: return ask_pinned(hand);
     default: return ask_free_rows(hand);
     }
 }
@@ -220,7 +252,8 @@ static enum kind step_free(int hand) {
     case 39: return ask_rows(hand);
     case 40: return ask_free_rows(hand);
     case 41: return migrate_or_read(hand);
-    default: return choice < 44 ? apply_once(hand) : read_once(hand);
+    case 42: return ask_pinned(hand);
+    default: return choice < 45 ? apply_once(hand) : read_once(hand);
     }
 }
 

@@ -5,7 +5,7 @@ import sys
 
 from .canvas import Canvas
 from .curves import Plot, apart, scale
-from .figures import measured
+from .figures import measured, page_of, row
 from .maps import TOP
 
 LEFT, ACROSS, NEXT, UPPER, LOWER = 104, 190, 386, 346, 706
@@ -56,13 +56,12 @@ def shown(nanoseconds):
 
 def see_that_the_page_tells_them(found):
     """Refuses figures of which docs/LIMITS.md has others."""
-    with open(os.path.join(TOP, "docs", "LIMITS.md"), encoding="utf-8") as file:
-        page = file.read()
+    page = page_of("LIMITS.md")
     for call, kinds in found.items():
         for keys in sorted(kinds["random"]):
             each = [kinds[kind][keys] for kind in ("random", "chosen", "tagged", "hashed")]
             cells = [f"{it:,}" if call == "proof bytes" else shown(it) for it in each]
-            if f"| {' | '.join(cells)} |" not in page:
+            if f"| {row(*cells)}\n" not in page:
                 sys.exit(f"docs/LIMITS.md has other figures of {call} at {keys:,} keys than "
                          "docs/pictures/chosen.tsv")
 

@@ -26,7 +26,7 @@ ALONE = "Puts in batches come from another program; a batch of 1 is a single put
 CONDITIONS = "One thread, random keys of 16 bytes, values of 32; the store in format 1."
 # What the page says of one figure.
 UNCERTAIN = (
-    "The store's put in batches of 1,000, at 1,000 keys, is uncertain: another program told 868."
+    "The store's put in batches of 1,000 at 30,000 keys is uncertain: another program told 10,100."
 )
 # The heads of the tables that are drawn: what the page says above them is said below the picture.
 HEADS = {"Nanoseconds of": "times by keys", "nanoseconds, 1,000 keys": "batches"}

@@ -26,7 +26,33 @@ def figures():
     return found
 
 
-PAGE = os.path.join(TOP, "docs", "SPEED.md")
+def cells_of(line):
+    """The cells of a row of a table, which may have pipes at its ends."""
+    return [it.strip() for it in line.strip().strip("|").split("|")]
+
+
+def row(*cells):
+    """A row of a table as pages have it: without pipes at its ends."""
+    return "| ".join(cells)
+
+
+def rule(columns):
+    """The line below the head of a table."""
+    return "|".join(["---"] * columns)
+
+
+def page_of(name):
+    """The text of a page of docs/, each row of its tables as `row` writes it."""
+    with open(os.path.join(TOP, "docs", name), encoding="utf-8") as file:
+        lines = file.read().split("\n")
+    for place, line in enumerate(lines):
+        if line.startswith("|"):
+            cells = cells_of(line)
+            lines[place] = rule(len(cells)) if set(line) <= set("|-: ") else row(*cells)
+    return "\n".join(lines)
+
+
+PAGE = "SPEED.md"
 
 
 def batches():
@@ -34,20 +60,19 @@ def batches():
     engine: the nanoseconds of a put in batches, by how many puts a batch has. A put that is alone
     is a batch of one."""
     found, keys, engines = {}, None, []
-    with open(PAGE, encoding="utf-8") as file:
-        for line in file:
-            first, *cells = [it.strip() for it in line.strip().strip("|").split("|")]
-            head = re.fullmatch(r"nanoseconds, ([\d,]+) keys", first)
-            size = re.fullmatch(r"put of a batch of ([\d,]+)", first)
-            if head:
-                keys, engines = whole(head[1]), cells
-            elif size and keys:
-                for engine, cell in zip(engines, cells):
-                    if cell != "none":
-                        times = found.setdefault(keys, {}).setdefault(engine, {})
-                        times[whole(size[1])] = whole(cell)
-            elif not line.strip():
-                keys = None
+    for line in page_of(PAGE).split("\n"):
+        first, *cells = cells_of(line)
+        head = re.fullmatch(r"nanoseconds, ([\d,]+) keys", first)
+        size = re.fullmatch(r"put of a batch of ([\d,]+)", first)
+        if head:
+            keys, engines = whole(head[1]), cells
+        elif size and keys:
+            for engine, cell in zip(engines, cells):
+                if cell != "none":
+                    times = found.setdefault(keys, {}).setdefault(engine, {})
+                    times[whole(size[1])] = whole(cell)
+        elif not line:
+            keys = None
     alone = figures()["put"]
     for keys, engines in found.items():
         for engine, times in engines.items():
@@ -63,11 +88,9 @@ EARLIER = ", of an earlier library"
 def measured(name, *heads):
     """When the figures below each of these heads on this page of docs/ were measured: the day, the
     commit, and whether the library was an earlier one. The page alone says the rest."""
-    lines = []
-    with open(os.path.join(TOP, "docs", name), encoding="utf-8") as file:
-        page = file.read()
+    lines, page = [], page_of(name)
     for head in heads:
-        *above, _ = page.split(f"\n| {head} |")
+        *above, _ = page.split(f"\n{head}|")
         if not above or "\n" + MEASURED not in above[0]:
             sys.exit(f"docs/{name} does not say when '{head}' was measured")
         for place in range(len(above)):
@@ -99,16 +122,12 @@ def whole(text):
     return int(text.replace(",", ""))
 
 
-def row(*cells):
-    return f"| {' | '.join(cells)} |"
-
-
 def table():
     """The table of docs/SPEED.md: a row for each call and number of keys, a column for each engine
     that has figures."""
     found = figures()
     engines = [it for it in ENGINES if any(it in times for times in found.values())]
-    lines = [row("Nanoseconds of", "keys", *engines), row(*["---"] * (2 + len(engines)))]
+    lines = [row("Nanoseconds of", "keys", *engines), rule(2 + len(engines))]
     for call, times in found.items():
         for keys in sorted({keys for each in times.values() for keys in each}):
             known = [times.get(it, {}).get(keys) for it in engines]
@@ -119,7 +138,6 @@ def table():
 
 def see_that_the_page_tells_them():
     """Refuses figures of which docs/SPEED.md has another table."""
-    with open(PAGE, encoding="utf-8") as file:
-        if table() + "\n" not in file.read():
-            sys.exit("'Time' in docs/SPEED.md and docs/pictures/engines.tsv tell other figures: "
-                     "tools/draw --table prints the table of the latter")
+    if table() + "\n" not in page_of(PAGE):
+        sys.exit("'Time' in docs/SPEED.md and docs/pictures/engines.tsv tell other figures: "
+                 "tools/draw --table prints the table of the latter")

@@ -4,14 +4,15 @@ import re
 import sys
 
 from .canvas import DARK_GREY, INK, LIGHT_GREY, TINT, Canvas
-from .figures import measured, whole
+from .figures import cells_of, measured, page_of, whole
 from .sizes import PAGE
 
 LEFT, RIGHT, UPPER, LOWER, MOST = 92, 1180, 76, 396, 80
 # The head of the table, by its first cell.
 HEAD = "Edits"
-# A cell with two times.
+# The cells of a row: edits, and twice two times.
 TWO = r"([\d.]+) \(([\d.]+)\)"
+ROW = rf"([\d,]+) {TWO} {TWO}"
 TITLE = "In a block of {:,} an edit takes {:.2f} of the time of an edit alone (medians)"
 # What was measured, by the page.
 CONDITIONS = "1,000,000 keys, 32 shards, format 1."
@@ -26,12 +27,11 @@ WAYS = [
 
 def times():
     """By the number of edits: the microseconds of one, for each way."""
-    with open(PAGE, encoding="utf-8") as file:
-        _, found, table = file.read().partition(f"\n| {HEAD} |")
+    _, found, table = page_of(PAGE).partition(f"\n{HEAD}|")
     if not found:
         sys.exit("docs/OPERATING.md has no table of blocks by their edits")
     for line in table.split("\n")[2:]:
-        cells = re.fullmatch(rf"\| ([\d,]+) \| {TWO} \| {TWO} \|", line)
+        cells = re.fullmatch(ROW, " ".join(cells_of(line)))
         if not cells:
             break
         edits = whole(cells[1])

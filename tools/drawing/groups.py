@@ -5,7 +5,7 @@ import re
 from .maps import TOP
 
 PAGE = os.path.join("docs", "ARCHITECTURE.md")
-HEAD = "| Group | Crates | Depends on"
+HEAD = "Group| Crates| Depends on"
 # What the table calls the crates of no group.
 LAST = "at the top"
 
@@ -17,8 +17,8 @@ def told():
     first = next(at for at, line in enumerate(lines) if line.startswith(HEAD)) + 2
     found = {}
     for line in lines[first:]:
-        if not line.startswith("|"):
+        if "|" not in line:
             break
-        name, crates, below = (cell.strip() for cell in line.strip("|").split("|"))
+        name, crates, below = (cell.strip() for cell in line.split("|"))
         found[name] = (re.findall(r"`(\w+)`", crates), below)
     return found

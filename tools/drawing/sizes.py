@@ -1,13 +1,11 @@
 """How many rows a shard needs, part by part: the worked example of docs/OPERATING.md."""
-import os
 import re
 import sys
 
 from .canvas import DARK_GREY, INK, LIGHT_GREY, TINT, Canvas, width_of
-from .figures import measured, whole
-from .maps import TOP
+from .figures import cells_of, measured, page_of, whole
 
-PAGE = os.path.join(TOP, "docs", "OPERATING.md")
+PAGE = "OPERATING.md"
 # The head of the page's table of measurements.
 HEAD = "shards"
 # The rows of the page's table that are drawn, by how they begin.
@@ -27,18 +25,18 @@ TITLE = "Most rows of a shard are for pinned versions"
 OPENED = "the rows to open it with, at least a ninth more than it needs"
 
 
-def cells_of(page, first):
+def numbers_of(page, first):
     """The numbers of a row of the table: of each cell the first."""
     for line in page.split("\n"):
-        name, *cells = [it.strip() for it in line.strip("|").split("|")]
-        if line.startswith("|") and name.startswith(first):
+        name, *cells = cells_of(line)
+        if cells and name.startswith(first):
             return [whole(re.match(r"[\d,]+", it.strip("*"))[0]) for it in cells]
     sys.exit(f"docs/OPERATING.md has no row '{first}' in its worked example")
 
 
 def used_at_most(page, shards):
     """The rows in use at most, by the table of measurements."""
-    found = re.search(rf"\n\| {shards} \| [\d,]+ \| ([\d,]+) \|", page)
+    found = re.search(rf"\n{shards}\| [\d,]+\| ([\d,]+)\|", page)
     if not found:
         sys.exit(f"docs/OPERATING.md has no measurement of {shards} shards")
     return whole(found[1])
@@ -46,14 +44,13 @@ def used_at_most(page, shards):
 
 def example():
     """Of each number of shards: the rows of the map and of a write, of all, and of the store."""
-    with open(PAGE, encoding="utf-8") as file:
-        _, found, page = file.read().partition("\n### A worked example\n")
+    _, found, page = page_of(PAGE).partition("\n### A worked example\n")
     if not found:
         sys.exit("docs/OPERATING.md has no worked example")
-    heads = re.search(r"\n\| \|((?: \d+ shards \|)+)\n", page)[1]
+    heads = re.search(r"\n[^|\n]*((?:\| \d+ shards)+)\n", page)[1]
     shards = [whole(it) for it in re.findall(r"(\d+) shards", heads)]
     for number, rows, write, all_rows, opened in zip(
-        shards, *(cells_of(page, first) for first in (MAP, WRITE, ROWS, OPEN))
+        shards, *(numbers_of(page, first) for first in (MAP, WRITE, ROWS, OPEN))
     ):
         if (1 + LONG) * rows + (1 + SHORT) * write != all_rows:
             sys.exit(f"docs/OPERATING.md: the rows of {number} shards are not 4 M + 2 W")

@@ -4,7 +4,7 @@ import os
 import sys
 
 from .canvas import DARK_GREY, INK, LIGHT_GREY, TINT, Canvas
-from .figures import measured_each, row
+from .figures import measured_each, page_of, row
 from .maps import TOP
 
 UPPER, LOWER = 76, 450
@@ -40,12 +40,6 @@ def figures():
             who, how, threads, calls, beside = line.rstrip("\n").split("\t")
             found[who].setdefault(how, {})[int(threads)] = (int(calls), beside)
     return found
-
-
-def told():
-    """The text of the page that has the figures as tables."""
-    with open(os.path.join(TOP, "docs", "STORE_C.md"), encoding="utf-8") as file:
-        return file.read()
 
 
 def see_that_the_page_tells_them(found, page):
@@ -119,7 +113,7 @@ def draw_legend(canvas, left, ways, found):
 
 
 def picture():
-    found, page = figures(), told()
+    found, page = figures(), page_of("STORE_C.md")
     see_that_the_page_tells_them(found, page)
     below = LOWER + 80 + 30 * (1 + max(len(each) for each in found.values()))
     lines = [*measured_each("STORE_C.md", HEADS), CONDITIONS]

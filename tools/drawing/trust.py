@@ -57,9 +57,10 @@ def lines_to_read():
 
 
 def lines_of_c():
-    """How many lines the C files of the library have, without empty ones."""
-    found = 0
-    for path in glob.glob(os.path.join(TOP, "bindings", "*.c")):
+    """How many lines the C files of the library have, without empty ones: the verifier by hand is
+    part of one of them."""
+    found, by_hand = 0, os.path.join(TOP, "verifiers", "c", "mst_verifier.c")
+    for path in [*glob.glob(os.path.join(TOP, "bindings", "*.c")), by_hand]:
         with open(path, encoding="utf-8") as file:
             found += sum(line != "\n" for line in file)
     return found

@@ -1,117 +1,93 @@
-"""Whether the pages PROMISES and CONTRACTS name the calls and the clauses that there are."""
+"""Whether the page PROMISES names the calls and the clauses that there are, and all of them."""
 import re
 
 from promises import pages
-from promises.contracts import USED, calls_named, calls_of, crates, every_call
+from promises.contracts import USED, calls_named, calls_of, crates, every_call, sources_of, text_of
 from promises.showing import spec_modules
 from specs import module
 
-
-def is_law(call):
-    """Whether a function is a law, whose contract is all that it has."""
-    return not call.body and call.head.endswith("()")
+LAW = re.compile(r"[a-z]\w*_laws")
 
 
-def names_of(call):
-    """The names of its clauses."""
-    return {it.name for it in call.clauses if it.name}
+def difference(is_now, wanted):
+    """Where two lines begin to differ, in words."""
+    at = next((k for k, it in enumerate(zip(is_now, wanted)) if it[0] != it[1]), None)
+    at = min(len(is_now), len(wanted)) if at is None else at
+    start = max(is_now.rfind(" ", 0, at), 0)
+    return f"has '{is_now[start:at + 30].strip()}', not '{wanted[start:at + 30].strip()}'"
 
 
-def faults_of_item(item, calls):
-    """What is wrong with what a list says of one call."""
-    if calls:
-        homes = sorted({f"{it.crate}::{it.title()}" for it in calls})
-        is_crate = item.word in crates()
-        if item.page == "PROMISES" and len(homes) > 1 and not is_crate:
-            yield f"{item.word} is {' and '.join(homes)}"
-        if item.page == "PROMISES" and not item.clauses:
-            silent = [it for it in calls if names_of(it) and not is_law(it)]
-            yield from (f"{item.word} is there without its clauses" for _ in silent[:1])
-    elif item.clauses:
-        there = calls_named(item.word)
-        known = {name for it in there for name in names_of(it)}
-        what = ", ".join([it for it in item.clauses if it not in known] or item.clauses)
-        yield f"{item.word} has no {what}" if there else f"there is no {item.word} with {what}"
-    elif not pages.is_type(item):
-        yield f"there is no {item.word}"
+def written_holds():
+    """Of each line that the tool writes: what is wrong, or None, once for each name in it."""
+    lines = pages.read(pages.path_of_page()).split("\n")
+    for number, text, part in pages.wanted_lines():
+        is_now = lines[number - 1] if number else ""
+        if is_now == text:
+            yield from (None for _ in re.findall(r"\w+", re.sub(r"\[.*?\)", "", text)))
+        elif not number:
+            yield f"{pages.PAGE}:{part.line}: no line has the clauses of {part.title}"
+        else:
+            yield f"{pages.PAGE}:{number}: {difference(is_now, text)}: tools/promise --write"
 
 
-def items_hold():
-    """Of each call that a list names: what is wrong, or None."""
-    for page in pages.PAGES:
-        for item, calls in pages.meant(page):
-            faults = list(faults_of_item(item, calls))
-            yield from (f"{item.place()}: {it}" for it in faults)
-            if not faults:
+def crates_hold():
+    """Of each crate that promises something: that one row of the table of crates has it."""
+    parts = [it for it in pages.sections() if it.title == pages.CRATES]
+    named = [it for part in parts for _, cells in pages.rows(part)
+             for it in pages.SPAN.findall(cells[0])]
+    for it in sorted({*named, *crates()}):
+        fault = f"{pages.PAGE}: {pages.CRATES} has {it} {named.count(it)} times"
+        yield None if it in crates() and named.count(it) == 1 else fault
+
+
+def heads_hold():
+    """Of each call that a heading or the first column of a table names: what is wrong, or None."""
+    for part in pages.sections():
+        for item in pages.told_in(part):
+            homes = sorted({f"{it.crate}::{it.title()}" for it in item.calls})
+            owners = {it.owner for it in item.calls}
+            if not any(it.is_open for it in item.calls):
+                yield f"{item.place()}: there is no {item.word}"
+            elif len(homes) > 1 and not (len(homes) == len(owners) and owners <= {*part.owners}):
+                yield f"{item.place()}: {item.word} is {' and '.join(homes)}"
+            else:
                 yield None
 
 
-def definitions_hold():
-    """Of each definition that a list names in brackets: what is wrong, or None."""
-    known = {it for of in spec_modules() for it in module(of).texts}
-    known |= {of.rpartition(".")[2] for of in spec_modules()}
-    for page, path in pages.PAGES.items():
-        for part in pages.sections(page):
-            for number, line in part.lines:
-                listed = pages.LIST.search(line)
-                for inside in re.findall(r"\(([^()]*)\)", listed[1] if listed else ""):
-                    for name in re.findall(r"`([A-Z]\w*)`", inside):
-                        yield None if name in known else f"{path}:{number}: there is no {name}"
-
-
-def headings_hold():
-    """Of each call that a heading of PROMISES names: what is wrong, or None."""
-    listed = {}
-    for item, calls in pages.meant("PROMISES"):
-        listed.setdefault(item.heading, []).extend(calls)
-    for part in pages.sections("PROMISES"):
-        for span in pages.SPAN.findall(part.title) if part.depth == 3 else ():
-            calls = listed.get(part.title, [])
-            is_there = any(calls_named(span, [it]) or it.owner == span for it in calls)
-            place = f"docs/PROMISES.md:{part.line}"
-            yield None if is_there else f"{place}: {span} has no clauses below its heading"
-
-
-def names_it(item, call):
-    """Whether a list names a call by itself, or its crate where the page has it elsewhere too: a
-    type that stands for all its calls is not enough."""
-    if item.word in crates():
-        return any(it.startswith(pages.PAGES[item.page]) for it in pages.speaks_of([call.title()]))
-    return item.word.split("::")[-1] == call.name
-
-
-def told_on(page):
-    """Of each call, by its place, what a page tells: the names of its clauses, and whether it names
-    the call alone."""
-    found = {}
-    for item, calls in pages.meant(page):
-        for it in calls:
-            if names_it(item, it):
-                names, is_alone = found.get((it.path, it.line), (set(), False))
-                alone = is_alone or not item.clauses
-                found[(it.path, it.line)] = (names | {*item.clauses}, alone)
+def known_names():
+    """All names with a capital that definitions and sources have."""
+    found = {it for of in spec_modules() for it in (of.rpartition(".")[2], *module(of).texts)}
+    for path in (it for crate in crates() for it in sources_of(crate)):
+        found.update(re.findall(r"\b[A-Z]\w*", text_of(path)))
     return found
 
 
+def names_hold():
+    """Of each other name that stands as code: what is wrong, or None."""
+    known = known_names()
+    for _, number, span in pages.spans():
+        place, cited = f"{pages.PAGE}:{number}", pages.CITED.fullmatch(span)
+        if cited:
+            there = pages.meant(cited[1])
+            has = {name for it in there for name in pages.names_of(it)}
+            for it in cited[2].split(", "):
+                yield None if it in has else f"{place}: {cited[1]} has no {it}"
+        elif "::" in span and pages.NAME.fullmatch(span) or LAW.fullmatch(span):
+            yield None if calls_named(span) else f"{place}: there is no {span}"
+        elif re.fullmatch(r"[A-Z][a-z]\w*", span):
+            yield None if span in known else f"{place}: there is no {span}"
+
+
 def all_is_told():
-    """Of each public call of the crates that users call, and of each of its clauses: what is wrong,
-    or None."""
-    promises, contracts = told_on("PROMISES"), told_on("CONTRACTS")
+    """Of each public call of the crates that users call: what is wrong, or None."""
+    told = {(it.path, it.line) for item in pages.items() if not item.clauses for it in item.calls}
     for call in (it for crate in USED for it in calls_of(crate) if it.is_open):
-        place = (call.path, call.line)
-        names, is_alone = promises.get(place) or contracts.get(place) or (None, False)
-        page = "PROMISES" if place in promises else "CONTRACTS"
+        is_there = (call.path, call.line) in told
         where = f"{call.path}:{call.line}: {call.title()}"
-        if names is None:
-            yield f"{where} is on neither page"
-            continue
-        yield None
-        for name in sorted(names_of(call)):
-            is_told = name in names or is_alone
-            yield None if is_told else f"{where}: {page} does not name {name}"
+        yield None if is_there else f"{where} is in no heading and no table of {pages.PAGE}"
 
 
-CHECKS = [items_hold, definitions_hold, headings_hold, all_is_told]
+CHECKS = [written_holds, crates_hold, heads_hold, names_hold, all_is_told]
 
 
 def check():

@@ -17,13 +17,7 @@ USED = ["mst_store", "mst_shards", "mst_blocks", "mst_parts", "mst_snapshots", "
 CALLERS = re.compile(r"mst|mst_cookbook|mst_\w+_tests")
 CLAUSE = re.compile(r"\s*(requires|ensures)\b(?: (\w+))? \{")
 ITEM = re.compile(r"(?:pub(?:\(\w+\))? )?(?:unsafe )?(impl|trait)\b")
-TYPE = re.compile(r"(?m)^(?:pub(?:\(\w+\))? )?(?:struct|enum|trait) (\w+)")
 OPEN_TYPE = re.compile(r"(?m)^pub (?:struct|enum|trait) (\w+)")
-IMPL = re.compile(
-    r"(?m)^(?:unsafe )?impl\b[^{]*? (\w+)(?:<[^{]*?>)? for &?(?:'\w+ )?(?:mut )?(\w+)"
-)
-
-
 # The trait of an impl.
 IMPLS = re.compile(r"(\w+)(?:<.*>)? for (?!<)")
 
@@ -175,14 +169,14 @@ def calls_of(crate):
     return found
 
 
-@functools.lru_cache(maxsize=None)
-def types_of(crate):
-    """The names of the types and traits of a crate, and `TRAIT for TYPE` of its impls."""
-    found = set()
-    for path in sources_of(crate):
-        text = text_of(path)
-        found |= set(TYPE.findall(text)) | {f"{one} for {it}" for one, it in IMPL.findall(text)}
-    return found
+def is_law(call):
+    """Whether a function is a law, whose contract is all that it has."""
+    return not call.body and call.head.endswith("()")
+
+
+def laws_of(crate):
+    """The laws of a crate that others can name."""
+    return [it for it in calls_of(crate) if it.is_open and is_law(it)]
 
 
 def sources_of(crate):

@@ -5,7 +5,7 @@ import os
 import re
 
 from promises import pages, types, wrong
-from promises.contracts import ROOT, calls_named, crates, every_call, text_of
+from promises.contracts import ROOT, calls_named, calls_of, crates, every_call, text_of
 from specs import TOP, module
 from wrong_bodies.sources import read
 
@@ -117,6 +117,8 @@ def told_of(word):
     if not calls:
         calls = [it for it in every_call() if it.owner == own and crate in ("", it.crate)]
         calls = [it for it in calls if it.is_open] or calls
+    if name in crates():
+        calls = [it for it in calls_of(name) if it.is_open]
     calls = [it for it in calls if {*clauses} <= {one.name for one in it.clauses}]
     defined = [it for it in spec_modules() if not clauses and name in module(it).texts]
     return (

@@ -58,7 +58,7 @@ static void sha256(const uint8_t *bytes, size_t length, uint8_t digest[32])
     if (rest > 0)
         memcpy(last, bytes + at, rest);
     last[rest] = 0x80;
-    for (int i = 0; i < 8; i++)
+    for (size_t i = 0; i < 8; i++)
         last[padded - 1 - i] = (uint8_t)((uint64_t)length * 8 >> 8 * i);
     for (size_t i = 0; i < padded; i += 64)
         compress(h, last + i);

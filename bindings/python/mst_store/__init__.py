@@ -28,12 +28,13 @@ during a call, and two calls by one pass wait for each other. So make none in a 
 would wait for ever for the call that it interrupts. A store does not outlive os.fork() in a process
 with threads.
 """
+from ._differing import Difference
 from ._group import ShardedGroup
 from ._library import KEY_LONGEST, ROOT_LENGTH, VALUE_LONGEST, library_version
 from ._passes import Edit, Pass, Pinned, open_store
-from ._reads import Format, Octets, Reads
+from ._reads import Format, Octets, Reads, proof_piece
 from ._refusals import (
-    ABSENT, BAD_BATCH, BAD_KEY, BAD_SHAPE, BAD_VALUE, BUSY, CLOSED, MEMORY, NO_FREE_ROWS,
+    ABSENT, BAD_BATCH, BAD_KEY, BAD_ROOT, BAD_SHAPE, BAD_VALUE, BUSY, CLOSED, MEMORY, NO_FREE_ROWS,
     ROWS_PINNED, SHORT_ROOM, UNKNOWN_FORMAT, VERSIONS_SPENT, WRONG_STATE, Busy, Refused,
     RefusedEdit,
 )
@@ -45,10 +46,11 @@ from ._sharded import (
 __version__ = "0.4.0-dev"
 
 __all__ = [
-    "ABSENT", "BAD_BATCH", "BAD_KEY", "BAD_SHAPE", "BAD_VALUE", "BUSY", "CLOSED", "KEY_LONGEST",
-    "MEMORY", "NO_FREE_ROWS", "ROOT_LENGTH", "ROWS_PINNED", "SHORT_ROOM", "UNKNOWN_FORMAT",
-    "VALUE_LONGEST", "VERSIONS_SPENT", "WRONG_STATE", "Busy", "Edit", "Format", "Octets", "Pass",
-    "Pinned", "Reads", "Refused", "RefusedEdit", "library_version", "open_store",
+    "ABSENT", "BAD_BATCH", "BAD_KEY", "BAD_ROOT", "BAD_SHAPE", "BAD_VALUE", "BUSY", "CLOSED",
+    "KEY_LONGEST", "MEMORY", "NO_FREE_ROWS", "ROOT_LENGTH", "ROWS_PINNED", "SHORT_ROOM",
+    "UNKNOWN_FORMAT", "VALUE_LONGEST", "VERSIONS_SPENT", "WRONG_STATE", "Busy", "Difference",
+    "Edit", "Format", "Octets", "Pass", "Pinned", "Reads", "Refused", "RefusedEdit",
+    "library_version", "open_store", "proof_piece",
     "BAD_SPLITS", "MOVING", "OVERTAKEN", "BusyShard", "Moving", "Overtaken", "RefusedShard",
     "ShardedBlock", "ShardedGroup", "ShardedPart", "ShardedReader", "ShardedSnapshot",
     "ShardedWriter", "open_sharded",

@@ -7,6 +7,9 @@ from typing import Any, Dict, Tuple
 
 KEY_LONGEST, VALUE_LONGEST, ROOT_LENGTH = 32, 64, 32
 
+# The most passes of a store, so the most versions that are pinned.
+PASSES_MOST = 32
+
 # The name that the library is linked and found by where it is installed.
 SONAME = "libmst_store.so.1"
 
@@ -29,6 +32,23 @@ class ShardedHand(ctypes.Structure):
 
 
 SHARDED_HAND = ctypes.POINTER(ShardedHand)
+
+
+class Difference(ctypes.Structure):
+    """A key at which two maps differ, with its two values. One that is absent is null."""
+
+    _fields_ = [
+        *((name, ctypes.c_void_p) for name in ("key", "ours", "theirs")),
+        *((name, ctypes.c_size_t) for name in ("key_length", "ours_length", "theirs_length")),
+    ]
+
+
+# What mst_differing asks for a piece, and what it tells of a difference.
+ASK = ctypes.CFUNCTYPE(
+    ctypes.c_int32, ctypes.c_void_p, ctypes.c_void_p, ctypes.c_size_t, ctypes.c_uint32,
+    ctypes.POINTER(ctypes.c_void_p), ctypes.POINTER(ctypes.c_size_t),
+)
+TELL = ctypes.CFUNCTYPE(ctypes.c_int32, ctypes.c_void_p, ctypes.POINTER(Difference))
 
 
 def _signatures() -> Dict[str, Tuple[Any, ...]]:
@@ -57,9 +77,12 @@ def _signatures() -> Dict[str, Tuple[Any, ...]]:
         "mst_format": (hand,),
         "mst_rows": (hand, pointer(ctypes.c_uint32)),
         "mst_free_rows": (hand, pointer(ctypes.c_uint32)),
+        "mst_pinned_versions": (hand, pointer(ctypes.c_uint64), size, pointer(size)),
         "mst_made": (hand, pointer(ctypes.c_uint64)),
         **{f"mst_{tries}{name}": types for tries in ("", "try_") for name, types in writes.items()},
         **{f"mst_{name}_within": (*types, ctypes.c_uint64) for name, types in writes.items()},
+        "mst_proof_piece": (text, size, ctypes.c_uint32, pointer(ctypes.c_void_p), pointer(size)),
+        "mst_differing": (hand, text, size, ASK, TELL, ctypes.c_void_p),
         "mst_pin": (hand,),
         "mst_unpin": (hand,),
     }
@@ -73,6 +96,7 @@ def _sharded_signatures() -> Dict[str, Tuple[Any, ...]]:
         "mst_sharded_open": (ctypes.c_uint32, ctypes.c_uint32, text, size, hand, size),
         "mst_sharded_close": (hand,),
         "mst_sharded_shards": (hand,),
+        "mst_sharded_free_rows": (hand, size, pointer(ctypes.c_uint32)),
         "mst_sharded_apply": (hand, text, size, pointer(size), pointer(size), number),
         "mst_sharded_apply_in_threads": (
             hand, text, size, size, pointer(size), pointer(size), number,

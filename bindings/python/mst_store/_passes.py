@@ -8,7 +8,7 @@ import struct
 import threading
 from typing import Any, Callable, Iterable, List, NoReturn, Optional, Tuple
 
-from ._library import HAND, KEY_LONGEST, VALUE_LONGEST, Hand
+from ._library import HAND, KEY_LONGEST, PASSES_MOST, VALUE_LONGEST, Hand
 from ._library import lib as _lib
 from ._reads import Format, Octets, Reads, _format, _octets, _word
 from ._refusals import ABSENT, BAD_KEY, BAD_VALUE, RefusedEdit
@@ -61,6 +61,17 @@ class Pass(Reads):
         """Returns how many rows are free to the next write, also while versions are pinned; raises
         Busy if another pass has the turn."""
         return self._number(_lib.mst_free_rows, ctypes.c_uint32())
+
+    def pinned_versions(self) -> List[int]:
+        """Returns the versions that are pinned, in rising order, each once; raises Busy if another
+        pass has the turn. The current version is among them only if it is pinned."""
+        versions, count = (ctypes.c_uint64 * PASSES_MOST)(), ctypes.c_size_t()
+        with self._lock:
+            code = _lib.mst_pinned_versions(
+                self._hand, versions, PASSES_MOST, ctypes.byref(count))
+        if code < 0:
+            _refuse(code)
+        return versions[:count.value]
 
     def made(self) -> Optional[int]:
         """Returns the version that the last write of this pass made, whatever others wrote since,

@@ -8,6 +8,8 @@ import struct
 import threading
 from typing import Any, Callable, Iterator, List, Optional, Tuple, Union
 
+from ._differing import Difference
+from ._differing import differing as _differing
 from ._library import KEY_LONGEST, ROOT_LENGTH, VALUE_LONGEST
 from ._library import lib as _lib
 from ._refusals import ABSENT, SHORT_ROOM
@@ -148,6 +150,26 @@ class Reads:
                 # The proof of a free pass may have grown again by the next try, so this is a loop.
                 self._long_room = ctypes.create_string_buffer(length.value)
 
+    def differing(
+        self, root: Octets, ask: Callable[[bytes, int], Octets]
+    ) -> List[Difference]:
+        """Returns where the map differs from another one, of which only the root digest need be
+        trusted: by rising keys, each with its two values.
+
+        It goes down both trees from their root digests, passes subtrees with equal digests unread,
+        and asks for the others node by node. ask(key, number) is to return what the other map gives
+        by proof_piece(then.prove(key), number), all of one version; no piece is asked for twice.
+        Each one is tested, so that it is the other map's, unless two texts have one SHA-256; one
+        that is not raises Refused. What `ask` raises is raised.
+
+        The root digest is in the format of this version. A pass that does not pin does so until
+        this ends. `ask` uses other passes than this one, for which it would wait without end.
+        """
+        root = _octets(root)
+        with self._lock:
+            return _differing(
+                self._hand, root, lambda key, number: _octets(ask(key, number)))
+
     def version(self) -> int:
         """Returns the number of the version: the number of writes and migrations before it.
 
@@ -173,6 +195,16 @@ class Reads:
         if code < 0:
             _refuse(code)
         return int(number.value)
+
+
+def proof_piece(proof: Octets, number: int) -> Optional[bytes]:
+    """Returns a piece of a proof: of number 0 the text of the top node, of 1 that of the node below
+    it, and so on; in format 2 there is one more piece behind the texts, in which the value stands.
+    Returns None if the proof has no such piece. Nothing is verified."""
+    proof, piece, length = _octets(proof), ctypes.c_void_p(), ctypes.c_size_t()
+    code = _lib.mst_proof_piece(
+        proof, len(proof), _word(number), ctypes.byref(piece), ctypes.byref(length))
+    return None if code == ABSENT else ctypes.string_at(piece, length.value)
 
 
 def _pairs(listing: bytes) -> Iterator[Tuple[bytes, bytes]]:

@@ -9,6 +9,7 @@ from typing import NoReturn, Tuple, Type
 ABSENT = -1
 SHORT_ROOM = -2
 UNKNOWN_FORMAT = -3
+BAD_ROOT = -4
 BAD_KEY = -5
 BAD_VALUE = -6
 CLOSED = -7
@@ -26,6 +27,7 @@ MOVING = -30
 
 _REASONS = {
     UNKNOWN_FORMAT: "no format has this number",
+    BAD_ROOT: "a root digest has 32 bytes",
     BAD_KEY: "a key has 1 to 32 bytes",
     BAD_VALUE: "a value has 0 to 64 bytes",
     CLOSED: "the pass is closed",
@@ -40,6 +42,8 @@ _REASONS = {
     BAD_SPLITS: "splits are at most 1023 keys that rise strictly, from above the least key",
     OVERTAKEN: "another than the writer of blocks has written",
     MOVING: "a block is just being published",
+    # what a verifier tests, of pieces of proofs
+    **{-10 - test: f"a piece is not the one that was asked for: P{test}" for test in range(1, 11)},
 }
 
 

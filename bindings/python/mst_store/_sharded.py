@@ -16,7 +16,7 @@ from ._library import lib as _lib
 from ._passes import Edit
 from ._passes import _packed as _packed_edits
 from ._reads import Format, Octets, _format, _items, _octets, _pairs, _word
-from ._refusals import BUSY, CLOSED, MOVING, Moving
+from ._refusals import ABSENT, BUSY, CLOSED, MOVING, Moving
 from ._refusals import refuse as _refuse
 
 if TYPE_CHECKING:
@@ -288,6 +288,18 @@ class ShardedWriter:
         """Returns how many shards there are."""
         with self._held.taken() as held:
             return held.shards()
+
+    def free_rows(self, shard: int) -> Optional[int]:
+        """Returns how many rows are free to the next block in the shard with this number, from 0,
+        or in the directory, which has the number of the shards; None if there is no such shard.
+        Raises Busy if a thread has died within a call."""
+        rows = ctypes.c_uint32()
+        with self._held.taken() as held:
+            code = _lib.mst_sharded_free_rows(held.hand, _word(shard), ctypes.byref(rows))
+        if code == ABSENT:
+            return None
+        _answer(code)
+        return int(rows.value)
 
     def apply(self, edits: Iterable[Edit]) -> int:
         """Makes edits of all shards, as Pass.apply takes them, as the next block, and returns its

@@ -38,6 +38,9 @@ pub enum Error {
     Busy,
     /// Of a block: another than its writer has written. No call leads to this.
     Overtaken,
+    /// A piece of a proof is not the one that was asked for: it fails this test, 1 to 10 for P1 to
+    /// P10 of docs/FORMAT.md.
+    OtherPiece(u8),
     /// A number that the header does not give for the call: the library and this crate do not fit.
     Other(i32),
 }
@@ -59,6 +62,7 @@ impl Error {
             Error::BadSplits => -26,
             Error::Busy => -21,
             Error::Overtaken => -29,
+            Error::OtherPiece(test) => -10 - i32::from(test),
             Error::Other(code) => code,
         }
     }
@@ -77,6 +81,7 @@ impl Error {
             -26 => Error::BadSplits,
             -21 => Error::Busy,
             -29 => Error::Overtaken,
+            -20..=-11 => Error::OtherPiece((-10 - code) as u8),
             other => Error::Other(other),
         }
     }
@@ -116,6 +121,9 @@ impl fmt::Display for Error {
             }
             Error::Busy => out.write_str("another has the turn"),
             Error::Overtaken => out.write_str("another than the writer of blocks has written"),
+            Error::OtherPiece(test) => {
+                write!(out, "a piece is not the one that was asked for: P{test}")
+            }
             Error::Other(code) => write!(out, "the library answered {code}"),
         }
     }

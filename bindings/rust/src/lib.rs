@@ -63,6 +63,7 @@
 //! ```
 #![deny(missing_debug_implementations, missing_docs)]
 
+mod differing;
 mod edits;
 mod error;
 mod format;
@@ -71,6 +72,7 @@ mod raw_sharded;
 mod reads;
 pub mod sharded;
 
+pub use differing::{proof_piece, Difference};
 pub use edits::Edit;
 pub use error::{Error, TryError};
 pub use format::Format;
@@ -87,6 +89,9 @@ pub const KEY_LONGEST: usize = 32;
 pub const VALUE_LONGEST: usize = 64;
 /// The bytes of a root digest.
 pub const ROOT_LENGTH: usize = 32;
+
+// The most passes of a store, so the most versions that are pinned.
+const PASSES_MOST: usize = 32;
 
 /// Returns the version of the library that is linked, which is this crate's own if both are of one
 /// release.
@@ -302,6 +307,18 @@ impl Pass {
         // Safety: both pointers are valid.
         match unsafe { raw::mst_free_rows(&mut self.hand, &mut rows) } {
             0 => Ok(rows),
+            code => Err(TryError::of(code)),
+        }
+    }
+
+    /// Returns the versions that are pinned, in rising order, each once, if no other pass writes.
+    /// The current version is among them only if it is pinned.
+    pub fn pinned_versions(&mut self) -> Result<Vec<u64>, TryError> {
+        let mut versions = [0; PASSES_MOST];
+        let (at, room, mut count) = (versions.as_mut_ptr(), versions.len(), 0);
+        // Safety: the array is valid for its length, and so are the other pointers.
+        match unsafe { raw::mst_pinned_versions(&mut self.hand, at, room, &mut count) } {
+            0 => Ok(versions[..count].to_vec()),
             code => Err(TryError::of(code)),
         }
     }

@@ -1,4 +1,5 @@
 //! The library's calls as include/mst_store.h declares them, and its numbers.
+use std::ffi::c_void;
 use std::fmt;
 
 /// A hand: what holds a pass, or nothing. It moves as any value of Rust does: the place that it
@@ -54,6 +55,30 @@ pub(crate) type Range = unsafe extern "C" fn(
     count: *mut usize,
     length: *mut usize,
 ) -> i32;
+
+/// mst_difference.
+#[repr(C)]
+pub(crate) struct Difference {
+    pub(crate) key: *const u8,
+    pub(crate) ours: *const u8,
+    pub(crate) theirs: *const u8,
+    pub(crate) key_length: usize,
+    pub(crate) ours_length: usize,
+    pub(crate) theirs_length: usize,
+}
+
+/// What mst_differing asks for a piece.
+pub(crate) type Ask = extern "C" fn(
+    with: *mut c_void,
+    key: *const u8,
+    key_length: usize,
+    number: u32,
+    piece: *mut *const u8,
+    length: *mut usize,
+) -> i32;
+
+/// What it tells of a difference.
+pub(crate) type Tell = extern "C" fn(with: *mut c_void, difference: *const Difference) -> i32;
 
 extern "C" {
     pub(crate) fn mst_library_version() -> *const std::ffi::c_char;
@@ -114,6 +139,12 @@ extern "C" {
     pub(crate) fn mst_format(pass: *mut Hand) -> i32;
     pub(crate) fn mst_rows(pass: *mut Hand, rows: *mut u32) -> i32;
     pub(crate) fn mst_free_rows(pass: *mut Hand, rows: *mut u32) -> i32;
+    pub(crate) fn mst_pinned_versions(
+        pass: *mut Hand,
+        versions: *mut u64,
+        room_count: usize,
+        count: *mut usize,
+    ) -> i32;
     pub(crate) fn mst_made(pass: *mut Hand, version: *mut u64) -> i32;
     pub(crate) fn mst_put_within(
         pass: *mut Hand,
@@ -141,6 +172,21 @@ extern "C" {
         microseconds: u64,
     ) -> i32;
     pub(crate) fn mst_migrate_within(pass: *mut Hand, format: u32, microseconds: u64) -> i32;
+    pub(crate) fn mst_proof_piece(
+        proof: *const u8,
+        proof_length: usize,
+        number: u32,
+        piece: *mut *const u8,
+        length: *mut usize,
+    ) -> i32;
+    pub(crate) fn mst_differing(
+        ours: *mut Hand,
+        root: *const u8,
+        root_length: usize,
+        ask: Ask,
+        tell: Tell,
+        with: *mut c_void,
+    ) -> i32;
     pub(crate) fn mst_pin(pass: *mut Hand) -> i32;
     pub(crate) fn mst_unpin(pass: *mut Hand) -> i32;
 }

@@ -52,6 +52,11 @@ extern "C" {
     ) -> i32;
     pub(crate) fn mst_sharded_close(handle: *mut ShardedHand) -> i32;
     pub(crate) fn mst_sharded_shards(handle: *mut ShardedHand) -> i32;
+    pub(crate) fn mst_sharded_free_rows(
+        writer: *mut ShardedHand,
+        shard: usize,
+        rows: *mut u32,
+    ) -> i32;
     pub(crate) fn mst_sharded_apply(
         writer: *mut ShardedHand,
         edits: *const u8,

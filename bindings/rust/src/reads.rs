@@ -1,4 +1,5 @@
 //! The reads, which a pass and a pinned pass have alike.
+use crate::differing::{differing, Difference};
 use crate::raw::{self, Hand};
 use crate::{Error, Format, KEY_LONGEST, ROOT_LENGTH, VALUE_LONGEST};
 use std::iter::FusedIterator;
@@ -228,6 +229,20 @@ pub trait Reads: Held {
                 refused => return Err(Error::of(refused)),
             }
         }
+    }
+
+    /// Returns where the map differs from another one of the same format, of which only this root
+    /// digest need be trusted, by rising keys: it goes down both trees, and asks for what differs
+    /// node by node, each once. `ask` is given a key and a number, and returns what the other map
+    /// gives by [`proof_piece`](crate::proof_piece) of its proof of the key, all of one version. A
+    /// piece that is not the one asked for is an `Error::OtherPiece`.
+    fn differing<A, E>(&mut self, root: &[u8; ROOT_LENGTH], ask: A) -> Result<Vec<Difference>, E>
+    where
+        Self: Sized,
+        A: FnMut(&[u8], u32) -> Result<Vec<u8>, E>,
+        E: From<Error>,
+    {
+        differing(self.hand(), root, ask)
     }
 
     /// Returns the number of the version: the number of writes and migrations before it.

@@ -34,7 +34,7 @@ mod group;
 
 pub use group::{Group, GroupError};
 
-use crate::raw::SHORT_ROOM;
+use crate::raw::{ABSENT, SHORT_ROOM};
 use crate::raw_sharded::{self as raw, ShardedHand};
 use crate::{
     edits, reads, Edit, Error, Format, Items, Pair, KEY_LONGEST, ROOT_LENGTH, VALUE_LONGEST,
@@ -171,6 +171,18 @@ impl Writer {
     /// Returns how many shards there are.
     pub fn shards(&mut self) -> usize {
         shards_of(self.ended())
+    }
+
+    /// Returns how many rows are free to the next block in the shard with this number, from 0, or
+    /// in the directory, which has the number of the shards; `None` if there is no such shard.
+    pub fn free_rows(&mut self, shard: usize) -> Result<Option<u32>, Error> {
+        let mut rows = 0;
+        // Safety: both pointers are valid.
+        match unsafe { raw::mst_sharded_free_rows(self.ended(), shard, &mut rows) } {
+            0 => Ok(Some(rows)),
+            ABSENT => Ok(None),
+            code => Err(Error::of(code)),
+        }
     }
 
     /// Makes the edits of all shards as the next block, and returns its number: one more than that

@@ -165,6 +165,22 @@ fn a_copy_is_a_map_that_was_filled_directly() {
 }
 
 #[test]
+fn free_rows_are_counted_in_each_shard() {
+    let options = Options { rows: 16, readers: 1, splits: &[b"m"], format: Format::One };
+    let (mut writer, mut readers) = open(options).unwrap();
+    let listed = writer.free_rows(2).unwrap().unwrap();
+    assert_eq!(writer.apply(&[Put(b"a", b"1")]), Ok(1));
+    assert_eq!((writer.free_rows(0), writer.free_rows(1)), (Ok(Some(14)), Ok(Some(16))));
+    let then = readers[0].snapshot();
+    assert_eq!(writer.apply(&[Put(b"a", b"2")]), Ok(2));
+    assert_eq!((writer.free_rows(0), writer.free_rows(1)), (Ok(Some(12)), Ok(Some(16))));
+    assert!(writer.free_rows(2).unwrap() < Some(listed));
+    drop(then);
+    assert_eq!((writer.free_rows(0), writer.free_rows(2)), (Ok(Some(14)), Ok(Some(listed))));
+    assert_eq!((writer.free_rows(3), writer.free_rows(usize::MAX)), (Ok(None), Ok(None)));
+}
+
+#[test]
 fn bad_edits_are_told_by_their_places() {
     let (mut writer, mut readers) = opened(Format::One, 16, 1);
     let at = |error| Err(BlockError { shard: None, error });

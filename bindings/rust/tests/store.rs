@@ -398,6 +398,23 @@ fn rows_are_spent_and_counted() {
 }
 
 #[test]
+fn pinned_versions_are_listed_once() {
+    let mut passes = opened(32, 3).unwrap();
+    let (mut one, mut two, mut writer) =
+        (passes.pop().unwrap(), passes.pop().unwrap(), passes.pop().unwrap());
+    assert_eq!(writer.pinned_versions(), Ok(vec![]));
+    writer.put(b"key", b"1").unwrap();
+    let (older, same) = (one.pin(), two.pin());
+    assert_eq!(writer.pinned_versions(), Ok(vec![1]));
+    drop(same);
+    writer.put(b"key", b"2").unwrap();
+    let newest = two.pin();
+    assert_eq!(writer.pinned_versions(), Ok(vec![1, 2]));
+    drop((older, newest));
+    assert_eq!(writer.pinned_versions(), Ok(vec![]));
+}
+
+#[test]
 fn a_pass_knows_the_version_that_it_made() {
     let mut passes = opened(32, 2).unwrap();
     let (mut one, mut other) = (passes.pop().unwrap(), passes.pop().unwrap());

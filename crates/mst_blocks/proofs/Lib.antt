@@ -9,3 +9,4 @@ pub mod PartsDealt
 pub mod Reading
 pub mod Relisted
 pub mod Revealing
+pub mod RowsCounted

@@ -1,3 +1,4 @@
 pub mod Blocks
 pub mod Staging
 pub mod Writing
+pub mod Counting

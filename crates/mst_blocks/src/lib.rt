@@ -25,6 +25,7 @@
 mod beginning;
 mod blocks;
 mod chains;
+mod counting;
 mod faults;
 mod held;
 mod making;

@@ -40,6 +40,20 @@ fn put_at(room: &mut [u8], at: usize, bytes: &[u8]) -> usize
     end
 }
 
+/// Puts bytes as [`put_at`] does. The compiler copies those of the common length without a call.
+#[inline(always)]
+fn put_mostly<const COMMON: usize>(room: &mut [u8], at: usize, bytes: &[u8]) -> usize
+    requires fits { at + length bytes.now ≤ length room.old }
+    ensures room { room.new ≡ written at bytes.now room.old }
+    ensures end { result ≡ at + length bytes.now }
+{
+    if bytes.len() == COMMON {
+        put_at(room, at, &bytes[..COMMON])
+    } else {
+        put_at(room, at, bytes)
+    }
+}
+
 /// Puts a pair into the room from this place on, and returns where it ends.
 fn put_pair(room: &mut [u8], at: usize, key: &Key, value: &Value) -> usize
     requires fits { at + length (pair_bytes (key.now, value.now)) ≤ length room.old }
@@ -54,8 +68,8 @@ fn put_pair(room: &mut [u8], at: usize, key: &Key, value: &Value) -> usize
         behind_one,
         (value.len() as u16).to_be_bytes().as_slice(),
     );
-    let behind_key = put_at(room, behind_two, key);
-    put_at(room, behind_key, value)
+    let behind_key = put_mostly::<16>(room, behind_two, key);
+    put_mostly::<32>(room, behind_key, value)
 }
 
 /// Puts the pairs first into the room, and keeps the bytes after them.

@@ -5,6 +5,7 @@ pub mod Owning
 pub mod Splits
 pub mod Opened
 pub mod Told
+pub mod Counting
 pub mod Making
 pub mod Reading
 pub mod Proving

@@ -8,6 +8,7 @@
 mod asking;
 mod begun;
 pub mod codes;
+pub mod counting;
 pub mod hand;
 pub mod making;
 pub mod opening;

@@ -5,6 +5,7 @@ ghost use Rattle.std.specs.Option.{option_copied};
 ghost use Rattle.mst_key.specs.Map.{map_next, map_range};
 ghost use Rattle.mst_c_blocks.specs.Holding.{shards_in, Numbers, HasRoot, Tries, Releases, Gets, Reads, Lists};
 ghost use Rattle.mst_c_blocks.specs.Begun.{shards_to_begin, Begins, Prepares, Commits, Cancels};
+ghost use Rattle.mst_c_blocks.specs.Counting.{CountsRows};
 ghost use Rattle.mst_c_blocks.specs.Making.{Makes};
 ghost use Rattle.mst_c_blocks.specs.declared.role_box.Role.TheVariants as role;
 ghost use Rattle.mst_c_blocks.specs.Proving.{HasProof, HasDirectory};
@@ -15,6 +16,7 @@ use crate::asking::{Unfound, Unread, last_value, try_of};
 use crate::begun::{
     BegunBlock, PartShare, Uncommitted, Unprepared, begin, cancel, commit, prepare,
 };
+use crate::counting::{Uncounted, free_in};
 use crate::hand::{BlocksHand, BlocksTaken, PaddedBlocksHand, give};
 use crate::making::{Unmade, apply};
 use mst_blocks::Writer;
@@ -244,6 +246,17 @@ impl RoleBox {
             Role::Reader(reader) => Ok(reader.get(key)),
             Role::Snapshot(snapshot) => Ok(snapshot.get(key)),
             _ => Err(Unfound::NoMap),
+        }
+    }
+
+    /// How many rows are free in the shard with this number, or in the directory, if this is the
+    /// writer.
+    pub(crate) fn free_rows(&mut self, shard: usize) -> Result<u32, Uncounted>
+        ensures counts { CountsRows shard self.old result self.new }
+    {
+        match &mut self.role {
+            Role::Writer(writer) => free_in(writer, shard),
+            _ => Err(Uncounted::NoWriter),
         }
     }
 

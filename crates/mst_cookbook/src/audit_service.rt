@@ -1,12 +1,12 @@
 //! What an audit service answers, and what its client checks by the root digest alone.
-use crate::sharing::{put, tell, two_passes};
+use crate::sharing::{Recipe, key, put, tell};
 use anyhow::Result;
 use mst_key::{Format, Key, Memory, Value};
 use mst_proof::verify_in;
-use mst_store::{Pass, Pinned, Shape, Store};
+use mst_store::{Pass, Pinned, Shape};
 use std::alloc::Global;
 
-const SHAPE: Shape = Shape {
+pub const SHAPE: Shape = Shape {
     rows: 100,
     passes: 2,
     format: Format::Two,
@@ -34,56 +34,46 @@ fn judged(root: &[u8; 32], key: &Key, answer: &Answer) -> &'static str {
     }
 }
 
-// What somebody makes of an answer on the way.
-fn forge(answer: &mut Answer) {
-    answer.value = Value::new(b"31").ok();
-}
-
-// The client gets an answer, then the same one forged, and one of a newer version. It still has the
-// root digest of the version before.
-fn compare(
+// The client asks about a version, and judges the answer by the root digest that it has. Somebody
+// may forge the answer on the way.
+fn ask(
     rt: &HostRuntime,
+    pinned: &mut Pinned<'_, Global>,
     root: &[u8; 32],
-    key: &Key,
-    told: &mut Answer,
-    newer: &Answer,
+    what: &str,
+    is_forged: bool,
 ) -> Result<()> {
-    tell(rt, "the answer", judged(root, key, told))?;
-    forge(told);
-    tell(rt, "a forged one", judged(root, key, told))?;
-    tell(rt, "a newer one", judged(root, key, newer))
+    let apple = key("apple")?;
+    let mut answer = answer_for(rt.alloc(), pinned, &apple)?;
+    if is_forged {
+        answer.value = Value::new(b"31").ok();
+    }
+    tell(rt, what, judged(root, &apple, &answer))
 }
 
-// The service answers from a version that it pins, and then from the newest one.
-fn serve(
-    rt: &HostRuntime,
-    before: &mut Pinned<'_, Global>,
-    now: &mut Pinned<'_, Global>,
-) -> Result<()> {
-    let apple = Key::new(b"apple")?;
-    let mut told = answer_for(rt.alloc(), before, &apple)?;
-    let newer = answer_for(rt.alloc(), now, &apple)?;
-    compare(rt, &before.root(), &apple, &mut told, &newer)
-}
+/// The recipe.
+pub struct AuditService;
 
-// The writer goes on while the service has a version pinned.
-fn go_on(
-    rt: &HostRuntime,
-    mut writer: Pass<'_, Global>,
-    before: &mut Pinned<'_, Global>,
-) -> Result<()> {
-    put(&mut writer, "apple", "35")?;
-    serve(rt, before, &mut writer.pin())
-}
+impl Recipe for AuditService {
+    fn begin(_rt: &HostRuntime, writer: &mut Pass<'_, Global>) -> Result<()> {
+        put(writer, "apple", "30")
+    }
 
-// Puts a price, and pins the version that has it.
-fn show(rt: &HostRuntime, mut writer: Pass<'_, Global>, reader: Pass<'_, Global>) -> Result<()> {
-    put(&mut writer, "apple", "30")?;
-    go_on(rt, writer, &mut reader.pin())
-}
+    // The writer goes on while the service has a version pinned.
+    fn go_on(_rt: &HostRuntime, writer: &mut Pass<'_, Global>) -> Result<()> {
+        put(writer, "apple", "35")
+    }
 
-pub fn run(rt: &HostRuntime) -> Result<()> {
-    let (store, seats) = Store::open(rt.alloc(), SHAPE)?;
-    let (reader, writer) = two_passes(rt.alloc(), &store, seats)?;
-    show(rt, writer, reader)
+    // The client gets an answer, then the same one forged, and one of a newer version. It still has
+    // the root digest of the version before.
+    fn look(
+        rt: &HostRuntime,
+        before: &mut Pinned<'_, Global>,
+        now: &mut Pinned<'_, Global>,
+    ) -> Result<()> {
+        let root = before.root();
+        ask(rt, before, &root, "the answer", false)?;
+        ask(rt, before, &root, "a forged one", true)?;
+        ask(rt, now, &root, "a newer one", false)
+    }
 }

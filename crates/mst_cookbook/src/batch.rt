@@ -1,44 +1,20 @@
 //! A batch of changes as one version.
-use crate::sharing::{one_pass, pair};
+use crate::sharing::{Change, Recipe, edits_of};
 use anyhow::Result;
-use mst_key::{Edit, Format, Key};
-use mst_store::{Pass, Shape, Store};
+use mst_key::Format;
+use mst_store::{Pass, Shape};
 use std::alloc::Global;
 
-const SHAPE: Shape = Shape {
+pub const SHAPE: Shape = Shape {
     rows: 100,
-    passes: 1,
+    passes: 2,
     format: Format::One,
 };
-
-/// A fruit with its new price, or with none if it is taken out.
-type Change = (&'static str, Option<&'static str>);
-
-// The edit of a change.
-fn edit_of(fruit: &str, price: Option<&str>) -> Result<Edit> {
-    match price {
-        Some(price) => {
-            let (key, value) = pair(fruit, price)?;
-            Ok(Edit::Put(key, value))
-        }
-        None => Ok(Edit::Remove(Key::new(fruit.as_bytes())?)),
-    }
-}
-
-// The edits of a block.
-fn edits_of(alloc: Global, changes: &[Change]) -> Result<Vec<Edit>> {
-    let mut edits = Vec::new(alloc);
-    for (fruit, price) in changes {
-        let edit = edit_of(fruit, *price)?;
-        edits.push(edit)?;
-    }
-    Ok(edits)
-}
 
 // Prints which version a block of this many edits made, and how many keys there are.
 fn tell(rt: &HostRuntime, pass: &mut Pass<'_, Global>, edits: usize) -> Result<()> {
     let version = pass.version();
-    let keys = pass.range(rt.alloc(), None, None, 100)?.len();
+    let keys = pass.len();
     println!(rt; "a block of {edits}: version {version} has {keys} keys")?;
     Ok(())
 }
@@ -58,14 +34,12 @@ const FIRST: &[Change] = &[
 
 const SECOND: &[Change] = &[("apple", Some("35")), ("plum", None)];
 
-// Makes two blocks.
-fn show(rt: &HostRuntime, mut pass: Pass<'_, Global>) -> Result<()> {
-    apply(rt, &mut pass, FIRST)?;
-    apply(rt, &mut pass, SECOND)
-}
+/// The recipe.
+pub struct Batch;
 
-pub fn run(rt: &HostRuntime) -> Result<()> {
-    let (store, seats) = Store::open(rt.alloc(), SHAPE)?;
-    let pass = one_pass(rt.alloc(), &store, seats)?;
-    show(rt, pass)
+impl Recipe for Batch {
+    fn begin(rt: &HostRuntime, writer: &mut Pass<'_, Global>) -> Result<()> {
+        apply(rt, writer, FIRST)?;
+        apply(rt, writer, SECOND)
+    }
 }

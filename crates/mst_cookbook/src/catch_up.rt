@@ -1,11 +1,11 @@
 //! A replica that was away takes over what it lacks of another, by one batch.
-use crate::sharing::{one_pass, put_users};
+use crate::sharing::{Replicas, put_users};
 use anyhow::Result;
 use mst_key::{Edit, Format};
-use mst_store::{MOST_ROWS, Pass, Pinned, Shape, Store};
+use mst_store::{MOST_ROWS, Pass, Pinned, Shape};
 use std::alloc::Global;
 
-const SHAPE: Shape = Shape {
+pub const SHAPE: Shape = Shape {
     rows: 1_000,
     passes: 1,
     format: Format::One,
@@ -53,55 +53,39 @@ fn edits_to(
     Ok(edits)
 }
 
-// Makes our map theirs: our readers see the one or the other, and nothing between. Returns how many
-// edits that took.
-fn catch_up(
-    alloc: Global,
-    ours: &mut Pass<'_, Global>,
-    theirs: &mut Pinned<'_, Global>,
-) -> Result<usize> {
-    let edits = edits_to(alloc, ours, theirs)?;
-    ours.try_apply(alloc, &edits)?;
-    Ok(edits.len())
+// Prints how many edits that took, and whether the root digests are then equal.
+fn tell(rt: &HostRuntime, edits: usize, are_equal: bool) -> Result<()> {
+    let word = if are_equal { "are equal" } else { "differ" };
+    println!(rt; "{edits} edits, then the roots {word}")?;
+    Ok(())
 }
 
-// Catches up, and prints whether the root digests are then equal.
-fn tell(
+// Makes our map theirs: our readers see the one or the other, and nothing between.
+fn catch_up(
     rt: &HostRuntime,
     ours: &mut Pass<'_, Global>,
     theirs: &mut Pinned<'_, Global>,
 ) -> Result<()> {
-    let count = catch_up(rt.alloc(), ours, theirs)?;
-    let word = if ours.root() == theirs.root() {
-        "are equal"
-    } else {
-        "differ"
-    };
-    println!(rt; "{count} edits, then the roots {word}")?;
-    Ok(())
+    let edits = edits_to(rt.alloc(), ours, theirs)?;
+    ours.try_apply(rt.alloc(), &edits)?;
+    tell(rt, edits.len(), ours.root() == theirs.root())
 }
 
-// Fills both, and lets theirs go on without us.
-fn fill(alloc: Global, ours: &mut Pass<'_, Global>, theirs: &mut Pass<'_, Global>) -> Result<()> {
-    put_users(alloc, ours, 0..100, b"new")?;
-    put_users(alloc, theirs, 10..130, b"new")
-}
+/// The recipe.
+pub struct CatchingUp;
 
-// Fills both, and catches up.
-fn show(rt: &HostRuntime, mut ours: Pass<'_, Global>, mut theirs: Pass<'_, Global>) -> Result<()> {
-    fill(rt.alloc(), &mut ours, &mut theirs)?;
-    tell(rt, &mut ours, &mut theirs.pin())
-}
+impl Replicas for CatchingUp {
+    // Fills both, and lets theirs go on without us.
+    fn fill(
+        rt: &HostRuntime,
+        ours: &mut Pass<'_, Global>,
+        theirs: &mut Pass<'_, Global>,
+    ) -> Result<()> {
+        put_users(rt.alloc(), ours, 0..100, "new")?;
+        put_users(rt.alloc(), theirs, 10..130, "new")
+    }
 
-// Opens theirs next to ours.
-fn run_beside(rt: &HostRuntime, ours: Pass<'_, Global>) -> Result<()> {
-    let (store, seats) = Store::open(rt.alloc(), SHAPE)?;
-    let theirs = one_pass(rt.alloc(), &store, seats)?;
-    show(rt, ours, theirs)
-}
-
-pub fn run(rt: &HostRuntime) -> Result<()> {
-    let (store, seats) = Store::open(rt.alloc(), SHAPE)?;
-    let ours = one_pass(rt.alloc(), &store, seats)?;
-    run_beside(rt, ours)
+    fn meet(rt: &HostRuntime, mut ours: Pass<'_, Global>, theirs: Pass<'_, Global>) -> Result<()> {
+        catch_up(rt, &mut ours, &mut theirs.pin())
+    }
 }

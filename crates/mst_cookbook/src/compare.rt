@@ -1,11 +1,11 @@
 //! Two replicas: whether their maps are equal, and at which keys they differ.
-use crate::sharing::{one_pass, put_each, tell, text};
+use crate::sharing::{Replicas, put_each, tell, text};
 use anyhow::Result;
 use mst_key::Format;
-use mst_store::{MOST_ROWS, Pass, Pinned, Shape, Store};
+use mst_store::{MOST_ROWS, Pass, Pinned, Shape};
 use std::alloc::Global;
 
-const SHAPE: Shape = Shape {
+pub const SHAPE: Shape = Shape {
     rows: 100,
     passes: 1,
     format: Format::One,
@@ -47,39 +47,35 @@ const THEIRS: &[(&str, &str)] = &[("plum", "12"), ("apple", "30")];
 
 const LATER: &[(&str, &str)] = &[("apple", "35"), ("pear", "20")];
 
-// Fills both.
-fn fill(ours: &mut Pass<'_, Global>, theirs: &mut Pass<'_, Global>) -> Result<()> {
-    put_each(ours, OURS)?;
-    put_each(theirs, THEIRS)
-}
-
 // Compares both before and after the change.
 fn compare_twice(
     rt: &HostRuntime,
     ours: &mut Pinned<'_, Global>,
     mut theirs: Pinned<'_, Global>,
 ) -> Result<()> {
-    compare(rt, ours, &mut theirs)?;
+    let before = compare(rt, ours, &mut theirs);
     let mut theirs = theirs.unpin();
-    put_each(&mut theirs, LATER)?;
-    compare(rt, ours, &mut theirs.pin())
+    let changed = put_each(&mut theirs, LATER);
+    let after = compare(rt, ours, &mut theirs.pin());
+    before?;
+    changed?;
+    after
 }
 
-// Fills both, and compares them.
-fn show(rt: &HostRuntime, mut ours: Pass<'_, Global>, mut theirs: Pass<'_, Global>) -> Result<()> {
-    fill(&mut ours, &mut theirs)?;
-    compare_twice(rt, &mut ours.pin(), theirs.pin())
-}
+/// The recipe.
+pub struct Comparison;
 
-// Opens theirs next to ours.
-fn run_beside(rt: &HostRuntime, ours: Pass<'_, Global>) -> Result<()> {
-    let (store, seats) = Store::open(rt.alloc(), SHAPE)?;
-    let theirs = one_pass(rt.alloc(), &store, seats)?;
-    show(rt, ours, theirs)
-}
+impl Replicas for Comparison {
+    fn fill(
+        _rt: &HostRuntime,
+        ours: &mut Pass<'_, Global>,
+        theirs: &mut Pass<'_, Global>,
+    ) -> Result<()> {
+        put_each(ours, OURS)?;
+        put_each(theirs, THEIRS)
+    }
 
-pub fn run(rt: &HostRuntime) -> Result<()> {
-    let (store, seats) = Store::open(rt.alloc(), SHAPE)?;
-    let ours = one_pass(rt.alloc(), &store, seats)?;
-    run_beside(rt, ours)
+    fn meet(rt: &HostRuntime, ours: Pass<'_, Global>, theirs: Pass<'_, Global>) -> Result<()> {
+        compare_twice(rt, &mut ours.pin(), theirs.pin())
+    }
 }

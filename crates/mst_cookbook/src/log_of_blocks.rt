@@ -1,11 +1,10 @@
 //! A log of blocks: changes of all shards as one version of the map, with its number and its root
 //! digest, for a reader and for an auditor.
-use crate::sharing::{pair, text, users};
+use crate::sharing::{Change, edits_of, text, three_shards};
 use anyhow::{Error, Result};
 use mst_blocks::{BlockFault, Writer};
-use mst_key::{Edit, Format, Key};
+use mst_key::{Format, Key};
 use mst_sharded_proof::verify_sharded;
-use mst_shards::Sharded;
 use mst_snapshots::{Reader, Snapshot};
 use mst_store::Shape;
 use std::alloc::Global;
@@ -24,17 +23,6 @@ struct Logged {
     root: [u8; 32],
 }
 
-// The first keys of the shards after the first: below h, from h on, from p on.
-fn splits(alloc: Global) -> Result<Vec<Key>> {
-    Ok(vec![in alloc; Key::new(b"h")?, Key::new(b"p")?]?)
-}
-
-// A map with its writer and a reader.
-fn open(alloc: Global) -> Result<(Writer<Global>, Reader<Global>)> {
-    let (map, seats) = Sharded::open(alloc, splits(alloc)?, SHAPE)?;
-    users(alloc, map, seats)
-}
-
 // What the log has of a block that was made, of so many edits.
 fn entry_of(
     rt: &HostRuntime,
@@ -51,32 +39,33 @@ fn entry_of(
 fn apply(
     rt: &HostRuntime,
     writer: Writer<Global>,
-    edits: &[Edit],
+    changes: &[Change],
 ) -> (Writer<Global>, Result<Logged>) {
-    let (writer, made) = writer.apply(rt.alloc(), edits);
-    let logged = entry_of(rt, made, writer.root(), edits.len());
-    (writer, logged)
+    match edits_of(rt.alloc(), changes) {
+        Ok(edits) => {
+            let (writer, made) = writer.apply(rt.alloc(), &edits);
+            let logged = entry_of(rt, made, writer.root(), edits.len());
+            (writer, logged)
+        }
+        Err(fault) => (writer, Err(fault)),
+    }
 }
 
-// The edits of the first block, which are of two shards.
-fn first() -> Result<[Edit; 2]> {
-    let (apple, thirty) = pair("apple", "30")?;
-    let (plum, twelve) = pair("plum", "12")?;
-    Ok([Edit::Put(apple, thirty), Edit::Put(plum, twelve)])
-}
+/// The first block has changes of two shards.
+const FIRST: &[Change] = &[("apple", Some("30")), ("plum", Some("12"))];
 
-// Those of the second block.
-fn second() -> Result<[Edit; 2]> {
-    let (apple, more) = pair("apple", "35")?;
-    Ok([Edit::Put(apple, more), Edit::Remove(Key::new(b"plum")?)])
-}
+const SECOND: &[Change] = &[("apple", Some("35")), ("plum", None)];
 
 // Makes both blocks. Returns what the log has of the last.
 fn write(rt: &HostRuntime, writer: Writer<Global>) -> Result<Logged> {
-    let (writer, logged) = apply(rt, writer, &first()?);
-    logged?;
-    let (_, logged) = apply(rt, writer, &second()?);
-    logged
+    let (writer, logged) = apply(rt, writer, FIRST);
+    match logged {
+        Ok(_) => {
+            let (_, logged) = apply(rt, writer, SECOND);
+            logged
+        }
+        Err(fault) => Err(fault),
+    }
 }
 
 // An auditor has the log's root digest alone, and a proof from a snapshot of that block.
@@ -113,7 +102,7 @@ fn read(rt: &HostRuntime, logged: &Logged, reader: Reader<Global>) -> Result<()>
 }
 
 pub fn run(rt: &HostRuntime) -> Result<()> {
-    let (writer, reader) = open(rt.alloc())?;
+    let (writer, reader) = three_shards(rt.alloc(), SHAPE)?;
     let logged = write(rt, writer)?;
     read(rt, &logged, reader)
 }

@@ -1,5 +1,5 @@
 //! The recipes of `docs/COOKBOOK.md` in Rattle, one file for each, run in the order of the page.
-//! Each is whole: it opens its stores itself, and prints what it found.
+//! Each prints what it found. `sharing` opens the stores of most of them.
 //!
 //! `rt run` in this folder proves them and runs them; `rt try` runs them unproved. With words on
 //! its command line the program makes the calls of `counted` in their place.
@@ -21,40 +21,39 @@ mod sharing;
 mod writer_and_readers;
 
 use anyhow::Result;
+use audit_service::AuditService;
+use batch::Batch;
+use catch_up::CatchingUp;
+use compare::Comparison;
+use migrate::Migration;
+use prove_and_verify::Proofs;
+use report::Accounts;
+use sharing::{run, run_replicas};
 use std::env;
 use std::sync::Wait;
 use std::thread::Threads;
 
-// Runs the first recipes of the page.
-fn run_first<T: Threads + Wait + Sync>(rt: &HostRuntime, threads: &T) -> Result<()> {
-    open_and_size::run(rt)?;
-    writer_and_readers::run(rt, threads)?;
-    report::run(rt)?;
-    prove_and_verify::run(rt)
-}
-
-// Runs those after them.
-fn run_middle(rt: &HostRuntime) -> Result<()> {
-    compare::run(rt)?;
-    catch_up::run(rt)?;
-    migrate::run(rt)?;
-    batch::run(rt)
-}
-
 // Runs all.
 fn run_all<T: Threads + Wait + Sync>(rt: &HostRuntime, threads: &T) -> Result<()> {
-    run_first(rt, threads)?;
-    run_middle(rt)?;
+    open_and_size::run(rt)?;
+    writer_and_readers::run(rt, threads)?;
+    run::<Accounts>(rt, report::SHAPE)?;
+    run::<Proofs>(rt, prove_and_verify::SHAPE)?;
+    run_replicas::<Comparison>(rt, compare::SHAPE)?;
+    run_replicas::<CatchingUp>(rt, catch_up::SHAPE)?;
+    run::<Migration>(rt, migrate::SHAPE)?;
+    run::<Batch>(rt, batch::SHAPE)?;
     sharded::run(rt)?;
     refusals::run(rt, threads)?;
-    audit_service::run(rt)?;
+    run::<AuditService>(rt, audit_service::SHAPE)?;
     log_of_blocks::run(rt)
 }
 
 fn main(rt: HostRuntime) -> Result<()> {
     let words: Vec<String> = env::args(&rt)?.collect(rt.alloc())?;
     if words.len() > 1 {
-        return counted::run(&rt, &words);
+        counted::run(&rt, &words)
+    } else {
+        run_all(&rt, &rt)
     }
-    run_all(&rt, &rt)
 }

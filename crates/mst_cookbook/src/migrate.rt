@@ -1,8 +1,8 @@
 //! Turns a store to format 2, while a reader pins the version before.
-use crate::sharing::{put_users, two_passes};
+use crate::sharing::{Recipe, key, put_users};
 use anyhow::Result;
 use mst_key::{Format, Key};
-use mst_store::{Pass, Pinned, Shape, Store};
+use mst_store::{Pass, Pinned, Shape};
 use std::alloc::Global;
 
 const KEYS: u32 = 1_000;
@@ -10,11 +10,14 @@ const KEYS: u32 = 1_000;
 /// The rows of both trees: for n random keys 17/16 n in format 1, and 5/4 n in format 2.
 const BOTH_TREES: u32 = KEYS * 17 / 16 + KEYS * 5 / 4;
 
-const SHAPE: Shape = Shape {
+pub const SHAPE: Shape = Shape {
     rows: BOTH_TREES + 400,
     passes: 2,
     format: Format::One,
 };
+
+/// The value of each key: 32 zeros.
+const ZEROES: &str = "\0\0\0\0\0\0\0\0\0\0\0\0\0\0\0\0\0\0\0\0\0\0\0\0\0\0\0\0\0\0\0\0";
 
 // What a format is called.
 fn name(format: Format) -> &'static str {
@@ -32,35 +35,28 @@ fn tell(rt: &HostRuntime, whose: &str, pinned: &mut Pinned<'_, Global>, key: &Ke
     Ok(())
 }
 
-// Compares the version before with the one after.
-fn compare(
-    rt: &HostRuntime,
-    before: &mut Pinned<'_, Global>,
-    now: &mut Pinned<'_, Global>,
-) -> Result<()> {
-    let key = Key::new(b"user 1")?;
-    tell(rt, "the pinned version", before, &key)?;
-    tell(rt, "the version now", now, &key)
-}
+/// The recipe.
+pub struct Migration;
 
-// Migrates, while a reader pins the version before.
-fn migrate(
-    rt: &HostRuntime,
-    mut writer: Pass<'_, Global>,
-    before: &mut Pinned<'_, Global>,
-) -> Result<()> {
-    writer.try_migrate(rt.alloc(), Format::Two)?;
-    compare(rt, before, &mut writer.pin())
-}
+impl Recipe for Migration {
+    // Fills the map in format 1.
+    fn begin(rt: &HostRuntime, writer: &mut Pass<'_, Global>) -> Result<()> {
+        put_users(rt.alloc(), writer, 0..KEYS, ZEROES)
+    }
 
-// Fills the map in format 1, and migrates it.
-fn show(rt: &HostRuntime, mut writer: Pass<'_, Global>, reader: Pass<'_, Global>) -> Result<()> {
-    put_users(rt.alloc(), &mut writer, 0..KEYS, &[0; 32])?;
-    migrate(rt, writer, &mut reader.pin())
-}
+    // Migrates it, while a reader has the version before pinned.
+    fn go_on(rt: &HostRuntime, writer: &mut Pass<'_, Global>) -> Result<()> {
+        writer.try_migrate(rt.alloc(), Format::Two)?;
+        Ok(())
+    }
 
-pub fn run(rt: &HostRuntime) -> Result<()> {
-    let (store, seats) = Store::open(rt.alloc(), SHAPE)?;
-    let (reader, writer) = two_passes(rt.alloc(), &store, seats)?;
-    show(rt, writer, reader)
+    fn look(
+        rt: &HostRuntime,
+        before: &mut Pinned<'_, Global>,
+        now: &mut Pinned<'_, Global>,
+    ) -> Result<()> {
+        let user = key("user 1")?;
+        tell(rt, "the pinned version", before, &user)?;
+        tell(rt, "the version now", now, &user)
+    }
 }

@@ -37,7 +37,7 @@ fn tell_rows(rt: &HostRuntime, pass: &mut Pass<'_, Global>) -> Result<()> {
 
 // Fills the store, and asks.
 fn show(rt: &HostRuntime, mut pass: Pass<'_, Global>) -> Result<()> {
-    put_users(rt.alloc(), &mut pass, 0..KEYS, b"new")?;
+    put_users(rt.alloc(), &mut pass, 0..KEYS, "new")?;
     tell_rows(rt, &mut pass)
 }
 

@@ -1,14 +1,14 @@
 //! Proves answers of one version, and checks them by the root digest alone.
-use crate::sharing::{one_pass, put, text};
+use crate::sharing::{Recipe, key, put, text};
 use anyhow::Result;
 use mst_key::{Format, Key};
 use mst_proof::verify_in;
-use mst_store::{Pass, Pinned, Shape, Store};
+use mst_store::{Pass, Pinned, Shape};
 use std::alloc::Global;
 
-const SHAPE: Shape = Shape {
+pub const SHAPE: Shape = Shape {
     rows: 100,
-    passes: 1,
+    passes: 2,
     format: Format::Two,
 };
 
@@ -38,7 +38,7 @@ fn show_answer(
     fruit: &str,
     is_forged: bool,
 ) -> Result<()> {
-    let key = Key::new(fruit.as_bytes())?;
+    let key = key(fruit)?;
     let mut proof = pinned.prove(rt.alloc(), &key)?;
     if is_forged {
         change(&mut proof);
@@ -46,21 +46,22 @@ fn show_answer(
     check(rt, pinned.format(), &pinned.root(), &key, &proof)
 }
 
-// Has two answers of one version checked, and one whose proof was changed.
-fn show_all(rt: &HostRuntime, pinned: &mut Pinned<'_, Global>) -> Result<()> {
-    show_answer(rt, pinned, "apple", false)?;
-    show_answer(rt, pinned, "pear", false)?;
-    show_answer(rt, pinned, "apple", true)
-}
+/// The recipe.
+pub struct Proofs;
 
-// Puts a pair, and pins the version that has it.
-fn show(rt: &HostRuntime, mut pass: Pass<'_, Global>) -> Result<()> {
-    put(&mut pass, "apple", "30")?;
-    show_all(rt, &mut pass.pin())
-}
+impl Recipe for Proofs {
+    fn begin(_rt: &HostRuntime, writer: &mut Pass<'_, Global>) -> Result<()> {
+        put(writer, "apple", "30")
+    }
 
-pub fn run(rt: &HostRuntime) -> Result<()> {
-    let (store, seats) = Store::open(rt.alloc(), SHAPE)?;
-    let pass = one_pass(rt.alloc(), &store, seats)?;
-    show(rt, pass)
+    // Has two answers of one version checked, and one whose proof was changed.
+    fn look(
+        rt: &HostRuntime,
+        pinned: &mut Pinned<'_, Global>,
+        _now: &mut Pinned<'_, Global>,
+    ) -> Result<()> {
+        show_answer(rt, pinned, "apple", false)?;
+        show_answer(rt, pinned, "pear", false)?;
+        show_answer(rt, pinned, "apple", true)
+    }
 }

@@ -1,11 +1,11 @@
 //! A report of one version, while a writer goes on.
-use crate::sharing::{put_each, text, two_passes};
+use crate::sharing::{Recipe, put_each, text};
 use anyhow::Result;
 use mst_key::{Format, Key, Value};
-use mst_store::{Pass, Pinned, Shape, Store};
+use mst_store::{Pass, Pinned, Shape};
 use std::alloc::Global;
 
-const SHAPE: Shape = Shape {
+pub const SHAPE: Shape = Shape {
     rows: 100,
     passes: 2,
     format: Format::One,
@@ -33,39 +33,31 @@ fn report(rt: &HostRuntime, pinned: &mut Pinned<'_, Global>) -> Result<()> {
     report_accounts(rt, pinned)
 }
 
-// Reports on two versions.
-fn report_both(
-    rt: &HostRuntime,
-    before: &mut Pinned<'_, Global>,
-    now: &mut Pinned<'_, Global>,
-) -> Result<()> {
-    report(rt, before)?;
-    report(rt, now)
-}
-
 // Accounts with their amounts, before and after a payment.
 const BEFORE: &[(&str, &str)] = &[("ann", "60"), ("bob", "40")];
 
 const AFTER: &[(&str, &str)] = &[("ann", "10"), ("bob", "90")];
 
-// Goes on writing while a version is pinned.
-fn go_on(
-    rt: &HostRuntime,
-    mut writer: Pass<'_, Global>,
-    before: &mut Pinned<'_, Global>,
-) -> Result<()> {
-    put_each(&mut writer, AFTER)?;
-    report_both(rt, before, &mut writer.pin())
-}
+/// The recipe.
+pub struct Accounts;
 
-// Writes, and pins the version that has that.
-fn show(rt: &HostRuntime, mut writer: Pass<'_, Global>, reader: Pass<'_, Global>) -> Result<()> {
-    put_each(&mut writer, BEFORE)?;
-    go_on(rt, writer, &mut reader.pin())
-}
+impl Recipe for Accounts {
+    fn begin(_rt: &HostRuntime, writer: &mut Pass<'_, Global>) -> Result<()> {
+        put_each(writer, BEFORE)
+    }
 
-pub fn run(rt: &HostRuntime) -> Result<()> {
-    let (store, seats) = Store::open(rt.alloc(), SHAPE)?;
-    let (reader, writer) = two_passes(rt.alloc(), &store, seats)?;
-    show(rt, writer, reader)
+    // Goes on writing while that version is pinned.
+    fn go_on(_rt: &HostRuntime, writer: &mut Pass<'_, Global>) -> Result<()> {
+        put_each(writer, AFTER)
+    }
+
+    // Reports on both versions.
+    fn look(
+        rt: &HostRuntime,
+        before: &mut Pinned<'_, Global>,
+        now: &mut Pinned<'_, Global>,
+    ) -> Result<()> {
+        report(rt, before)?;
+        report(rt, now)
+    }
 }

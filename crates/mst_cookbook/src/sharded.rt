@@ -1,10 +1,9 @@
 //! More keys than a store has rows for: a map of three shards, with one root digest.
-use crate::sharing::{pair, text, users};
+use crate::sharing::{Change, edits_of, text, three_shards};
 use anyhow::{Error, Result};
 use mst_blocks::Writer;
-use mst_key::{Edit, Format, Key};
+use mst_key::{Format, Key};
 use mst_sharded_proof::verify_sharded;
-use mst_shards::Sharded;
 use mst_snapshots::{Reader, Snapshot};
 use mst_store::Shape;
 use std::alloc::Global;
@@ -16,29 +15,15 @@ const SHAPE: Shape = Shape {
     format: Format::One,
 };
 
-// The first keys of the shards after the first: below h, from h on, from p on.
-fn splits(alloc: Global) -> Result<Vec<Key>> {
-    Ok(vec![in alloc; Key::new(b"h")?, Key::new(b"p")?]?)
-}
-
-// A map with its writer and a reader, for a thread each.
-fn open(alloc: Global) -> Result<(Writer<Global>, Reader<Global>)> {
-    let (map, seats) = Sharded::open(alloc, splits(alloc)?, SHAPE)?;
-    users(alloc, map, seats)
-}
-
-// Two prices, whose keys are in two shards.
-fn prices() -> Result<[Edit; 2]> {
-    let (apple, thirty) = pair("apple", "30")?;
-    let (plum, twelve) = pair("plum", "12")?;
-    Ok([Edit::Put(apple, thirty), Edit::Put(plum, twelve)])
-}
+/// Two prices, whose keys are in two shards.
+const PRICES: &[Change] = &[("apple", Some("30")), ("plum", Some("12"))];
 
 // Puts both as one block.
-fn fill(alloc: Global, writer: Writer<Global>) -> Result<Writer<Global>> {
-    let (writer, made) = writer.apply(alloc, &prices()?);
+fn fill(alloc: Global, writer: Writer<Global>) -> Result<()> {
+    let prices = edits_of(alloc, PRICES)?;
+    let (_, made) = writer.apply(alloc, &prices);
     made?;
-    Ok(writer)
+    Ok(())
 }
 
 // Prints what somebody finds who has the root digest of all shards, and a proof.
@@ -72,7 +57,7 @@ fn read(rt: &HostRuntime, reader: Reader<Global>) -> Result<()> {
 }
 
 pub fn run(rt: &HostRuntime) -> Result<()> {
-    let (writer, reader) = open(rt.alloc())?;
-    let _writer = fill(rt.alloc(), writer)?;
+    let (writer, reader) = three_shards(rt.alloc(), SHAPE)?;
+    fill(rt.alloc(), writer)?;
     read(rt, reader)
 }

@@ -8,7 +8,7 @@ ghost use Rattle.std.specs.Prelude.{◌≡◌, ◌≢◌, ◌↔◌, ◌⊎◌, 
 ghost use Rattle.mst_c.specs.Codes.{unknown_format, memory, bad_shape};
 ghost use Rattle.mst_c.specs.Batches.{ApplyTold};
 ghost use Rattle.mst_c.specs.Formats.{format_named, FormatTold, MigrateTold};
-ghost use Rattle.mst_c.specs.Knowing.{FreeRowsTold, MadeTold};
+ghost use Rattle.mst_c.specs.Knowing.{FreeRowsTold, PinnedVersionsTold, MadeTold};
 ghost use Rattle.mst_c.specs.Opened.{Opened, IsSize, AllEmpty};
 ghost use Rattle.mst_c.specs.Ranges.{RangeTold};
 ghost use Rattle.mst_c.specs.Told.{GetTold, PutTold, RootTold, ProveTold, PinTold, UnpinTold, CloseTold, RemoveTold, VersionTold, LenTold, RowsTold, NextTold};
@@ -190,6 +190,23 @@ pub extern "C" fn mst_free_rows(alloc: Global, hand: &mut Hand, count: &mut u32)
     ensures told { FreeRowsTold hand.old.held count.old result count.new hand.new.held }
 {
     knowing::free_rows(alloc, hand, count)
+}
+
+/// Finds the versions that are pinned, which are as many as the store has passes at most. Returns
+/// 0: their numbers stand first in the room, in ascending order, each once, and `length` is how
+/// many they are. Returns -2: `length` is set so, and the room stays. Returns -7, -8 for a pinned
+/// pass, -21: both stay.
+#[unsafe(no_mangle)]
+pub extern "C" fn mst_pinned_versions(
+    alloc: Global,
+    hand: &mut Hand,
+    room: &mut [u64],
+    length: &mut usize,
+) -> i32
+    ensures told { PinnedVersionsTold hand.old.held room.old length.old result room.new length.new
+        hand.new.held }
+{
+    knowing::pinned_versions(alloc, hand, room, length)
 }
 
 /// Sets `number` to the version that the pass's last write made, whatever other passes wrote since.

@@ -4,6 +4,7 @@ ghost use Rattle.std.specs.Prelude.{◌≡◌, ◌≢◌, ◌↔◌, ◌⊎◌, 
 ghost use Rattle.mst_c.specs.Codes.{unknown_format, memory, bad_shape, bad_splits};
 ghost use Rattle.mst_c.specs.Formats.{format_named};
 ghost use Rattle.mst_c.specs.Opened.{IsSize};
+ghost use Rattle.mst_c_blocks.specs.Counting.{FreeRowsTold};
 ghost use Rattle.mst_c_blocks.specs.Making.{ApplyTold};
 ghost use Rattle.mst_c_blocks.specs.Opened.{BlocksOpened, NoneHeld};
 ghost use Rattle.mst_c_blocks.specs.Parts.{BeginTold, PrepareTold, CommitTold, CancelTold};
@@ -13,7 +14,7 @@ ghost use Rattle.mst_c_blocks.specs.Splits.{PacksSplits};
 ghost use Rattle.mst_c_blocks.specs.Told.{GetTold, ShardsTold, NumberTold, RootTold, TryTold, ReleaseTold, CloseTold};
 
 use mst_c_blocks::hand::{BlocksHand, PaddedBlocksHand};
-use mst_c_blocks::{making, opening, parts, proving, reading, telling};
+use mst_c_blocks::{counting, making, opening, parts, proving, reading, telling};
 use std::alloc::Global;
 
 /// Opens a sharded map of the empty map in format 1 or 2, each shard with `rows` rows, and makes
@@ -62,6 +63,21 @@ pub extern "C" fn mst_sharded_shards(alloc: Global, hand: &mut BlocksHand) -> i3
     ensures told { ShardsTold hand.old.held result hand.new.held }
 {
     telling::shards(alloc, hand)
+}
+
+/// Sets `count` to the number of rows that are free to the next block in the shard with this
+/// number, from 0, or in the directory, which has the number of the shards. Returns 0; or -7, -8
+/// for what is no writer, -1 if there is no such shard, -21, and then the count stays.
+#[unsafe(no_mangle)]
+pub extern "C" fn mst_sharded_free_rows(
+    alloc: Global,
+    hand: &mut BlocksHand,
+    shard: usize,
+    count: &mut u32,
+) -> i32
+    ensures told { FreeRowsTold hand.old.held shard count.old result count.new hand.new.held }
+{
+    counting::free_rows(alloc, hand, shard, count)
 }
 
 /// Makes the edits of a buffer, which is as that of `mst_try_apply`, of all shards as the writer's

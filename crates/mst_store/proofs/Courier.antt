@@ -1,6 +1,7 @@
 -- The courier's way along the line of the passes, and back.
-use Rattle.std.proofs.Common.{◌≡◌, ℕ, zero, suc, ◌+◌, ◌<◌, ◌≤◌, ◌≢◌, List, [], ◌∷◌, ◌++◌, length, get_or, set, take, drop, map, sym, refl, ap, ◌∙◌, subst, arith, add-one}
+use Rattle.std.proofs.Common.{◌≡◌, ℕ, zero, suc, ◌+◌, ◌<◌, ◌≤◌, ◌≢◌, Bool, true, false, List, [], ◌∷◌, ◌++◌, length, get_or, set, take, drop, map, sym, refl, ap, ◌∙◌, subst, arith, add-one}
 use Rattle.std.specs.List.{All}
+use Rattle.std.specs.Prelude.{◌==◌}
 use Rattle.std.proofs.lemmas.List.{get_or_default}
 use Rattle.std.proofs.lemmas.List.Elements.{All-weaker, All-map}
 use Rattle.atomic_table.specs.Seated.{TableId}
@@ -15,10 +16,11 @@ use Rattle.mst_key.specs.History.{History, events_of, IsPrefix}
 use Rattle.mst_words.specs.declared.view.View.{View}
 use Rattle.mst_words.specs.Notes.{having_heard, IsOfPasses, SeesTold}
 use Rattle.mst_versions.specs.declared.parameters.PassParameters.{PassParameters}
-use Rattle.mst_store.specs.Passes.{Known, IsPinning, having_asked}
+use Rattle.mst_store.specs.Passes.{StoreId, Known, IsPinning, having_asked}
 use Rattle.mst_versions.specs.Turns.{SeatState}
 use Rattle.mst_store.specs.Settling.{AreAllPasses, IsOfOne, IsBeside, GoesOn}
 use Rattle.mst_key.proofs.HistoryLaws.{IsPrefix-chain, events_of-between}
+use Rattle.mst_store.proofs.AllPasses.{all_of_front, all_of_back}
 
 -- what holds below a place and at it holds below the next
 pub one_more : {X : Type 0} (P : X → Type 0) (xs : List X) (i : ℕ) (x : X) → i < length xs
@@ -156,3 +158,30 @@ pub all_alone : (ps : List Known) (passes : ℕ) (log : History) (w : AreAllPass
     → passes ≡ w.store.passes → IsOfPasses passes log → All (IsOfOne ps) log
 all_alone ps passes log w same = All-weaker (λ (e : Event). (0 < e.pass) × (e.pass ≤ passes))
     (IsOfOne ps) (λ e b. w.complete e.pass b.0 (subst (λ (n : ℕ). e.pass ≤ n) same b.1)) log
+
+-- what stands beside one of them stands beside all
+beside_all : (t : TableId) (n : ℕ) (ps : List Known) (w : AreAllPasses ps) (p : Known)
+    → p.store ≡ w.store → IsBeside t n p → All (IsBeside t n) ps
+beside_all t n ps w p own b = All-weaker (λ (q : Known). q.store ≡ w.store) (IsBeside t n)
+    (λ q is. let same : q.store ≡ p.store = is ∙ sym own in record {
+      table_is = ap (λ (s : StoreId). s.table) same ∙ b.table_is;
+      passes_is = ap (λ (s : StoreId). s.passes) same ∙ b.passes_is;
+    }) ps w.of_one
+
+pub beside_front : (t : TableId) (n : ℕ) (ps qs : List Known) (d : Known)
+    → AreAllPasses (ps ++ qs) → 0 < length ps → IsBeside t n (get_or ps 0 d)
+    → All (IsBeside t n) (ps ++ qs)
+beside_front t n ps qs d w some b = beside_all t n (ps ++ qs) w (get_or ps 0 d)
+    (all_of_front (λ (p : Known). p.store ≡ w.store) ps qs w.of_one 0 d some) b
+
+pub beside_back : (t : TableId) (n : ℕ) (ps qs : List Known) (d : Known)
+    → AreAllPasses (ps ++ qs) → 0 < length qs → IsBeside t n (get_or qs 0 d)
+    → All (IsBeside t n) (ps ++ qs)
+beside_back t n ps qs d w some b = beside_all t n (ps ++ qs) w (get_or qs 0 d)
+    (all_of_back (λ (p : Known). p.store ≡ w.store) ps qs w.of_one 0 d some) b
+
+-- a list of which is asked whether it is empty
+pub some_in : {X : Type 0} (xs : List X) (b : Bool) → b ≡ (length xs == 0) → b ≡ false
+    → 0 < length xs
+some_in [] b is other = absurd (let both : true ≡ false = sym is ∙ other in cc)
+some_in (x ∷ xs) b is other = omega arith

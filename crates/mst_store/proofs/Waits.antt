@@ -6,6 +6,10 @@ use Rattle.mst_key.specs.History.{Reply}
 use Rattle.mst_store.specs.declared.faults.BatchFault.{BatchFault}
 use Rattle.mst_store.specs.declared.faults.ChangeFault.{ChangeFault}
 use Rattle.mst_batching.specs.Applying.{RefusesBatch}
+use Rattle.mst_batching.specs.declared.faults.ApplyFault.{ApplyFault}
+use Rattle.mst_batching.specs.declared.faults.ApplyFault.TheVariants as apply
+use Rattle.mst_versions.specs.declared.faults.WriteFault.{WriteFault}
+use Rattle.mst_versions.specs.declared.faults.WriteFault.TheVariants as tried
 use Rattle.mst_store.specs.Passes.{Known, having_missed, made_by, Wrote, Refuses, FindsBusy}
 use Rattle.mst_store.specs.Waiting.{HasTried, WroteAfter, RefusesAfter, RefusesBatchAfter, as_tried, as_tried_batch}
 
@@ -66,6 +70,31 @@ batch_refused_then fault edits p q r had refused =
       refused =
           subst (λ (s : Known). RefusesBatch (as_tried_batch fault) edits s r) had.now refused;
     }
+
+-- as the tries tell it: by a refusal, which is one of these
+pub busy_again : (found : WriteFault) (change : Change) (p q r : Known) → HasTried p q
+    → found ≡ tried.Busy → Refuses found change q r → HasTried p r
+busy_again found change p q r had is refused =
+    tried_again p q r had (subst (λ (f : WriteFault). Refuses f change q r) is refused)
+
+pub refused_as : (fault : ChangeFault) (found : WriteFault) (change : Change) (p q r : Known)
+    → HasTried p q → found ≡ as_tried fault → Refuses found change q r
+    → RefusesAfter fault change p r
+refused_as fault found change p q r had is refused =
+    refused_then fault change p q r had
+    (subst (λ (f : WriteFault). Refuses f change q r) is refused)
+
+pub batch_busy_again : (found : ApplyFault) (edits : List Edit) (p q r : Known) → HasTried p q
+    → found ≡ apply.Busy → RefusesBatch found edits q r → HasTried p r
+batch_busy_again found edits p q r had is refused =
+    tried_again p q r had (subst (λ (f : ApplyFault). RefusesBatch f edits q r) is refused)
+
+pub batch_refused_as : (fault : BatchFault) (found : ApplyFault) (edits : List Edit)
+    (p q r : Known) → HasTried p q → found ≡ as_tried_batch fault → RefusesBatch found edits q r
+    → RefusesBatchAfter fault edits p r
+batch_refused_as fault found edits p q r had is refused =
+    batch_refused_then fault edits p q r had
+    (subst (λ (f : ApplyFault). RefusesBatch f edits q r) is refused)
 
 -- all of them, for a loop of tries
 pub ruleset all_tries = (not_tried, tried_again, wrote_then, refused_then, batch_refused_then)

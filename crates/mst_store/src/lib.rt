@@ -43,7 +43,7 @@ pub use laws::{event_laws, free_rows_laws, meeting_laws, preparing_laws, room_la
 pub use mst_arena::MOST_ROWS;
 pub use mst_batching::ApplyFault;
 pub use mst_key::{Format, Memory};
-pub use mst_versions::{Busy, MigrateFault, WriteFault};
+pub use mst_versions::{Busy, MigrateFault, VersionList, WriteFault};
 pub use mst_words::Shape;
 pub use pass::Pass;
 pub use pinned::Pinned;

@@ -9,13 +9,15 @@ ghost use Rattle.std.specs.Option.{option_copied};
 ghost use Rattle.mst_store.specs.Passes.{Looks, Answers, format_seen, having_asked, made_by, AreFree, Wrote, FindsBusy, Refuses};
 ghost use Rattle.mst_key.specs.History.{after, had, was, done, IsMigration, IsBatch};
 ghost use Rattle.mst_versions.specs.Writes.{rows_of, AreFound};
+ghost use Rattle.mst_versions.specs.Listing.{IsListing};
 ghost use Rattle.mst_versions.specs.Migrating.{RefusesMigration};
 ghost use Rattle.mst_batching.specs.Applying.{RefusesBatch};
 
 use mst_batching::{ApplyFault, applying};
 use mst_key::{Change, Edit, Event, Format, Key, Memory, Value};
 use mst_versions::{
-    Busy, MigrateFault, PassParameters, WriteFault, counting, migrating, reading, writing,
+    Busy, MigrateFault, PassParameters, VersionList, WriteFault, counting, listing, migrating,
+    reading, writing,
 };
 use mst_words::PassSeat;
 use std::alloc::Allocator;
@@ -220,6 +222,21 @@ impl<'a, A: Allocator + Copy> Pass<'a, A> {
         ensures busy { OnErr result (FindsBusy self.old self.new) }
     {
         counting::free_rows(&mut self.seat, self.parameters)
+    }
+
+    /// Returns the numbers of the versions that are found pinned, in ascending order, each once.
+    /// The current version is among them only if a pass pins it. It takes no memory.
+    ///
+    /// Returns `Busy` only if another pass has the turn.
+    pub fn pinned_versions(&mut self) -> Result<VersionList, Busy>
+        ensures looks { OnOk result (Looks self.old self.new) }
+        ensures exact { IfOk result (λ versions. IsListing self.new.found versions.items) }
+        ensures found { OnOk result
+            (AreFound (self.old.store.passes + 1) self.new.seen self.new.found) }
+        ensures steps { OnOk result (self.new.asked ≡ self.old.asked + self.old.store.passes + 4) }
+        ensures busy { OnErr result (FindsBusy self.old self.new) }
+    {
+        listing::pinned_versions(&mut self.seat, self.parameters)
     }
 
     /// Returns the number of the current version: how many events led to it. It takes no memory.

@@ -7,11 +7,11 @@
 -- pass and of a pinned one, `version`, `has_seen`, `rows` and, of a prepared batch, `found`.
 --
 -- All others are `silent`, and their answers are not judged by the map: `number` and `made` tell of
--- the pass; `free_rows`, and a `rows` that found a version pinned, of what readers hold (where none
--- was, `free_rows` is `counted` with the other rows of the store); `Prepared::root` of a map that
--- nobody sees yet; a range or a proof that was refused memory, and a count that was `Busy`, tell
--- nothing. So are `pin`, `unpin`, `prepare`, `cancel`, `close`, `lay`, `lift`, `meet` and `settle`.
--- Nor is it judged why a change was refused.
+-- the pass; `free_rows`, `pinned_versions`, and a `rows` that found a version pinned, of what
+-- readers hold (where none was, `free_rows` is `counted` with the other rows of the store);
+-- `Prepared::root` of a map that nobody sees yet; a range or a proof that was refused memory, and a
+-- count or a list of versions that was `Busy`, tell nothing. So are `pin`, `unpin`, `prepare`,
+-- `cancel`, `close`, `lay`, `lift`, `meet` and `settle`. Nor is it judged why a change was refused.
 use Rattle.std.specs.Prelude.{◌≡◌, ◌⊎◌, ◌↔◌, ℕ, ◌+◌, ◌≤◌, true, List, length}
 use Rattle.mst_key.specs.declared.format.Format.{Format}
 use Rattle.mst_key.specs.declared.history.Change.{Change}

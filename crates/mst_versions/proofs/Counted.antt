@@ -70,30 +70,34 @@ module _ (noted done version : ℕ) where
       go true e is = grind (arith, nat_tests)
       go false e is = absurd (omega (arith, is))
 
-  at_most_one : length (found_now (Some noted) done version) ≤ 1
+  pub at_most_one : length (found_now (Some noted) done version) ≤ 1
   at_most_one = go (eqb (noted % masks) done)
     where
       go : (b : Bool) → length (if b then [] else version ∷ []) ≤ 1
       go true = omega arith
       go false = omega arith
 
-  it_is : (v : ℕ) → In v (found_now (Some noted) done version) → v ≤ version
+  pub it_is : (v : ℕ) → In v (found_now (Some noted) done version) → v ≤ version
   it_is v = go (eqb (noted % masks) done)
     where
       go : (b : Bool) → In v (if b then [] else version ∷ []) → v ≤ version
       go true i = absurd (in_nothing v i)
       go false i = let e = one_row v version i in omega (arith, e)
 
-module _ {A : Type 0} (t : Turn A) (m1 m2 m3 : SeatState) (noted done : ℕ)
-    (n : NotesCurrent m1 noted m2)
+module _ (m1 m2 m3 : SeatState) (noted done : ℕ) (n : NotesCurrent m1 noted m2)
     (a : AsksCurrent m2 done m3) where
-  -- the versions that were found pinned
-  abbrev all_found : List ℕ
-  all_found = m1.0.found ++ found_now (Some noted) done (length m1.0.seen)
-
   -- after both loads
-  asked_both : m3
-      ≡ (record m1.0 { noted = Some noted; found = all_found; asked = m1.0.asked + 1 + 1 }, m1.1)
+  pub asked_both : m3
+      ≡ (
+        record m1.0 {
+          noted = Some noted;
+          found =
+              m1.0.found ++ found_now (Some noted) done (length m1.0.seen);
+          asked =
+              m1.0.asked + 1 + 1;
+        },
+        m1.1,
+      )
   asked_both =
       a.is ∙ ap (λ (z : SeatState). (
         record z.0 {
@@ -104,9 +108,20 @@ module _ {A : Type 0} (t : Turn A) (m1 m2 m3 : SeatState) (noted done : ℕ)
         z.1,
       )) n.is
 
+module _ {A : Type 0} (t : Turn A) (m1 m2 m3 : SeatState) (noted done : ℕ)
+    (n : NotesCurrent m1 noted m2)
+    (a : AsksCurrent m2 done m3) where
+  -- the versions that were found pinned
+  abbrev all_found : List ℕ
+  all_found = m1.0.found ++ found_now (Some noted) done (length m1.0.seen)
+
+  both : m3
+      ≡ (record m1.0 { noted = Some noted; found = all_found; asked = m1.0.asked + 1 + 1 }, m1.1)
+  both = asked_both m1 m2 m3 noted done n a
+
   pub still_holds : HasTurn t m1 → HoldsDesk t m3
   still_holds h =
-      subst (HoldsDesk t) (sym asked_both)
+      subst (HoldsDesk t) (sym both)
       (still t m1 (Some noted) all_found (m1.0.asked + 1 + 1) h.holds)
 
   -- in a store of one pass the mask that was noted is what the record's word says
@@ -128,7 +143,7 @@ module _ {A : Type 0} (t : Turn A) (m1 m2 m3 : SeatState) (noted done : ℕ)
       let m = s.me in
       let w = gave s m1 t b number mine (Some noted) all_found (m1.0.asked + 1 + 1) in
       let z_is : z ≡ w = at_seat s z w.me same
-      (back ∙ ap (λ (x : SeatState). (record x.0 { turn = false }, [])) asked_both) in
+      (back ∙ ap (λ (x : SeatState). (record x.0 { turn = false }, [])) both) in
       let as_many = b.has.leaves.as_many in
       let lengths = length-append m1.0.found (found_now (Some noted) done (length m1.0.seen)) in
       subst (λ (x : Seated). Counts found (known number made s) (known number made x)) (sym z_is)

@@ -14,4 +14,5 @@ pub mod Written
 mod Migrated
 pub mod Undone
 mod Counted
+mod Listed
 pub mod FewRows

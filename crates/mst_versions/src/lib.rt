@@ -22,6 +22,7 @@
 pub mod counting;
 mod faults;
 pub mod finishing;
+pub mod listing;
 pub mod migrating;
 mod parameters;
 pub mod reading;
@@ -30,4 +31,5 @@ pub mod turn;
 pub mod writing;
 
 pub use faults::{Busy, MigrateFault, WriteFault};
+pub use listing::VersionList;
 pub use parameters::PassParameters;

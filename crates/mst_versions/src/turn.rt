@@ -1,12 +1,13 @@
 //! The turn: from taking it with the desk to giving both back.
-ghost use Rattle.std.specs.Prelude.{◌≡◌, ◌<◌, ◌≤◌, ◌+◌, ◌∷◌, [], length, IfSome, IfNone, IfOk, IfErr, OnOk, Some, None, false};
+ghost use Rattle.std.specs.Prelude.{◌≡◌, ◌<◌, ◌≤◌, ◌+◌, ◌∷◌, ◌++◌, [], length, drop, IfSome, IfNone, IfOk, IfErr, OnOk, Some, None, false};
 ghost use Rattle.mst_words.specs.Access.{IsSameSeat};
 ghost use Rattle.mst_arena.specs.Lives.{last_version, IsSettled};
-ghost use Rattle.mst_words.specs.Steps.{IsFree, IsHolder, IsGiving, Misses};
+ghost use Rattle.mst_words.specs.Steps.{IsFree, IsHolder, IsGiving, Misses, found_now};
 ghost use Rattle.mst_words.specs.Stored.{stored, desk_state};
 ghost use Rattle.mst_versions.specs.Asking.{KnowsRecords, HasAsked, AsksOnly, AsksEach};
 ghost use Rattle.mst_words.specs.Layout.{most_passes};
 ghost use Rattle.mst_versions.specs.Known.{most_rows};
+ghost use Rattle.mst_versions.specs.Listing.{AsksAll};
 ghost use Rattle.mst_versions.specs.Resting.{IsResting};
 ghost use Rattle.mst_versions.specs.Turns.{SeatState, TakesDesk, HoldsDesk, HasTurn, Begun, FailsToBegin};
 
@@ -16,7 +17,7 @@ use arrayvec::ArrayVec;
 use mst_arena::{Desk, Root};
 use mst_key::Format;
 use mst_words::PassSeat;
-use mst_words::layout::MOST_RECORDS;
+use mst_words::layout::{MASKS, MOST_RECORDS};
 use std::alloc::Allocator;
 
 /// What the holder of the turn has at hand.
@@ -100,7 +101,7 @@ fn ask_others<A: Allocator + Copy>(seat: &mut PassSeat<'_, A>, desk: &Desk<A>, p
 }
 
 // Takes the turn, and the desk out of the slot. Returns `None` if another pass has the turn.
-fn take<A: Allocator + Copy>(seat: &mut PassSeat<'_, A>, number: u32) -> Option<Desk<A>>
+pub(crate) fn take<A: Allocator + Copy>(seat: &mut PassSeat<'_, A>, number: u32) -> Option<Desk<A>>
     requires free { IsFree number seat.old.me }
     ensures same { IsSameSeat seat.old seat.new }
     ensures missed { IfNone result (Misses seat.old.me seat.new.me) }
@@ -155,6 +156,49 @@ fn ready_turn<A: Allocator + Copy>(
         into: asked.into,
         live: asked.live.len() as u32,
     }
+}
+
+// The versions of the list but the first, which is the current one; and that one behind them, if
+// the mask of the pins that ended is not the one that was noted, so that some pass pins it.
+fn found_in(
+    mut live: ArrayVec<u64, MOST_RECORDS>,
+    version: u64,
+    noted: u64,
+    done: u64,
+) -> ArrayVec<u64, MOST_RECORDS>
+    requires some { 0 < length live.items }
+    requires few { length live.items ≤ most_passes }
+    ensures found { result.items ≡ drop 1 live.items ++ found_now (Some noted) done version }
+{
+    live.remove(0);
+    if noted % MASKS != done {
+        live.push(version);
+    }
+    live
+}
+
+/// Asks each record who pins it, and gives the turn back. It returns the versions that were found
+/// pinned, in the order in which they were found: one load for each record but the current one, and
+/// two for that.
+pub(crate) fn ask_all<A: Allocator + Copy>(
+    seat: &mut PassSeat<'_, A>,
+    desk: Desk<A>,
+    passes: u32,
+) -> ArrayVec<u64, MOST_RECORDS>
+    requires taken { (before : SeatState) × TakesDesk before desk seat.old.me }
+    requires holder { IsHolder seat.old.me }
+    requires passes { passes ≡ seat.old.me.0.passes }
+    requires few { passes ≤ most_passes }
+    ensures same { IsSameSeat seat.old seat.new }
+    ensures found { result.items ≡ seat.new.me.0.found }
+    ensures all { AsksAll seat.old.me seat.new.me }
+{
+    let others = ask_others(seat, &desk, passes);
+    let (current, version) = desk.current();
+    let noted = seat.note_current();
+    let done = seat.ask_current(current);
+    lay_back(seat, desk);
+    found_in(others.live, version, noted, done)
 }
 
 /// Takes the turn, finds a record for a version to come, and frees the rows that no version

@@ -3,6 +3,7 @@ package store
 import (
 	"bytes"
 	"errors"
+	"fmt"
 	"regexp"
 	"runtime"
 	"testing"
@@ -210,6 +211,35 @@ func TestRows(t *testing.T) {
 	if free, err := pass.FreeRows(); free != 8-rows || err != nil {
 		t.Errorf("%d of 8 rows are free, %v", free, err)
 	}
+}
+
+func TestPinnedVersions(t *testing.T) {
+	passes := open(t, mst.Format1, 32, 3)
+	lists := func(wanted ...uint64) {
+		t.Helper()
+		versions, err := passes[0].PinnedVersions()
+		if fmt.Sprint(versions) != fmt.Sprint(wanted) || err != nil {
+			t.Errorf("pinned versions %v, and not %v, %v", versions, wanted, err)
+		}
+	}
+	lists()
+	expect(t, "Put", put(passes[0], []byte("key"), nil), nil)
+	older, err := passes[1].Pin()
+	expect(t, "Pin", err, nil)
+	lists(1)
+	expect(t, "Put", put(passes[0], []byte("key"), nil), nil)
+	newest, err := passes[2].Pin()
+	expect(t, "Pin", err, nil)
+	lists(1, 2)
+	_, err = passes[1].PinnedVersions()
+	expect(t, "PinnedVersions", err, mst.ErrWrongState)
+	older.Unpin()
+	lists(2)
+	newest.Unpin()
+	lists()
+	expect(t, "Close", passes[0].Close(), nil)
+	_, err = passes[0].PinnedVersions()
+	expect(t, "PinnedVersions", err, mst.ErrClosed)
 }
 
 func TestMade(t *testing.T) {

@@ -64,6 +64,49 @@ func rootOf(t *testing.T, writer *mst.ShardedWriter) mst.Root {
 }
 
 // makes makes a block of up to 23 edits at random.
+func TestShardedFreeRows(t *testing.T) {
+	writer, readers, err := mst.OpenSharded(mst.ShardedOptions{
+		Rows: 16, Readers: 1, Splits: [][]byte{[]byte("m")},
+	})
+	if err != nil {
+		t.Fatal(err)
+	}
+	free := func(shard int) int {
+		t.Helper()
+		rows, present, err := writer.FreeRows(shard)
+		if !present || err != nil {
+			t.Fatalf("shard %d has no free rows, %v", shard, err)
+		}
+		return rows
+	}
+	put := func(value string) {
+		t.Helper()
+		var batch mst.Batch
+		if _, err := writer.Apply(batch.Put([]byte("a"), []byte(value))); err != nil {
+			t.Fatal(err)
+		}
+	}
+	listed := free(2)
+	put("1")
+	then := snapshotOf(t, readers[0])
+	put("2")
+	if free(0) != 12 || free(1) != 16 || free(2) >= listed {
+		t.Errorf("%d, %d and %d rows are free", free(0), free(1), free(2))
+	}
+	then.Release()
+	if free(0) != 14 || free(2) != listed {
+		t.Errorf("%d and %d rows are free", free(0), free(2))
+	}
+	for _, shard := range []int{3, -1, 1 << 30} {
+		if rows, present, err := writer.FreeRows(shard); rows != 0 || present || err != nil {
+			t.Errorf("shard %d: %d, %v, %v", shard, rows, present, err)
+		}
+	}
+	expect(t, "Close", writer.Close(), nil)
+	_, _, err = writer.FreeRows(0)
+	expect(t, "FreeRows", err, mst.ErrClosed)
+}
+
 func makes(t *testing.T, writer *mst.ShardedWriter, before told, chance *rand.Rand) told {
 	t.Helper()
 	known := map[byte][]byte{}

@@ -1,9 +1,10 @@
-//! What a hand's pass tells of its store's rows while versions are pinned, and of its own last
-//! write.
-ghost use Rattle.mst_c.specs.Knowing.{CountsFree, Knows};
+//! What a hand's pass tells of its store's rows while versions are pinned, of these versions, and
+//! of its own last write.
+ghost use Rattle.std.specs.Prelude.{Ok, Err, IfOk, IfErr};
+ghost use Rattle.mst_c.specs.Knowing.{CountsFree, ListsPinned, Knows};
 
 use crate::pass_box::{PassBox, State, Uncounted, put_back};
-use mst_store::Busy;
+use mst_store::{Busy, VersionList};
 use std::mem::replace;
 
 impl PassBox {
@@ -18,6 +19,29 @@ impl PassBox {
                 put_back(&mut self.state, State::Free(pass.lay()));
                 match free {
                     Ok(free) => Ok(free),
+                    Err(Busy) => Err(Uncounted::Busy),
+                }
+            }
+            other => {
+                put_back(&mut self.state, other);
+                Err(Uncounted::Pins)
+            }
+        }
+    }
+
+    /// The versions that are found pinned, if the pass is free.
+    pub(crate) fn pinned_versions(&mut self) -> Result<VersionList, Uncounted>
+        ensures ok { IfOk result
+            (λ versions. ListsPinned self.old (Ok versions.items) self.new) }
+        ensures err { IfErr result (λ fault. ListsPinned self.old (Err fault) self.new) }
+    {
+        match replace(&mut self.state, State::Away) {
+            State::Free(laid) => {
+                let mut pass = self.store.lift(laid);
+                let found = pass.pinned_versions();
+                put_back(&mut self.state, State::Free(pass.lay()));
+                match found {
+                    Ok(versions) => Ok(versions),
                     Err(Busy) => Err(Uncounted::Busy),
                 }
             }

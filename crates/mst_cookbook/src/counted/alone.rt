@@ -4,20 +4,9 @@ ghost use Rattle.std.specs.Prelude.{◌<◌, length};
 use super::kinds::{self, Kind};
 use super::words::Calls;
 use crate::sharing::one_pass;
-use anyhow::{Error, Result};
 use mst_key::{Edit, Key};
 use mst_store::{MOST_ROWS, Pass, Shape, Store};
 use std::alloc::Global;
-
-/// Prints the line of calls; an error if one of them was refused.
-pub fn tell(rt: &HostRuntime, of: &Calls, is_done: bool) -> Result<()> {
-    if !is_done {
-        return Err(Error::msg("a call was refused"));
-    }
-    let (name, keys, calls) = (of.name, of.keys, of.calls);
-    println!(rt; "{name}: {keys} keys, {calls} calls")?;
-    Ok(())
-}
 
 // Makes the batch of these edits, or puts all keys and makes calls of one kind. Returns true if
 // each call went through.
@@ -32,8 +21,8 @@ fn make(alloc: Global, mut pass: Pass<'_, Global>, keys: &[Key], edits: &[Edit],
 }
 
 /// Makes calls in a store that has no pair yet: one batch of these edits for a load, and otherwise
-/// a put of each key, and then calls of one kind.
-pub fn run(rt: &HostRuntime, keys: &[Key], edits: &[Edit], of: &Calls) -> Result<()>
+/// a put of each key, and then calls of one kind. Returns true if each went through.
+pub fn run(alloc: Global, keys: &[Key], edits: &[Edit], of: &Calls) -> bool
     requires some { 0 < length keys.now }
 {
     let shape = Shape {
@@ -41,7 +30,13 @@ pub fn run(rt: &HostRuntime, keys: &[Key], edits: &[Edit], of: &Calls) -> Result
         passes: 1,
         format: of.format,
     };
-    let (store, seats) = Store::open(rt.alloc(), shape)?;
-    let pass = one_pass(rt.alloc(), &store, seats)?;
-    tell(rt, of, make(rt.alloc(), pass, keys, edits, of))
+    let Ok((store, seats)) = Store::open(alloc, shape) else {
+        return false;
+    };
+    let all_done = match one_pass(alloc, &store, seats) {
+        Ok(pass) => make(alloc, pass, keys, edits, of),
+        Err(_) => false,
+    };
+    drop(store);
+    all_done
 }

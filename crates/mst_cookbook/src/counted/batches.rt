@@ -1,55 +1,33 @@
 //! Batches: puts into a full map, and loads of an empty one.
-ghost use Rattle.std.specs.Prelude.{◌<◌, length};
+ghost use Rattle.std.specs.Prelude.{◌<◌, ◌≤◌, length};
+ghost use Rattle.mst_store.specs.Passes.{most_rows};
 
 use super::alone;
-use super::changes::{FIRST_NEW_VALUE, picked};
-use super::keys::value;
+use super::changes::{FIRST_NEW_VALUE, STRIDE, puts};
 use super::words::Calls;
-use anyhow::Result;
-use mst_key::{Edit, Key, Value};
+use mst_key::Key;
 use mst_store::Pass;
-use std::alloc::{AllocError, Global};
+use std::alloc::Global;
+use std::ops::Range;
 
-// The value of a call. Those of batches of other sizes are other values, so that one kind of calls
-// after another changes the map.
-fn new_value(size: u32, call: u32, lists: bool) -> Value {
-    let first = FIRST_NEW_VALUE.saturating_add(u64::from(size) << 32);
-    value(first.saturating_add(u64::from(call)), lists)
-}
-
-// The puts of the batch that begins with the call `first` and ends before `end`.
-fn edits_of_calls(
-    alloc: Global,
-    keys: &[Key],
-    size: u32,
-    first: u32,
-    end: u32,
-    lists: bool,
-) -> Result<Vec<Edit>, AllocError>
-    requires some { 0 < length keys.now }
-{
-    let mut edits = Vec::with_capacity(alloc, end.saturating_sub(first) as usize)?;
-    for call in first..end {
-        let new = new_value(size, call, lists);
-        edits.push(Edit::Put(picked(keys, call).copy(), new))?;
-    }
-    Ok(edits)
-}
-
-// Makes the batch of the puts from one call on and before another. Returns true if it went through.
+// Makes the batch of the puts of some calls. Returns true if it went through.
+//
+// The values of batches of other sizes are other values, so that one kind of calls after another
+// changes the map.
 fn put_batch(
     alloc: Global,
     pass: &mut Pass<'_, Global>,
     keys: &[Key],
+    calls: Range<u32>,
     size: u32,
-    first: u32,
-    end: u32,
     lists: bool,
 ) -> bool
     requires some { 0 < length keys.now }
 {
-    match edits_of_calls(alloc, keys, size, first, end, lists) {
-        Ok(edits) => pass.try_apply(alloc, edits.as_slice()).is_ok(),
+    let first_value = FIRST_NEW_VALUE.saturating_add(u64::from(size) << 32);
+    let room = calls.end.saturating_sub(calls.start) as usize;
+    match puts(alloc, room, keys, calls, STRIDE, first_value, lists) {
+        Ok(edits) => pass.try_apply(alloc, &edits).is_ok(),
         Err(_) => false,
     }
 }
@@ -77,39 +55,26 @@ pub fn put(
     for batch in 0..batches {
         let first = first_of(batch, batches, calls);
         let end = first_of(batch.saturating_add(1), batches, calls);
-        if !put_batch(alloc, pass, keys, size, first, end, lists) {
+        if !put_batch(alloc, pass, keys, first..end, size, lists) {
             return false;
         }
     }
     true
 }
 
-/// Puts a listing at each key by one batch, `batches` times. Returns true if each went through.
-pub fn put_all(alloc: Global, pass: &mut Pass<'_, Global>, keys: &[Key], batches: u32) -> bool
+/// Puts all keys with their first values by one batch into an empty store, `calls` times, each in
+/// a store of its own. Returns true if each batch went through.
+pub fn load(alloc: Global, keys: &[Key], of: &Calls) -> bool
     requires some { 0 < length keys.now }
+    requires few { length keys.now ≤ most_rows }
 {
-    let Ok(size) = u32::try_from(keys.len()) else {
+    let calls = 0..keys.len() as u32;
+    let Ok(edits) = puts(alloc, keys.len(), keys, calls, 1, 0, false) else {
         return false;
     };
-    put(alloc, pass, keys, size.saturating_mul(batches), size, true)
-}
-
-// The puts of all keys with their first values, as edits.
-fn edits_of_all(alloc: Global, keys: &[Key]) -> Result<Vec<Edit>, AllocError> {
-    let mut edits = Vec::with_capacity(alloc, keys.len())?;
-    for (number, key) in keys.iter().enumerate() {
-        edits.push(Edit::Put(key.copy(), value(number as u64, false)))?;
-    }
-    Ok(edits)
-}
-
-/// Puts all keys by one batch into an empty store, `calls` times, each in a store of its own.
-pub fn load(rt: &HostRuntime, keys: &[Key], of: &Calls) -> Result<()>
-    requires some { 0 < length keys.now }
-{
-    let edits = edits_of_all(rt.alloc(), keys)?;
+    let mut all_done = true;
     for _ in 0..of.calls {
-        alone::run(rt, keys, &edits, of)?;
+        all_done = alone::run(alloc, keys, &edits, of) && all_done;
     }
-    Ok(())
+    all_done
 }

@@ -52,18 +52,14 @@ pub fn keys(alloc: Global, count: u32, rise: bool) -> Result<Vec<Key>, AllocErro
     Ok(keys)
 }
 
-// The bytes of a value of this number.
-fn bytes_of_value<const N: usize>(number: u64) -> [u8; N] {
-    bytes_of(number.wrapping_mul(64).wrapping_add(32))
-}
-
 /// The value of this number. A listing is as long as what the directory of a sharded map has of a
 /// shard: a digest and a key.
 pub fn value(number: u64, is_listing: bool) -> Value {
+    let seed = number.wrapping_mul(64).wrapping_add(32);
     let made = if is_listing {
-        Value::new(&bytes_of_value::<LISTING_BYTES>(number))
+        Value::new(&bytes_of::<LISTING_BYTES>(seed))
     } else {
-        Value::new(&bytes_of_value::<VALUE_BYTES>(number))
+        Value::new(&bytes_of::<VALUE_BYTES>(seed))
     };
     let Ok(value) = made else { unreachable!() };
     value

@@ -1,6 +1,7 @@
 //! The kinds of calls.
 ghost use Rattle.std.specs.Prelude.{◌<◌, length};
 
+use super::calls::{Get, Migrate, Next, Prove, Put, Range, RemoveAndPutBack, Version, repeat};
 use super::words::Calls;
 use super::{batches, changes, reads};
 use mst_key::Key;
@@ -8,7 +9,6 @@ use mst_store::Pass;
 use std::alloc::Global;
 
 /// A kind of call: of a pass, where nothing else is said.
-#[derive(Clone, Copy)]
 pub enum Kind {
     Put,
     /// Puts, this many in each batch.
@@ -34,101 +34,62 @@ pub enum Kind {
     PutOfListing,
     /// Batches of a put of each pair of such a store.
     BatchOfListings,
-    /// Blocks of a map of shards, and snapshots of them.
-    Blocks(Block),
+    /// Blocks of a map of shards, of so many puts each.
+    Blocks(u32),
+    /// Such blocks, and after each a snapshot, which is asked for its number and its root digest,
+    /// and released. None is made of no puts.
+    BlocksAndSnapshots(u32),
 }
 
-/// What is done at each call.
-#[derive(Clone, Copy)]
-pub struct Block {
-    /// How many puts are made as one block; none if it is 0.
-    pub edits: u32,
-    /// Whether a snapshot is taken, asked for its number and its root digest, and released.
-    pub is_read: bool,
-}
+/// The puts of a large block.
+pub const LARGE: u32 = 1_000;
 
-/// A snapshot alone.
-const SEEN: Block = Block {
-    edits: 0,
-    is_read: true,
-};
-
-/// A put.
-const ONE: Block = Block {
-    edits: 1,
-    is_read: false,
-};
-
-/// A put, and a snapshot.
-const ONE_AND_SEEN: Block = Block {
-    edits: 1,
-    is_read: true,
-};
-
-/// A thousand puts.
-const LARGE: Block = Block {
-    edits: 1_000,
-    is_read: false,
-};
-
-/// The kinds, with what the command line calls them.
-const KINDS: &[(Kind, &str)] = &[
-    (Kind::Put, "put"),
-    (Kind::PutInBatches(1), "put in batches of 1"),
-    (Kind::PutInBatches(10), "put in batches of 10"),
-    (Kind::PutInBatches(100), "put in batches of 100"),
-    (Kind::PutInBatches(1_000), "put in batches of 1000"),
-    (Kind::PutInBatches(10_000), "put in batches of 10000"),
-    (Kind::RemoveAndPutBack, "remove and put back"),
-    (Kind::Version, "version"),
-    (Kind::Get, "get"),
-    (Kind::GetPinned, "get of a pinned version"),
-    (Kind::Next, "next"),
-    (Kind::Range, "range of 100"),
-    (Kind::Prove, "prove"),
-    (Kind::Verify, "verify"),
-    (Kind::Migrate, "migrate"),
-    (Kind::Load, "load"),
-    (Kind::GetOfPasses, "get in stores of one shard"),
+/// The kinds, with what the command line calls them, and whether their keys rise: those of a map of
+/// shards, or of stores that have its keys.
+const KINDS: &[(Kind, &str, bool)] = &[
+    (Kind::Put, "put", false),
+    (Kind::PutInBatches(1), "put in batches of 1", false),
+    (Kind::PutInBatches(10), "put in batches of 10", false),
+    (Kind::PutInBatches(100), "put in batches of 100", false),
+    (Kind::PutInBatches(1_000), "put in batches of 1000", false),
+    (Kind::PutInBatches(10_000), "put in batches of 10000", false),
+    (Kind::RemoveAndPutBack, "remove and put back", false),
+    (Kind::Version, "version", false),
+    (Kind::Get, "get", false),
+    (Kind::GetPinned, "get of a pinned version", false),
+    (Kind::Next, "next", false),
+    (Kind::Range, "range of 100", false),
+    (Kind::Prove, "prove", false),
+    (Kind::Verify, "verify", false),
+    (Kind::Migrate, "migrate", false),
+    (Kind::Load, "load", false),
+    (Kind::GetOfPasses, "get in stores of one shard", true),
     (
-        Kind::BatchesOfPasses(LARGE.edits),
+        Kind::BatchesOfPasses(LARGE),
         "batches in stores of one shard",
+        true,
     ),
-    (Kind::GetOfReader, "get of a reader"),
-    (Kind::PutOfListing, "put of a listing"),
-    (Kind::BatchOfListings, "batch of listings"),
-    (Kind::Blocks(SEEN), "snapshot of a block"),
-    (Kind::Blocks(ONE), "block of 1 edit"),
+    (Kind::GetOfReader, "get of a reader", true),
+    (Kind::PutOfListing, "put of a listing", true),
+    (Kind::BatchOfListings, "batch of listings", true),
+    (Kind::BlocksAndSnapshots(0), "snapshot of a block", true),
+    (Kind::Blocks(1), "block of 1 edit", true),
     (
-        Kind::Blocks(ONE_AND_SEEN),
+        Kind::BlocksAndSnapshots(1),
         "block of 1 edit and its snapshot",
+        true,
     ),
-    (Kind::Blocks(LARGE), "block of 1000 edits"),
+    (Kind::Blocks(LARGE), "block of 1000 edits", true),
 ];
 
-/// The kind with this name, and what lines call it.
-pub fn named(name: &str) -> Option<(Kind, &'static str)> {
-    for (kind, its_name) in KINDS {
+/// The kind with this name, what lines call it, and whether its keys rise.
+pub fn named(name: &str) -> Option<(&'static Kind, &'static str, bool)> {
+    for (kind, its_name, rise) in KINDS {
         if *its_name == name {
-            return Some((*kind, *its_name));
+            return Some((kind, *its_name, *rise));
         }
     }
     None
-}
-
-impl Kind {
-    /// Whether it is of a map of shards, or of stores that have its keys.
-    pub fn is_sharded(self) -> bool {
-        matches!(
-            self,
-            Kind::GetOfPasses
-                | Kind::BatchesOfPasses(_)
-                | Kind::GetOfReader
-                | Kind::PutOfListing
-                | Kind::BatchOfListings
-                | Kind::Blocks(_)
-        )
-    }
 }
 
 /// Puts all keys, and gets them of the version that the pass then pins. Returns true if each call
@@ -136,35 +97,38 @@ impl Kind {
 pub fn get_pinned(mut pass: Pass<'_, Global>, keys: &[Key], calls: u32) -> bool
     requires some { 0 < length keys.now }
 {
-    changes::fill(&mut pass, keys, false) && reads::get_pinned(&mut pass.pin(), keys, calls)
+    let is_filled = changes::fill(&mut pass, keys, false);
+    let all_found = reads::get_pinned(&mut pass.pin(), keys, calls);
+    is_filled && all_found
 }
 
-// Makes calls of a kind of a pass, gets if it is of something else. Returns true if each went
-// through.
-fn make_one_kind(alloc: Global, pass: &mut Pass<'_, Global>, keys: &[Key], of: &Calls) -> bool
-    requires some { 0 < length keys.now }
-{
-    match of.kind {
-        Kind::Put => changes::put(pass, keys, of.calls, false),
-        Kind::PutOfListing => changes::put(pass, keys, of.calls, true),
-        Kind::PutInBatches(size) => batches::put(alloc, pass, keys, of.calls, size, false),
-        Kind::BatchOfListings => batches::put_all(alloc, pass, keys, of.calls),
-        Kind::RemoveAndPutBack => changes::remove_and_put_back(pass, keys, of.calls),
-        Kind::Version => reads::version(pass, of.calls),
-        Kind::Next => reads::next(pass, keys, of.calls),
-        Kind::Range => reads::range(alloc, pass, keys, of.calls),
-        Kind::Prove => reads::prove(alloc, pass, keys, of.calls),
-        Kind::Verify => reads::verify(alloc, pass, keys, of.calls),
-        Kind::Migrate => changes::migrate(alloc, pass, of.calls),
-        _ => reads::get(pass, keys, of.calls),
-    }
-}
-
-/// Puts all keys, and makes calls of a kind that leaves the pass where it is. Returns true if each
-/// call went through.
+/// Puts all keys, and makes calls of a kind that leaves the pass where it is, gets if it is of
+/// something else. Returns true if each call went through.
 pub fn make(alloc: Global, pass: &mut Pass<'_, Global>, keys: &[Key], of: &Calls) -> bool
     requires some { 0 < length keys.now }
 {
     let lists = matches!(of.kind, Kind::PutOfListing | Kind::BatchOfListings);
-    changes::fill(pass, keys, lists) && make_one_kind(alloc, pass, keys, of)
+    let is_filled = changes::fill(pass, keys, lists);
+    let count = of.calls;
+    let all_done = match of.kind {
+        Kind::Put => repeat(alloc, pass, keys, count, &Put { lists: false }),
+        Kind::PutOfListing => repeat(alloc, pass, keys, count, &Put { lists: true }),
+        Kind::PutInBatches(size) => batches::put(alloc, pass, keys, count, *size, false),
+        Kind::BatchOfListings => {
+            let size = u32::try_from(keys.len()).unwrap_or(u32::MAX);
+            batches::put(alloc, pass, keys, size.saturating_mul(count), size, true)
+        }
+        Kind::RemoveAndPutBack => repeat(alloc, pass, keys, count, &RemoveAndPutBack),
+        Kind::Version => {
+            let first = pass.version();
+            repeat(alloc, pass, keys, count, &Version { first })
+        }
+        Kind::Next => repeat(alloc, pass, keys, count, &Next),
+        Kind::Range => repeat(alloc, pass, keys, count, &Range),
+        Kind::Prove => repeat(alloc, pass, keys, count, &Prove),
+        Kind::Verify => reads::verify(alloc, pass, keys, count),
+        Kind::Migrate => repeat(alloc, pass, keys, count, &Migrate),
+        _ => repeat(alloc, pass, keys, count, &Get),
+    };
+    is_filled && all_done
 }

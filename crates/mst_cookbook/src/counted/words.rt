@@ -3,10 +3,12 @@ use super::kinds::{self, Kind};
 use mst_key::Format;
 
 /// Calls of one kind at a map of this many keys, in a format.
-#[derive(Clone, Copy)]
+#[derive(Drop)]
 pub struct Calls {
-    pub kind: Kind,
+    pub kind: &'static Kind,
     pub name: &'static str,
+    /// Whether the keys rise.
+    pub rise: bool,
     pub keys: u32,
     pub calls: u32,
     pub format: Format,
@@ -38,8 +40,11 @@ fn number(word: &str) -> Option<u32> {
 fn format(last: &[String]) -> Option<Format> {
     match last {
         [] => Some(Format::One),
-        [word] if word.as_str() == "1" => Some(Format::One),
-        [word] if word.as_str() == "2" => Some(Format::Two),
+        [word] => match number(word.as_str()) {
+            Some(1) => Some(Format::One),
+            Some(2) => Some(Format::Two),
+            _ => None,
+        },
         _ => None,
     }
 }
@@ -52,9 +57,10 @@ fn calls_of(kind: &str, keys: &str, calls: &str, last: &[String]) -> Option<Call
         number(calls),
         format(last),
     ) {
-        (Some((kind, name)), Some(keys), Some(calls), Some(format)) => Some(Calls {
+        (Some((kind, name, rise)), Some(keys), Some(calls), Some(format)) => Some(Calls {
             kind,
             name,
+            rise,
             keys,
             calls,
             format,

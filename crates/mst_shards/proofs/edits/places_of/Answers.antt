@@ -1,4 +1,4 @@
-use Rattle.std.proofs.Common.{◌∙◌, ◌∷◌, ◌++◌, [], ℕ, List, map, take, sym, ap, arith}
+use Rattle.std.proofs.Common.{◌∙◌, ◌≤◌, ◌∷◌, ◌++◌, [], ℕ, List, length, map, take, take_all, sym, ap, arith}
 use Rattle.std.proofs.lemmas.List.{map_more}
 use Rattle.mst_key.specs.History.{key_of}
 use Rattle.mst_key.specs.declared.history.Edit.{Edit}
@@ -27,3 +27,11 @@ loop-edit-preserved g c =
       omega (arith, at, len),
       omega (arith, room, cap),
     )
+
+pub returns : goal.returns
+returns g c =
+    let was = c.loop-edit.invariant in
+    let edits : List Edit = c.args.edits.now in
+    let its : Edit → ℕ = λ x. place c.args.splits.now (key_of x) in
+    let all : length edits ≤ c.loop-edit.edit-index = omega arith in
+    record { places = was.0 ∙ ap (map its) (take_all c.loop-edit.edit-index edits all) }

@@ -1,6 +1,5 @@
-use Rattle.std.proofs.Common.{◌≡◌, ℕ, ap, sym, subst, ◌∙◌, arith, rules}
-use Rattle.std.proofs.lemmas.Grind.{common_steps}
-use Rattle.mst_key.specs.History.{History, events_of}
+use Rattle.std.proofs.Common.{◌≡◌, ℕ, ap, sym, subst, ◌∙◌, rules}
+use Rattle.mst_key.specs.History.{History, events_of, IsPrefix}
 use Rattle.mst_key.proofs.HistoryLaws.{IsPrefix-chain}
 use Rattle.mst_words.specs.Notes.{IsOfPasses}
 use Rattle.mst_versions.specs.Turns.{SeatState}
@@ -18,7 +17,12 @@ pub deliver-requires-clause-own : goal.deliver-requires-clause-own
 deliver-requires-clause-own g c = search rules
 
 pub deliver-requires-clause-later : goal.deliver-requires-clause-later
-deliver-requires-clause-later g c = grind (arith, common_steps)
+deliver-requires-clause-later g c =
+    let sent = c.send_courier-courier in
+    let log : History = c.collect.new.courier.me.0.seen in
+    subst (λ (p : Known). IsPrefix p.seen log) (sym sent.ensures.same)
+    (IsPrefix-chain c.args.one.now.seen sent.result.me.0.seen log sent.ensures.later
+    c.collect.ensures.courier.later)
 
 pub deliver-requires-2-clause-own : goal.deliver-requires-2-clause-own
 deliver-requires-2-clause-own g c = search rules

@@ -1,6 +1,4 @@
-use Rattle.std.proofs.Common.{arith, rules}
-use Rattle.std.proofs.lemmas.Grind.{elements}
-use Rattle.std.proofs.Common.{◌≡◌, ◌++◌, List, map, sym, ap, ◌∙◌, subst}
+use Rattle.std.proofs.Common.{◌≡◌, ◌++◌, List, map, sym, ap, ◌∙◌, subst, rules}
 use Rattle.std.specs.List.{All}
 use Rattle.std.proofs.lemmas.List.Elements.{All-append, All-map}
 use Rattle.mst_key.specs.History.{History, events_of, IsPrefix}
@@ -100,7 +98,10 @@ pub returns-in_default : goal.returns-in_default
 returns-in_default g c = search rules
 
 pub collect_all-requires-clause-own : goal.collect_all-requires-clause-own
-collect_all-requires-clause-own g c = grind (arith, elements)
+collect_all-requires-clause-own g c = let first = c.in-Some.courier in
+    subst (All (IsBeside first.table first.me.0.passes)) (sym c.first_courier.ensures.same.0)
+    (all_of_front (IsBeside first.table first.me.0.passes) c.args.free.now c.args.held.now
+    c.in-Some.ensures.own)
 
 pub collect_all-requires-clause-courier : goal.collect_all-requires-clause-courier
 collect_all-requires-clause-courier g c = search rules

@@ -1,8 +1,9 @@
 use Rattle.std.proofs.Common.{◌≡◌, ◌∙◌, ◌-◌, ◌≤◌, List, length, vec_items, sym, ap, subst, arith}
 use Rattle.std.specs.List.{AllByRecursion}
+use Rattle.std.proofs.lemmas.Result.{IfOk-from_err}
 use Rattle.mst_store.specs.Passes.{StoreId}
 use Rattle.mst_shards.specs.Opening.{Shards, Dealt, IsLot, lot, first_lots}
-use Rattle.mst_shards.proofs.Dealing.{last_dealt, length-first_lots, lot_is, lots_are, shapes_format}
+use Rattle.mst_shards.proofs.Dealing.{last_dealt, length-first_lots, lot_is, lots_are, shapes_format, shapes_passes}
 use Rattle.mst_shards.proofs.sharded.Sharded.deal.Given.{Over}
 use Rattle.mst_shards.proofs.sharded.Sharded.deal.Goals.{In-Some}
 use Rattle.mst_shards.proofs.sharded.Sharded.deal.Goals as goal
@@ -80,3 +81,31 @@ returns-clause-readers_are g c =
     subst (λ (s : Shards). AllByRecursion (IsLot s) (vec_items c.pop.new.self)) c.self.view_is
     (subst (λ (l : List Dealt). AllByRecursion (IsLot (map_is g c)) l) (sym (dealt g c).1)
     (lots_are (map_is g c) ((over g c).passes - 1) (formats g c)))
+
+-- ---- the lots
+
+pub all_lots-requires-clause-passes : goal.all_lots-requires-clause-passes
+all_lots-requires-clause-passes g c =
+    let passes = c.self.inside.directory.passes in
+    subst (λ (l : List StoreId). AllByRecursion (λ s. s.passes ≡ passes) l)
+    (sym c.as_slice.ensures.value)
+    (shapes_passes c.self.inside.shape passes (vec_items c.self.inside.stores)
+    (sym c.self.invariant.1.directory_shaped.1) c.self.invariant.1.shaped)
+
+-- ---- no memory
+
+pub returns-in_err-lots-clause-writer : goal.returns-in_err-lots-clause-writer
+returns-in_err-lots-clause-writer g c =
+    IfOk-from_err c.from_residual.result _ c.from_residual.ensures.0
+
+pub returns-in_err-lots-clause-readers : goal.returns-in_err-lots-clause-readers
+returns-in_err-lots-clause-readers g c =
+    IfOk-from_err c.from_residual.result _ c.from_residual.ensures.0
+
+pub returns-in_err-lots-clause-writer_is : goal.returns-in_err-lots-clause-writer_is
+returns-in_err-lots-clause-writer_is g c =
+    IfOk-from_err c.from_residual.result _ c.from_residual.ensures.0
+
+pub returns-in_err-lots-clause-readers_are : goal.returns-in_err-lots-clause-readers_are
+returns-in_err-lots-clause-readers_are g c =
+    IfOk-from_err c.from_residual.result _ c.from_residual.ensures.0

@@ -1,4 +1,0 @@
-use Rattle.mst_program_tests.proofs.pins.interleavings.+orders.Given as goal
-
-abbrev pub decreases-orders : goal.decreases-orders
-decreases-orders g l = l.left
