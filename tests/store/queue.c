@@ -387,6 +387,8 @@ static void helped_for_long(void) {
     while (waiting_at(&helping) < 1)
         usleep(100);
     open_gate(&preparing);
+    while (prepared() < SHARDS - 1)
+        usleep(100);
     usleep(5000);
     EXPECT(queued() == 0 && called == 1);
     open_gate(&helping);

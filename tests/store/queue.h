@@ -209,6 +209,14 @@ int32_t mst_sharded_prepare(mst_handle *part) {
     return MST_OK;
 }
 
+/* How many parts of the block are prepared. */
+static size_t prepared(void) {
+    size_t count = 0;
+    for (size_t at = 0; at < SHARDS; at++)
+        count += atomic_load(&begun.prepared[at]) > 0;
+    return count;
+}
+
 int32_t mst_sharded_commit(mst_handle *writer, size_t *shard, uint64_t *number) {
     size_t place;
     if (writer->at != &tag)
