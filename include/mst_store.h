@@ -30,7 +30,7 @@
  *   - a pin keeps the rows of its version. If one is forgotten, writes find no free rows in the end
  *     and are refused;
  *   - a thread that ends within a write keeps the turn for good: then no pass of this store writes,
- *     and reads go on;
+ *     and reads go on. One that ends within a read may leave its pin for good;
  *   - calls that wait let those go first that have waited long, but calls that try do not: where
  *     those take the turn again and again, a writer may starve;
  *   - keys that an attacker chooses can make a node of the tree large, and with it reads and writes
@@ -257,15 +257,15 @@ int32_t mst_next(mst_pass *pass, const uint8_t *key, size_t key_length,
                  uint8_t *room, size_t room_length);
 
 /*
- * Finds the first pairs, at most `limit`, whose keys are at least `from` and below `to`, by rising
- * keys. A bound of length 0 does not bind. For the pairs behind a key, page by page, there is
- * mst_page_after below. Returns MST_OK: *count is the number of the pairs and *length that of their
- * bytes, which stand first in the room, one pair after the other: the length of the key in two
- * bytes, the high one first, that of the value in two bytes, the key, the value. mst_pair_at below
- * reads them. Returns MST_CLOSED; MST_BAD_KEY if a bound is longer than 32 bytes; MST_MEMORY: the
- * room, *count and *length are as they were. Returns MST_SHORT_ROOM if the room is too short:
- * *count and *length are those of all these pairs, and the room is as it was. By the next call a
- * free pass may find more; a pinned one finds these.
+ * Finds the first pairs of one version, at most `limit`, whose keys are at least `from` and below
+ * `to`, by rising keys. A bound of length 0 does not bind. For the pairs behind a key, page by
+ * page, there is mst_page_after below. Returns MST_OK: *count is the number of the pairs and
+ * *length that of their bytes, which stand first in the room, one pair after the other: the length
+ * of the key in two bytes, the high one first, that of the value in two bytes, the key, the value.
+ * mst_pair_at below reads them. Returns MST_CLOSED; MST_BAD_KEY if a bound is longer than 32 bytes;
+ * MST_MEMORY: the room, *count and *length are as they were. Returns MST_SHORT_ROOM if the room is
+ * too short: *count and *length are those of all these pairs, and the room is as it was. By the
+ * next call a free pass may find more; a pinned one finds these.
  */
 int32_t mst_range(mst_pass *pass, const uint8_t *from, size_t from_length,
                   const uint8_t *to, size_t to_length, uint32_t limit,
@@ -922,6 +922,9 @@ typedef struct mst_sharded_group mst_sharded_group;
  * Makes a group of the writer in the hand, and sets *group to its address. Returns MST_OK, and then
  * the hand is empty. Otherwise the hand and *group are as they were: returns MST_CLOSED;
  * MST_WRONG_STATE for what is no writer; MST_MEMORY.
+ *
+ * While the group has the writer, nobody can make a call that wants one: to ask for free rows by
+ * mst_sharded_free_rows, close the group first.
  */
 int32_t mst_sharded_group_open(mst_handle *writer, mst_sharded_group **group);
 

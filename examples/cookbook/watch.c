@@ -40,15 +40,27 @@ static void unpin(mst_pass *passes, int at) {
     list(at, (struct entry){NULL, 0, 0});
 }
 
-/* The entry of the oldest version; that of nobody if nothing is pinned. */
-static struct entry oldest_pin(void) {
-    struct entry oldest = {NULL, UINT64_MAX, 0};
+/* The entry of a version that is pinned; that of nobody if the list has none. */
+static struct entry entry_of(uint64_t version) {
+    struct entry found = {NULL, version, 0};
     pthread_mutex_lock(&pins_lock);
     for (int at = 0; at < PASSES; at++)
-        if (pins[at].who != NULL && pins[at].version < oldest.version)
-            oldest = pins[at];
+        if (pins[at].who != NULL && pins[at].version == version
+            && (found.who == NULL || pins[at].since < found.since))
+            found = pins[at];
     pthread_mutex_unlock(&pins_lock);
-    return oldest;
+    return found;
+}
+
+/* Tells of the oldest version that is pinned. One that is not in the list is of a read that is just
+   being made, or of a thread that has ended within a read. */
+static void tell_pin(uint64_t version) {
+    struct entry found = entry_of(version);
+    printf("free rows fall: version %d is pinned by ", (int)version);
+    if (found.who == NULL)
+        puts("a read");
+    else
+        printf("%s, for %.0f minutes\n", found.who, difftime(time(NULL), found.since) / 60);
 }
 
 /* What the polls before have found. */
@@ -56,19 +68,20 @@ struct watch { uint32_t free_rows; int falls; };
 
 /* A poll, every few seconds, by the spare pass. */
 static void look(struct watch *watch, mst_pass *spare) {
-    struct entry oldest = oldest_pin();
+    uint64_t pinned[MST_PASSES_MOST]; /* the oldest first */
+    size_t count = 0;
     uint32_t free_rows = 0;
 
-    if (mst_free_rows(spare, &free_rows) != MST_OK) { /* MST_BUSY: nothing is known of pins */
-        puts("another pass has the turn");            /* `put` tells whether it ever ends */
+    if (mst_free_rows(spare, &free_rows) != MST_OK
+        || mst_pinned_versions(spare, pinned, MST_PASSES_MOST, &count) != MST_OK) {
+        puts("another pass has the turn"); /* MST_BUSY; `put` tells whether it ever ends */
         return;
     }
     watch->falls = free_rows < watch->free_rows ? watch->falls + 1 : 0;
     watch->free_rows = free_rows;
-    int is_old = watch->falls >= FALLS && oldest.who != NULL, is_full = free_rows < LEAST_FREE;
+    int is_old = watch->falls >= FALLS && count > 0, is_full = free_rows < LEAST_FREE;
     if (is_old)
-        printf("free rows fall: version %d is pinned by %s, for %.0f minutes\n",
-               (int)oldest.version, oldest.who, difftime(time(NULL), oldest.since) / 60);
+        tell_pin(pinned[0]);
     if (is_full)
         puts("fewer rows are free than (1 + S) * W");
     if (!is_old && !is_full)

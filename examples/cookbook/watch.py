@@ -29,9 +29,15 @@ class Pins:
                 with self._lock:
                     del self._entries[reader]
 
-    def oldest(self):
+    def told(self, version):
+        """Who pins a version. One that is not in the list is of a read that is just being made, or
+        of a thread that has ended within a read."""
         with self._lock:
-            return min(self._entries.values(), default=None)
+            found = [it for it in self._entries.values() if it[0] == version]
+        if not found:
+            return "a read"
+        _, since, who = min(found)
+        return f"{who}, for {(time.monotonic() - since) / 60:.0f} minutes"
 
 
 class Watch:
@@ -42,18 +48,15 @@ class Watch:
 
     def poll(self):
         """The alarms of a poll."""
-        oldest = self._pins.oldest()
         try:
-            free_rows = self._spare.free_rows()
-        except Busy:  # nothing is known of pins then; `put` tells whether it ever ends
+            free_rows, pinned = self._spare.free_rows(), self._spare.pinned_versions()
+        except Busy:  # `put` tells whether it ever ends
             return ["another pass has the turn"]
         self._falls = self._falls + 1 if free_rows < self._free_rows else 0
         self._free_rows, alarms = free_rows, []
-        if self._falls >= FALLS and oldest:
-            version, since, who = oldest
-            minutes = (time.monotonic() - since) / 60
-            alarms.append(f"free rows fall: version {version} is pinned by {who},"
-                          f" for {minutes:.0f} minutes")
+        if self._falls >= FALLS and pinned:  # the oldest first
+            alarms.append(f"free rows fall: version {pinned[0]} is pinned by"
+                          f" {self._pins.told(pinned[0])}")
         if free_rows < LEAST_FREE:
             alarms.append("fewer rows are free than (1 + S) * W")
         return alarms

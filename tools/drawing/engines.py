@@ -7,7 +7,7 @@ from .curves import Plot, apart, scale
 from .figures import batches, figures, measured_each, see_that_the_page_tells_them
 
 LEFT, ACROSS, NEXT, UPPER, HIGH, BELOW = 94, 196, 394, 62, 370, 512
-TITLE = "A get takes about as long as LMDB's, a put {:.0f} to {:.0f} times as long"
+TITLE = "A get takes about as long as LMDB's, a put {} to {} times as long"
 # The scale of the gets of all engines but the slowest, and the lines on it.
 GETS, FINE = (100, 1_000), (1, 2, 5)
 LOOKS = {
@@ -42,7 +42,7 @@ def title_of(found):
     )
     if min(gets) < 0.7 or max(gets) > 1.3:
         sys.exit(f"a get takes {min(gets):.2f} to {max(gets):.2f} times LMDB's: another title")
-    return TITLE.format(min(puts), max(puts))
+    return TITLE.format(*(int(it + 0.5) for it in (min(puts), max(puts))))
 
 
 def draw_panel(canvas, place, times, panel, steps=(1,)):

@@ -39,7 +39,7 @@ def draw_replicas(canvas):
     x = left + 160 + (wide - 176) / 2
     for above, below in zip(TOPS, TOPS[1:]):
         canvas.line([(x, above + HIGH - 10), (x, below + 10)], "dotted")
-        canvas.text(x + 12, below - 7, "equal?", 16)
+        canvas.text(x - 12, below - 7, "equal? if not, at which keys?", 16, "end", within=x - left)
     x = (sum(LOG) + left) / 2
     for line, text in enumerate(("one batch", "(or block)", "per entry")):
         canvas.text(x, TOPS[0] + HIGH / 2 + 30 + 24 * line, text, 16, "middle", within=150)

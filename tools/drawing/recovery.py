@@ -40,7 +40,10 @@ LOOKS = [
     ("dashed", "no new writes are begun"),
     ("thick", "the new store, with a map of the same root digest"),
 ]
-NOTES = ["Time goes from left to right."]
+NOTES = [
+    "Time goes from left to right.",
+    "A sharded map moves likewise: a snapshot that a spare reader holds is copied into a new map.",
+]
 
 
 def draw_lane(canvas, top, name, parts):
@@ -52,7 +55,7 @@ def draw_lane(canvas, top, name, parts):
 
 def picture():
     lower = FIRST + len(LANES) * APART
-    canvas = Canvas("recovery", TITLE, lower + 198)
+    canvas = Canvas("recovery", TITLE, lower + 224)
     for place, (x, says) in enumerate(STEPS):
         canvas.line([(x, FIRST - 14), (x, lower - 4)], "dashed")
         canvas.text(x, FIRST - 26, says, 16, "middle", bold=place == 0)
