@@ -166,47 +166,53 @@ impl<A: Allocator> Desk<A> {
     }
 
     /// Takes a free row, as [`Desk::take`] does, for the head of a node that takes so many rows. If
-    /// it takes the place of a node whose head is in the row `replaced`, its rows are those where
-    /// an earlier version of it stood, if they are free.
+    /// it takes the place of a node whose head is in the row `replaced`, it goes where an earlier
+    /// version of that one stood, if all rows there are free; otherwise behind the last new node.
+    /// A new node leaves room for its rows behind its head.
     pub fn take_head(&mut self, replaced: Option<u32>, count: u32) -> Option<u32>
         ensures some { IfSome result (λ r. (slice_get self.old.lives r ≡ Some Free)
             × (self.new ≡ with_life self.old r (Born (next self.old)))) }
         ensures none { IfNone result ((free_count self.old.lives ≡ 0) × (self.new ≡ self.old)) }
     {
-        let Some(replaced) = replaced else {
-            return self.take();
-        };
-        self.go_home(replaced, count);
-        let head = self.take()?;
-        self.note_home(head, replaced);
+        let place = self.place_for(replaced, count);
+        let head = self.take_near(place)?;
+        self.note_head(head, replaced, count);
         Some(head)
     }
 
-    // Has the next rows be those where the node of this head stood before, if they are free.
-    fn go_home(&mut self, head: u32, count: u32)
-        ensures same { self.new ≡ self.old }
-    {
-        self.free.go_home(head, count);
+    // Where the head of a node of so many rows goes, if that row is free.
+    fn place_for(&self, replaced: Option<u32>, count: u32) -> u32 {
+        self.free.place_for(replaced, count)
     }
 
-    // The node of this head takes the place of that of another.
-    fn note_home(&mut self, head: u32, before: u32)
+    // A node of so many rows has its head here, and takes the place of that of the head `replaced`.
+    fn note_head(&mut self, head: u32, replaced: Option<u32>, count: u32)
         ensures same { self.new ≡ self.old }
     {
-        self.free.note_home(head, before);
+        self.free.note_head(head, replaced, count);
+    }
+
+    /// Takes this row, as [`Desk::take`] does, if it is free, otherwise another one.
+    #[inline(always)]
+    pub fn take_near(&mut self, row: u32) -> Option<u32>
+        ensures some { IfSome result (λ r. (slice_get self.old.lives r ≡ Some Free)
+            × (self.new ≡ with_life self.old r (Born (next self.old)))) }
+        ensures none { IfNone result ((free_count self.old.lives ≡ 0) × (self.new ≡ self.old)) }
+    {
+        let row = self.free.take_near(row)?;
+        let birth = self.versions[self.current as usize] + 1;
+        self.lives[row as usize] = Life::Born { birth };
+        Some(row)
     }
 
     /// Takes a free row, born with the version to come. Returns `None` exactly if no row is free.
-    #[inline(always)]
     pub fn take(&mut self) -> Option<u32>
         ensures some { IfSome result (λ r. (slice_get self.old.lives r ≡ Some Free)
             × (self.new ≡ with_life self.old r (Born (next self.old)))) }
         ensures none { IfNone result ((free_count self.old.lives ≡ 0) × (self.new ≡ self.old)) }
     {
-        let row = self.free.take()?;
-        let birth = self.versions[self.current as usize] + 1;
-        self.lives[row as usize] = Life::Born { birth };
-        Some(row)
+        let place = self.place_for(None, 1);
+        self.take_near(place)
     }
 
     /// Frees a row that was taken in this write: it was born with the version to come.

@@ -1,5 +1,5 @@
-//! The free rows: a bitmap of two levels, from which rows are handed out upwards, or where a node
-//! stood before.
+//! The free rows: a bitmap of two levels, from which rows are handed out upwards, or where they are
+//! asked for: so that the rows of a node stand side by side, and where it stood before.
 ghost use Rattle.std.specs.Prelude.{◌≡◌, ◌≤◌, ◌<◌, ◌+◌, ◌*◌, ◌/◌, ◌^◌, ℕ, length, vec_capacity, true, false, Some, replicate, slice_get, slice_index, slice_set, IfOk, IfSome, IfNone};
 ghost use Rattle.mst_arena.specs.Bits.{Sums, bit, count_true};
 ghost use Rattle.mst_arena.specs.Limits.{most_rows};
@@ -15,12 +15,10 @@ use std::marker::Model;
 pub struct FreeRows<A: Allocator> {
     rows: u32,
     count: u32,
-    /// The word of which a row was last taken, but for those of a run.
+    /// The word of which a row was last taken, but for rows that were asked for.
     at: usize,
-    /// The next row of a run, which is taken before others.
-    run: usize,
-    /// How many rows of the run are left.
-    left: u32,
+    /// The row behind those of the last new node.
+    ahead: u32,
     /// A bit for each row.
     words: Vec<u64, A>,
     /// A bit for each word that is not 0.
@@ -53,18 +51,11 @@ fn zeros<A: Allocator>(alloc: A, count: usize) -> Result<Vec<u64, A>, Memory>
     Ok(words)
 }
 
-/// The word at which the next search begins, once this row is taken: a row of a run leaves it.
-fn word_after(at: usize, left: u32, row: usize) -> usize
-    ensures within { (n : ℕ) → at < n → row / 64 < n → result < n }
-{
-    if left != 0 { at } else { row / 64 }
-}
-
 /// How many versions of a node are gone back.
 const STEPS: u32 = 8;
 
 /// Where the node of this head stood last, of the places with so many rows in the set.
-fn free_home<A: Allocator>(homes: &Homes<A>, words: &[u64], head: u32, count: u32) -> Option<usize>
+fn free_home<A: Allocator>(homes: &Homes<A>, words: &[u64], head: u32, count: u32) -> Option<u32>
     ensures free { IfSome result
         (λ home. (i : ℕ) → home ≤ i → i < home + count → bit words.now i ≡ 1) }
 {
@@ -72,7 +63,7 @@ fn free_home<A: Allocator>(homes: &Homes<A>, words: &[u64], head: u32, count: u3
     for _ in 0..STEPS {
         place = homes.before(place)?;
         if are_set(words, place as usize, count as usize) {
-            return Some(place as usize);
+            return Some(place);
         }
     }
     None
@@ -92,8 +83,7 @@ impl<A: Allocator + Copy> FreeRows<A> {
             rows,
             count: 0,
             at: 0,
-            run: 0,
-            left: 0,
+            ahead: 0,
             words,
             summary,
             homes: Homes::new(alloc, rows)?,
@@ -113,52 +103,53 @@ impl<A: Allocator> FreeRows<A> {
         self.count
     }
 
-    /// Has the next rows be taken where the node of this head stood before, if so many rows from
-    /// there on are in the set.
-    pub fn go_home(&mut self, head: u32, count: u32)
-        ensures same { self.new ≡ self.old }
-    {
-        if let Some(home) = free_home(&self.homes, &self.words, head, count) {
-            self.run = home;
-            self.left = count;
+    /// Where the head of a node of so many rows goes if that row is in the set: where the node of
+    /// the head `replaced`, whose place it takes, stood before, if all rows there are in the set;
+    /// otherwise behind the last new node.
+    pub fn place_for(&self, replaced: Option<u32>, count: u32) -> u32 {
+        match replaced {
+            Some(head) => free_home(&self.homes, &self.words, head, count).unwrap_or(self.ahead),
+            None => self.ahead,
         }
     }
 
-    /// The node of this head takes the place of that of another.
-    pub fn note_home(&mut self, head: u32, before: u32)
+    /// A node of so many rows has its head here, and takes the place of that of the head
+    /// `replaced`. A new node leaves room for its rows: the nodes below it go behind them.
+    pub fn note_head(&mut self, head: u32, replaced: Option<u32>, count: u32)
         ensures same { self.new ≡ self.old }
     {
-        self.homes.note(head, before);
+        match replaced {
+            Some(before) => self.homes.note(head, before),
+            None => self.ahead = head.wrapping_add(count),
+        }
     }
 
-    /// Takes a row out of the set: the next one of the run, if rows of it are left and it is in the
-    /// set; otherwise the lowest one of the word of which a row was last taken, or of the next word
-    /// that has one.
+    /// Takes this row out of the set if it is there, otherwise another one.
     #[inline(always)]
+    pub fn take_near(&mut self, row: u32) -> Option<u32>
+        ensures some { IfSome result (λ r. (slice_get self.old r ≡ Some true)
+            × (self.new ≡ slice_set self.old r false)) }
+        ensures none { IfNone result ((count_true self.old ≡ 0) × (self.new ≡ self.old)) }
+    {
+        if is_set(&self.words, row as usize) {
+            let at = self.at;
+            Some(self.take_at(row as usize, at))
+        } else {
+            self.take()
+        }
+    }
+
+    /// Takes the lowest row of the word of which a row was last taken, or of the next word that has
+    /// one. It stands apart so that the compiled code saves no registers for it in front of the
+    /// other rows, which are almost all.
+    #[inline(never)]
     pub fn take(&mut self) -> Option<u32>
         ensures some { IfSome result (λ r. (slice_get self.old r ≡ Some true)
             × (self.new ≡ slice_set self.old r false)) }
         ensures none { IfNone result ((count_true self.old ≡ 0) × (self.new ≡ self.old)) }
     {
-        if self.left != 0 && is_set(&self.words, self.run) {
-            let (run, at) = (self.run, self.at);
-            Some(self.take_at(run, at))
-        } else {
-            self.take_elsewhere()
-        }
-    }
-
-    /// Takes a row that is not the next one of a run. It stands apart so that the compiled code
-    /// saves no registers for it in front of the other rows, which are almost all.
-    #[inline(never)]
-    fn take_elsewhere(&mut self) -> Option<u32>
-        ensures some { IfSome result (λ r. (slice_get self.old r ≡ Some true)
-            × (self.new ≡ slice_set self.old r false)) }
-        ensures none { IfNone result ((count_true self.old ≡ 0) × (self.new ≡ self.old)) }
-    {
         let row = bit_in_use(&self.words, &self.summary, self.at)?;
-        let at = word_after(self.at, self.left, row);
-        Some(self.take_at(row, at))
+        Some(self.take_at(row, row / 64))
     }
 
     /// Takes this row out of the set. The next search begins at word `at`.
@@ -171,8 +162,6 @@ impl<A: Allocator> FreeRows<A> {
     {
         take_bit(&mut self.words, &mut self.summary, row);
         self.at = at;
-        self.run = row + 1;
-        self.left = self.left.saturating_sub(1);
         self.count -= 1;
         row as u32
     }

@@ -18,13 +18,13 @@ use mst_node::TextSink;
 use mst_prefix::TextHasher;
 use std::alloc::Allocator;
 
-/// Takes a free row. There is one.
+/// Takes a free row: the one behind this, if that is free. There is one.
 #[inline(always)]
-fn take_row<A: Allocator>(desk: &mut Desk<A>) -> u32
+fn take_behind<A: Allocator>(desk: &mut Desk<A>, row: u32) -> u32
     requires room { 0 < free_count desk.old.lives }
     ensures takes { Takes desk.old desk.new (result ∷ []) }
 {
-    match desk.take() {
+    match desk.take_near(row.wrapping_add(1)) {
         Some(row) => row,
         None => unreachable!(),
     }
@@ -42,9 +42,9 @@ fn take_head<A: Allocator>(desk: &mut Desk<A>, replaced: Option<u32>, count: u32
     }
 }
 
-/// Takes a free row for the next entry, if some are left.
+/// Takes a free row for the entry behind the one in this row, if some are left.
 #[inline(always)]
-fn take_next<A: Allocator>(desk: &mut Desk<A>, left: u32) -> Option<u32>
+fn take_next<A: Allocator>(desk: &mut Desk<A>, left: u32, row: u32) -> Option<u32>
     requires room { 0 < left → 0 < free_count desk.old.lives }
     ensures takes { Takes desk.old desk.new (ahead result) }
     ensures ahead { IsAhead result left }
@@ -52,7 +52,7 @@ fn take_next<A: Allocator>(desk: &mut Desk<A>, left: u32) -> Option<u32>
     if left == 0 {
         None
     } else {
-        Some(take_row(desk))
+        Some(take_behind(desk, row))
     }
 }
 
@@ -128,7 +128,7 @@ impl<A: Allocator> NodeWriter<A> {
         ensures takes { Takes desk.old desk.new (result.head ∷ ahead result.next) }
     {
         let head = take_head(desk, replaced, count + 1);
-        let first = take_row(desk);
+        let first = take_behind(desk, head);
         let mut hasher = hasher_for(desk, layer, is_copy);
         hasher.heading(format, layer, count as u16);
         NodeWriter {
@@ -180,7 +180,7 @@ impl<A: Allocator> NodeWriter<A> {
         let from = replaced.unwrap_or(row);
         self.hasher.move_kept(from, row, self.format);
         self.left -= 1;
-        self.next = take_next(desk, self.left);
+        self.next = take_next(desk, self.left, row);
         let next = match self.next {
             Some(row) => row + 1,
             None => 0,
@@ -224,7 +224,7 @@ impl<A: Allocator> NodeWriter<A> {
         let Some(to) = self.next else { unreachable!() };
         self.hasher.move_kept(from, to, self.format);
         self.left -= 1;
-        self.next = take_next(desk, self.left);
+        self.next = take_next(desk, self.left, to);
         let next = match self.next {
             Some(row) => row + 1,
             None => 0,

@@ -1,4 +1,4 @@
-//! Plain rows that count what is read of them.
+//! Plain rows that count what is read of them, and which entries of a node do not lie side by side.
 ghost use Rattle.std.specs.Prelude.{◌≡◌, ◌≤◌, ◌<◌, None, IfOk, replicate};
 
 use mst_arena::{BareLinks, HeadLinks, KeyedLinks, PlainRows, Row, Rows};
@@ -30,6 +30,16 @@ impl Reads {
 pub struct CountedRows<A: Allocator = Global> {
     rows: PlainRows<A>,
     reads: Reads,
+    /// How many entries were written whose next one is not in the next row.
+    apart: u32,
+}
+
+/// Whether this is an entry whose next one is not in the row behind it.
+fn is_apart(row: u32, written: &Row) -> bool {
+    match written {
+        Row::Entry { next, .. } => *next != 0 && *next != row.wrapping_add(2),
+        Row::Head { .. } => false,
+    }
 }
 
 /// Contracts see only the rows.
@@ -53,6 +63,7 @@ impl<A: Allocator> CountedRows<A> {
         Ok(CountedRows {
             rows,
             reads: Reads::NONE,
+            apart: 0,
         })
     }
 
@@ -61,7 +72,12 @@ impl<A: Allocator> CountedRows<A> {
         self.reads
     }
 
-    /// Sets the counts to 0.
+    /// How many entries were written whose next one is not in the next row.
+    pub fn apart(&self) -> u32 {
+        self.apart
+    }
+
+    /// Sets the counts of what was read to 0.
     pub fn forget_reads(&mut self)
         ensures same { self.new ≡ self.old }
     {
@@ -85,6 +101,7 @@ impl<A: Allocator> Rows for CountedRows<A> {
     }
 
     fn write(&mut self, row: u32, value: &Row) {
+        self.apart = self.apart.saturating_add(u32::from(is_apart(row, value)));
         self.rows.write(row, value);
     }
 

@@ -8,7 +8,7 @@
 //! that of the bound of a next pair, and of a range that has a lower bound the first entry that is
 //! not below it in each node on the way whose pairs are added. A range that has an upper bound asks
 //! each of its pairs, and in each node on the way the one that ends it, for their way to it.
-use crate::confirming::confirm_at;
+use crate::confirming::{confirm, confirm_at};
 use crate::pairs::{key_of, numbered, numbered_key};
 use crate::rows::counted::Reads;
 use crate::rows::standing::StandingMap;
@@ -161,4 +161,10 @@ fn each_pair_is_counted_by_the_heads_of_nodes(rt: HostRuntime) {
     for (place, case) in COUNTS.iter().enumerate() {
         confirm_at(&rt, counts_all(&rt, rt.alloc(), *case), place);
     }
+}
+
+#[test]
+fn the_entries_of_a_planted_node_lie_side_by_side(rt: HostRuntime) {
+    let map = map_of_300(&rt, rt.alloc());
+    confirm(&rt, map.apart() == 0, "entries in rows apart");
 }

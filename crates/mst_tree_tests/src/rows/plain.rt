@@ -173,7 +173,8 @@ fn versions_at_the_limit(rt: HostRuntime) {
 
 /// The rows of a node of one entry, in place of the one whose head is in the row `replaced`.
 fn node_of(desk: &mut Desk<Global>, replaced: Option<u32>) -> Option<(u32, u32)> {
-    Some((desk.take_head(replaced, 2)?, desk.take()?))
+    let head = desk.take_head(replaced, 2)?;
+    Some((head, desk.take_near(head.wrapping_add(1))?))
 }
 
 // All rows are free again before the third node, row 0 among them. The fourth finds that home

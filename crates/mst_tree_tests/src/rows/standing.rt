@@ -76,6 +76,11 @@ impl StandingMap {
         StandingMap::planted(rt, alloc, format, tree.as_deref(), size).expect(rt, "memory")
     }
 
+    /// How many entries were written whose next one is not in the next row.
+    pub fn apart(&self) -> u32 {
+        self.rows.apart()
+    }
+
     /// What was read of the rows since the counts began.
     pub fn reads(&self) -> Reads {
         self.rows.reads()

@@ -87,13 +87,6 @@ returns-clause-taken g c =
     c.self.invariant c.take_bit.new.words c.args.row w
     ∙ ap (λ (s : List Bool). slice_set s c.args.row false) c.self.view_is
 
-pub overflow_add-self : goal.overflow_add-self
-overflow_add-self g c =
-    let i = c.self.inside in
-    let has : slice_get (flags i.rows i.words.items) c.args.row ≡ Some true =
-    ap (λ (s : List Bool). slice_get s c.args.row) c.self.view_is ∙ c.requires.there in
-    omega (arith, flag_within i.rows i.words.items c.args.row true has, c.self.invariant.few)
-
 pub overflow_cast-result : goal.overflow_cast-result
 overflow_cast-result g c =
     let i = c.self.inside in

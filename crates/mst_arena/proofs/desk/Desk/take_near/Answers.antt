@@ -4,7 +4,7 @@ use Rattle.std.specs.Prelude.{slice_get}
 use Rattle.mst_arena.specs.declared.life.Life.TheVariants.{Free, Born}
 use Rattle.mst_arena.specs.Lives.{State, with_life, version}
 use Rattle.mst_arena.proofs.DeskLemmas.{desk_life, free_life, read_index}
-use Rattle.mst_arena.proofs.desk.Desk.take.Goals as goal
+use Rattle.mst_arena.proofs.desk.Desk.take_near.Goals as goal
 
 pub invariant_of-self-2 : goal.invariant_of-self-2
 invariant_of-self-2 g c =

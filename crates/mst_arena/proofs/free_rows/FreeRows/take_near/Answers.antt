@@ -1,0 +1,41 @@
+use Rattle.std.proofs.Common.{◌≡◌, ◌∙◌, ap, sym, arith, rules, List, ℕ, Bool, true, false, length, Some}
+use Rattle.std.specs.Prelude.{slice_get, slice_set}
+use Rattle.mst_arena.specs.Bits.{bit}
+use Rattle.mst_arena.proofs.FlagLemmas.{length-flags}
+use Rattle.mst_arena.proofs.SetLemmas.{set_bit_flag}
+use Rattle.mst_arena.proofs.free_rows.FreeRows.take_near.Goals as goal
+
+pub take_at-requires-clause-there : goal.take_at-requires-clause-there
+take_at-requires-clause-there g c =
+    let i = c.self.inside in
+    let set : bit c.deref.result.now c.args.row ≡ 1 = search rules in
+    let is : bit i.words.items c.args.row ≡ 1 =
+    ap (λ (l : List ℕ). bit l c.args.row) (sym c.deref.ensures.value) ∙ set in
+    ap (λ (s : List Bool). slice_get s c.args.row) (sym c.self.view_is)
+    ∙ set_bit_flag i.rows i.count i.at i.words.items i.summary.items _ _ c.self.invariant c.args.row is
+
+pub take_at-requires-clause-at : goal.take_at-requires-clause-at
+take_at-requires-clause-at g c =
+    let i = c.self.inside in
+    omega (
+      arith,
+      c.self.invariant.cursor,
+      c.self.invariant.fits,
+      ap (λ (s : List Bool). length s) c.self.view_is,
+      length-flags i.rows i.words.items,
+    )
+
+pub returns-then-is_set-clause-some : goal.returns-then-is_set-clause-some
+returns-then-is_set-clause-some g c =
+    let i = c.self.inside in
+    let set : bit c.deref.result.now c.args.row ≡ 1 = search rules in
+    let is : bit i.words.items c.args.row ≡ 1 =
+    ap (λ (l : List ℕ). bit l c.args.row) (sym c.deref.ensures.value) ∙ set in
+    let there : slice_get c.args.self.now c.args.row ≡ Some true =
+    ap (λ (s : List Bool). slice_get s c.args.row) (sym c.self.view_is)
+    ∙ set_bit_flag i.rows i.count i.at i.words.items i.summary.items _ _ c.self.invariant c.args.row is
+    in (
+      ap (λ (r : ℕ). slice_get c.args.self.now r) c.take_at.ensures.same ∙ there,
+      c.take_at.ensures.taken
+          ∙ ap (λ (r : ℕ). slice_set c.args.self.now r false) (sym c.take_at.ensures.same),
+    )
