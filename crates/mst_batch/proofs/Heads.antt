@@ -1,10 +1,15 @@
 -- A node that stands, by its head that was read.
-use Rattle.std.proofs.Common.{◌≡◌, ℕ, Some, None, ap}
+use Rattle.std.proofs.Common.{◌≡◌, ◌+◌, ◌-◌, ◌<◌, ◌≤◌, ℕ, Some, None, Option, IsSome, refl, sym, ◌∙◌, ap, subst, arith}
+use Rattle.std.specs.Prelude.{option_and_then}
 use Rattle.mst_key.specs.declared.format.Format.{Format}
-use Rattle.mst_arena.specs.Content.{Content}
-use Rattle.mst_arena.specs.Standing.{Placed, none, head, Chain, rows_of, HasRows}
+use Rattle.mst_arena.specs.Content.{Content, part_at}
+use Rattle.mst_arena.specs.Row.{head_links, keyed_links}
+use Rattle.mst_arena.specs.Standing.{Placed, none, head, Chain, end, cell, first_of, count_of, head_row, rows_of, HasRows}
 use Rattle.mst_arena.specs.declared.row.HeadLinks.{HeadLinks}
-use Rattle.mst_read.specs.Search.{LiesBehind, head_of, chain_links}
+use Rattle.mst_arena.specs.declared.row.KeyedLinks.{KeyedLinks}
+use Rattle.mst_read.specs.Search.{Lies, LiesBehind, head_of, chain_links}
+use Rattle.mst_read.proofs.Still.{there_still}
+use Rattle.mst_read.proofs.Walk.{Onward, entry_left}
 
 -- the tree is a node of this head
 pub record HasHead (format : Format) (content : Content) (p : Placed) (links : HeadLinks)
@@ -32,3 +37,29 @@ with_head (head row l c) {links} rows is =
         rows = rows.1;
       };
     }
+
+-- the head of the node at a link is there to be read
+pub top_there : {format : Format} {content : Content} {link : ℕ} (p : Placed)
+    → Lies format content link p → 0 < link → IsSome (part_at head_links content (link - 1))
+top_there {content = content} {link} none lies some = absurd (omega (arith, lies.at, some))
+top_there {content = content} {link} (head i l chain) lies some =
+    let same : link - 1 ≡ i = omega (arith, lies.at) in
+    let there : content (link - 1) ≡ Some (head_row _ l chain) = ap content same ∙ lies.rows.0 in
+    subst (λ (o : Option HeadLinks). IsSome o)
+    (sym (ap (option_and_then head_links) there)) refl
+
+-- and so is the next entry of a walk, if entries are left
+module _ {format : Format} {content : Content} {tail next done all : ℕ} {P : Chain → Type 0}
+    (o : Onward format content tail next done all P) (left : done < all) where
+  pub next_some : 1 ≤ next
+  next_some = go o.rest o.first_is o.left
+    where
+      go : (c : Chain) → first_of c ≡ next → count_of c + done ≡ all → 1 ≤ next
+      go (end p) first more = absurd (omega (arith, more, left))
+      go (cell at p key v c) first more = omega (arith, first)
+
+  pub next_there : {after : Content} → after ≡ content
+      → IsSome (part_at keyed_links after (next - 1))
+  next_there same =
+      there_still same keyed_links (next - 1)
+      (subst (λ (e : Option KeyedLinks). IsSome e) (sym (entry_left o left).1) refl)

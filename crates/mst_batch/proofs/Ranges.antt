@@ -93,6 +93,11 @@ all_above (x ∷ xs) e k rising some is less =
     subst (λ (f : Bor Edit). key_cmp k (key_of f.now) ≡ Less) is less in
     (first, above-less (listed xs) k (key_of x.now) first rising.0)
 
+pub none_above : (xs : List (Bor Edit)) (k : List ℕ) → length xs ≡ 0
+    → AreAbove (listed (drop 0 xs)) k
+none_above [] k is = tt
+none_above (x ∷ xs) k is = absurd (omega (arith, is))
+
 -- ---- what holds at places
 
 module _ (P : Edit → Type 0) where

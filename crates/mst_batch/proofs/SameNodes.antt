@@ -1,22 +1,23 @@
 -- A node that stands, compared with one to be made: entry by entry, and as a whole.
-use Rattle.std.proofs.Common.{◌≡◌, ℕ, ◌+◌, ◌<◌, Bool, true, false, List, [], ◌∷◌, length, map, drop, get_or, Option, Some, refl, sym, ◌∙◌, ap, arith, true≢false}
-use Rattle.std.specs.Prelude.{◌↔◌}
+use Rattle.std.proofs.Common.{◌≡◌, ℕ, ◌+◌, ◌<◌, Bool, true, false, List, [], ◌∷◌, length, map, drop, get_or, Option, Some, None, refl, sym, ◌∙◌, ap, arith, true≢false}
+use Rattle.std.specs.Prelude.{◌↔◌, eqb}
+use Rattle.std.proofs.lemmas.Bool.{eqb-true}
 use Rattle.std.proofs.lemmas.List.{at_drop_more, at_drop_all, length-map}
 use Rattle.mst_key.specs.declared.format.Format.{Format}
 use Rattle.mst_arena.specs.Content.{Content, part_at}
 use Rattle.mst_arena.specs.Row.{entry_value}
-use Rattle.mst_arena.specs.Standing.{Placed, Chain, end, cell, link_of, count_of}
+use Rattle.mst_arena.specs.Standing.{Placed, none, head, Chain, end, cell, link_of, count_of}
 use Rattle.mst_arena.specs.declared.row.Row.{Row}
 use Rattle.mst_arena.specs.declared.row.KeyedLinks.{KeyedLinks}
 use Rattle.mst_arena.specs.declared.row.HeadLinks.{HeadLinks}
-use Rattle.mst_read.specs.Search.{LiesBehind}
+use Rattle.mst_read.specs.Search.{LiesBehind, head_of, chain_links}
 use Rattle.mst_read.proofs.Walk.{Onward, AtCell, AtEnd, further}
 use Rattle.mst_batch.specs.Beside.{kept_entry, kept_entries, kept_node}
-use Rattle.mst_batch.specs.Plans.{PlanTree, PlanEntries, PlannedEntry, with_planned, kept, made, last, entry, plan_of_node, planned_entry}
-use Rattle.mst_batch.specs.declared.plan.PlanEntry.{PlanEntry}
+use Rattle.mst_batch.specs.Plans.{PlanTree, PlanEntries, PlannedEntry, with_planned, kept, made, last, entry, plan_of, plan_of_node, planned_entry}
+use Rattle.mst_batch.specs.declared.plan.PlanEntry.{PlanEntry, out-PlanEntry}
 use Rattle.mst_batch.specs.declared.plan.PlanNode.{PlanNode, out-PlanNode}
 use Rattle.mst_batch.proofs.Heads.{HasHead}
-use Rattle.mst_batch.proofs.PlanShapes.{plan_out, items, tail}
+use Rattle.mst_batch.proofs.PlanShapes.{plan_out, planned_entry_out, items, tail}
 
 -- ---- how many entries there are
 
@@ -32,6 +33,35 @@ count_made (x ∷ xs) t = omega (arith, count_made xs t)
 count_kept : (c : Chain) → plan_count (kept_entries c) ≡ count_of c
 count_kept (end child) = refl
 count_kept (cell at child key value rest) = ap (λ (n : ℕ). n + 1) (count_kept rest)
+
+-- ---- an entry
+
+module _ {A : Type 0} (e : PlanEntry A) (links : KeyedLinks) (value : List ℕ) where
+  child_is : (planned_entry e).child ≡ plan_of (out-PlanEntry A e).child
+  child_is = ap (λ (x : PlannedEntry). x.child) (planned_entry_out A e)
+
+  -- where the tree before it is kept, its pair decides
+  pub pair_decides : {b : Bool} → plan_of (out-PlanEntry A e).child ≡ kept links.child
+      → (b ≡ true) ↔ ((planned_entry e).key ≡ links.key) × ((planned_entry e).value ≡ value)
+      → (b ≡ true) ↔ (planned_entry e ≡ kept_entry links value)
+  pair_decides child tells = (
+    λ yes.
+        let pair = tells.0 yes in
+        λ j. record { child = (child_is ∙ child) j; key = pair.0 j; value = pair.1 j },
+    λ is. tells.1 (
+      ap (λ (x : PlannedEntry). x.key) is,
+      ap (λ (x : PlannedEntry). x.value) is,
+    ),
+  )
+
+  pub other_child : {b : Bool}
+      → (b ≡ true) ↔ (plan_of (out-PlanEntry A e).child ≡ kept links.child) → b ≡ false
+      → (b ≡ true) ↔ (planned_entry e ≡ kept_entry links value)
+  other_child tells other = (
+    λ yes. absurd (true≢false (sym yes ∙ other)),
+    λ is. absurd (true≢false
+        (sym (tells.1 (sym child_is ∙ ap (λ (x : PlannedEntry). x.child) is)) ∙ other)),
+  )
 
 -- ---- the entries
 
@@ -152,3 +182,23 @@ module _ {A : Type 0} (n : PlanNode A) where
           plan_out A n ∙ (λ i. made (layer i) (same i)) ∙ sym (ap kept_node h.is),
       λ is. let e = both is in let same : entries ≡ kept_entries h.chain = cc in tells.1 same,
     )
+
+    pub other_layer : ((out-PlanNode A n).layer ≡ links.layer → ⊥)
+        → (eqb (out-PlanNode A n).layer links.layer ≡ true) ↔ (plan_of_node n ≡ kept_node p)
+    other_layer other = (
+      λ yes. absurd (other (eqb-true (out-PlanNode A n).layer links.layer yes)),
+      λ is.
+          let e = both is in
+          let same : (out-PlanNode A n).layer ≡ links.layer = cc in absurd (other same),
+    )
+
+  -- no node stands there
+  pub none_there : (p : Placed) → head_of p ≡ None
+      → (false ≡ true) ↔ (plan_of_node n ≡ kept_node p)
+  none_there none is = (
+    λ no. absurd (true≢false (sym no)),
+    λ same.
+        let e : made (out-PlanNode A n).layer entries ≡ kept 0 = sym (plan_out A n) ∙ same in
+        absurd cc,
+  )
+  none_there (head row l c) is = let some : Some (chain_links l c) ≡ None = is in absurd cc

@@ -1,6 +1,6 @@
 -- Edits that put values at keys that a map has: those of its parts, and the node that its pairs
 -- make afterwards.
-use Rattle.std.proofs.Common.{◌≡◌, ℕ, ◌+◌, ◌<◌, ◌≤◌, Bool, true, false, true≢false, List, [], ◌∷◌, ◌++◌, length, drop, get_or, Bor, Option, Some, IsSome, is_eq, is_lt, is_gt, not, filter, Less, refl, sym, ◌∙◌, ap, subst}
+use Rattle.std.proofs.Common.{◌≡◌, ℕ, ◌+◌, ◌<◌, ◌≤◌, Bool, true, false, true≢false, List, [], ◌∷◌, ◌++◌, length, drop, get_or, Bor, Option, Some, IsSome, is_eq, is_lt, is_gt, not, filter, Less, refl, sym, ◌∙◌, ap, subst, arith}
 use Rattle.std.specs.Prelude.{if◌then◌else◌}
 use Rattle.std.proofs.lemmas.List.{drop_more, at_drop_all}
 use Rattle.std.specs.List.{AllByRecursion}
@@ -144,6 +144,11 @@ updated_pair m own key value new rising are of_key e some is put =
     one_of_key key e.now (listed (rest_of own)) (subst AreRising own_is rising) keys in
     ap (batched ((key, value) ∷ [])) (own_is ∙ ap (λ (es : List Edit). e.now ∷ es) alone)
     ∙ edited_own key value e.now keys.0 ∙ put each.0 keys.0
+
+pub same_pair : (own : List (Bor Edit)) (p : Pair) → length own ≡ 0
+    → batched (p ∷ []) (listed own) ≡ p ∷ []
+same_pair [] p is = refl
+same_pair (e ∷ own) p is = absurd (omega (arith, is))
 
 -- ---- the node of pairs up to a layer, of which one is of the layer
 

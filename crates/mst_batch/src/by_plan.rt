@@ -7,7 +7,7 @@ ghost use Rattle.mst_path.specs.AfterChange.{AfterChange};
 ghost use Rattle.mst_batch.specs.Applying.{LacksBatch};
 ghost use Rattle.mst_batch.specs.declared.faults.NotApplied.TheVariants as lacking;
 
-use crate::carrying::carry_out_by_plan;
+use crate::carrying::carry_out;
 use crate::faults::NotApplied;
 use crate::marking::marks_of;
 use crate::planning::find_plan;
@@ -56,7 +56,7 @@ pub(crate) fn apply_by_plan<R: Rows, A: Allocator, B: Allocator + Copy>(
         Ok(kept) => kept,
         Err(refused) => return Err(NotApplied::Memory(refused)),
     };
-    let carried = carry_out_by_plan(rows, desk, root, &plan, kept.as_slice(), format, true);
+    let carried = carry_out(rows, desk, root, &plan, kept.as_slice(), format);
     release(plan);
     match carried {
         Ok(done) => Ok(done),

@@ -1,13 +1,10 @@
 //! A tree that stands, given up but for the nodes of it that are kept.
-ghost use Rattle.std.specs.Prelude.{◌≡◌, List, []};
-ghost use Rattle.mst_key.specs.Map.{Pair};
-ghost use Rattle.mst_key.specs.declared.format.Format.{Format};
-ghost use Rattle.mst_arena.specs.Standing.{Stands};
-ghost use Rattle.mst_path.specs.Felling.{ToFell, MayFall};
+ghost use Rattle.std.specs.Prelude.{◌≡◌, []};
+ghost use Rattle.mst_path.specs.Felling.{ToFell};
 ghost use Rattle.mst_path.specs.Moves.{Moves};
 ghost use Rattle.mst_batch.specs.Kept.{stays, fallen};
 
-use mst_arena::{Desk, Root, Rows};
+use mst_arena::{Desk, Rows};
 use std::alloc::Allocator;
 
 /// Whether nothing falls at a link: it is none, or the node there is kept.
@@ -20,7 +17,13 @@ fn is_left(kept: &[bool], link: u32) -> bool
     kept.get(link as usize - 1).copied().unwrap_or(false)
 }
 
-/// Lets the rows of the tree at a link die, but for those of kept nodes and of all below them.
+/// Lets the rows of the tree at a link die, but for those of kept nodes and of all below them:
+/// exactly the rows that stand for its other nodes die with the version to come.
+///
+/// A node is kept, with all below it, if `kept` has a mark at the row of its head; a row past the
+/// end of `kept` has none. The rows were born with the current version or an earlier one, and are
+/// not dead. Nothing is written, no memory is taken, and calls nest no deeper than the layers. Each
+/// row that dies is read once, and no other.
 pub(crate) fn fell_at<R: Rows, A: Allocator>(
     rows: &mut R,
     desk: &mut Desk<A>,
@@ -45,25 +48,4 @@ pub(crate) fn fell_at<R: Rows, A: Allocator>(
         next = links.next;
     }
     fell_at(rows, desk, head.tail, kept);
-}
-
-/// Lets the tree at a root die, but for the nodes that are kept: exactly the rows that stand for
-/// its other nodes die with the version to come.
-///
-/// A node is kept, with all below it, if `kept` has a mark at the row of its head; a row past the
-/// end of `kept` has none. The rows were born with the current version or an earlier one, and are
-/// not dead. Nothing is written, no memory is taken, and calls nest no deeper than the layers. Each
-/// row that dies is read once, and no other.
-pub fn fell_beside<R: Rows, A: Allocator>(
-    rows: &mut R,
-    desk: &mut Desk<A>,
-    root: &Root,
-    kept: &[bool],
-)
-    requires stands { MayFall (R.content rows.old) desk.old root.now }
-    ensures fells { (f : Format) (m : List Pair) (stands : Stands f (R.content rows.old) root.now m)
-        → Moves desk.old desk.new [] (fallen kept.now stands.tree.placed) }
-    ensures same { rows.new ≡ rows.old }
-{
-    fell_at(rows, desk, root.link, kept);
 }

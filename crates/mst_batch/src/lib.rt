@@ -58,10 +58,6 @@ mod top;
 mod updating;
 
 pub use applying::apply;
-pub use carrying::carry_out;
 pub use faults::NotApplied;
-pub use felling::fell_beside;
 pub use laws::{plans_beside, plans_can_be_met};
 pub use plan::{Origin, Plan, PlanEntry, PlanNode};
-pub use replacing::replace;
-pub use sowing::{rows_of, sow};

@@ -25,8 +25,8 @@ pub struct PlanNode<A: Allocator = Global> {
     pub tail: Plan<Box<PlanNode<A>, A>>,
 }
 
-/// What is known of the entry that had a pair's key before. A call that is given a plan takes it as
-/// a hint: a wrong one costs no more than time.
+/// What is known of the entry that had a pair's key before. A plan that is carried out names only
+/// rows that have its pairs.
 #[derive(Clone, Copy)]
 pub enum Origin {
     /// Nothing.

@@ -1,5 +1,5 @@
 //! A plan, carried out in place of the tree that stands.
-ghost use Rattle.std.specs.Prelude.{◌≡◌, ◌≤◌, ℕ, true};
+ghost use Rattle.std.specs.Prelude.{◌≡◌, ◌≤◌, ℕ};
 ghost use Rattle.mst_arena.specs.Lists.{times};
 ghost use Rattle.mst_arena.specs.Lives.{free_count};
 ghost use Rattle.mst_arena.specs.Standing.{Placed, used};
@@ -22,9 +22,9 @@ use std::alloc::Allocator;
 /// keeps. Returns the new root.
 ///
 /// `kept` has a mark at the row of the head of each node that the plan keeps, and no other mark at
-/// a row of the tree that stands. The plan takes the rows that `rows_of` counts, which are free. No
-/// memory is taken.
-pub fn replace<R: Rows, A: Allocator, B: Allocator>(
+/// a row of the tree that stands. The rows that the plan names have its pairs, and are copied. The
+/// plan takes the rows that `rows_of` counts, which are free. No memory is taken.
+pub(crate) fn replace<R: Rows, A: Allocator, B: Allocator>(
     rows: &mut R,
     desk: &mut Desk<A>,
     root: &Root,
@@ -38,6 +38,7 @@ pub fn replace<R: Rows, A: Allocator, B: Allocator>(
         × Keeps at kept.now old.placed (plan_of plan.now) }
     requires room { rows_planned (plan_of plan.now) ≤ free_count desk.old.lives }
     requires ready { IsWritable desk.old.lives (R.blank rows.old) }
+    requires known { HasKnown (R.content rows.old) desk.old (known_of plan.now) }
     ensures grown { (at : ℕ → Placed) (old : ToFell (R.content rows.old) desk.old root.now.link)
         → IsPlan format at (R.content rows.old) desk.old (plan_of plan.now)
         → Keeps at kept.now old.placed (plan_of plan.now)
@@ -46,37 +47,7 @@ pub fn replace<R: Rows, A: Allocator, B: Allocator>(
         (rows_planned (plan_of plan.now)) }
     ensures beside { StaysBeside R.blank R.kept rows.old rows.new }
 {
-    replace_by_plan(rows, desk, root, plan, kept, format, false)
-}
-
-/// Carries a plan out as `replace` does. If the rows that it names are known to have its pairs,
-/// they are copied.
-pub(crate) fn replace_by_plan<R: Rows, A: Allocator, B: Allocator>(
-    rows: &mut R,
-    desk: &mut Desk<A>,
-    root: &Root,
-    plan: &Plan<Box<PlanNode<B>, B>>,
-    kept: &[bool],
-    format: Format,
-    known: bool,
-) -> Root
-    requires change { (at : ℕ → Placed)
-        × (old : ToFell (R.content rows.old) desk.old root.now.link)
-        × IsPlan format at (R.content rows.old) desk.old (plan_of plan.now)
-        × Keeps at kept.now old.placed (plan_of plan.now) }
-    requires room { rows_planned (plan_of plan.now) ≤ free_count desk.old.lives }
-    requires ready { IsWritable desk.old.lives (R.blank rows.old) }
-    requires known { known ≡ true
-        → HasKnown (R.content rows.old) desk.old (known_of plan.now) }
-    ensures grown { (at : ℕ → Placed) (old : ToFell (R.content rows.old) desk.old root.now.link)
-        → IsPlan format at (R.content rows.old) desk.old (plan_of plan.now)
-        → Keeps at kept.now old.placed (plan_of plan.now)
-        → Grown format (R.content rows.old) (R.content rows.new) desk.old desk.new
-        (tree_planned format at (plan_of plan.now)) result (λ x. times x (used old.placed))
-        (rows_planned (plan_of plan.now)) }
-    ensures beside { StaysBeside R.blank R.kept rows.old rows.new }
-{
-    let new = sow_plan(rows, desk, plan, format, known);
+    let new = sow_plan(rows, desk, plan, format);
     fell_at(rows, desk, root.link, kept);
     new
 }

@@ -1,5 +1,5 @@
 //! A plan, carried out in free rows.
-ghost use Rattle.std.specs.Prelude.{◌≡◌, ◌≤◌, ◌<◌, ◌+◌, ◌^◌, ◌-◌, ℕ, List, [], ◌∷◌, ◌++◌, Some, min, true};
+ghost use Rattle.std.specs.Prelude.{◌≡◌, ◌≤◌, ◌<◌, ◌+◌, ◌^◌, ◌-◌, ℕ, List, [], ◌∷◌, ◌++◌, Some, min};
 ghost use Rattle.mst_key.specs.Map.{Pair};
 ghost use Rattle.mst_key.specs.declared.format.Format.{Format};
 ghost use Rattle.mst_arena.specs.Content.{Content};
@@ -48,30 +48,9 @@ fn rows_of_node<B: Allocator>(node: &PlanNode<B>) -> u32
 /// they stand. Returns the root at which the rows then stand for the whole tree.
 ///
 /// It takes exactly the rows that `rows_of` counts, and writes no other. The rows are born with the
-/// version to come. Of a tree that is kept it reads the digest, one row. No memory is taken, and
-/// calls nest no deeper than the layers of the nodes to be made.
-pub fn sow<R: Rows, A: Allocator, B: Allocator>(
-    rows: &mut R,
-    desk: &mut Desk<A>,
-    plan: &Plan<Box<PlanNode<B>, B>>,
-    format: Format,
-) -> Root
-    requires plan { (at : ℕ → Placed)
-        × IsPlan format at (R.content rows.old) desk.old (plan_of plan.now) }
-    requires room { rows_planned (plan_of plan.now) ≤ free_count desk.old.lives }
-    requires ready { IsWritable desk.old.lives (R.blank rows.old) }
-    ensures sown { (at : ℕ → Placed)
-        → IsPlan format at (R.content rows.old) desk.old (plan_of plan.now)
-        → Sown format (R.content rows.old) (R.content rows.new) desk.old desk.new
-        (tree_planned format at (plan_of plan.now)) result (rows_kept at (plan_of plan.now))
-        (rows_planned (plan_of plan.now)) }
-    ensures beside { StaysBeside R.blank R.kept rows.old rows.new }
-{
-    sow_plan(rows, desk, plan, format, false)
-}
-
-/// Carries a plan out as `sow` does. If the rows that it names are known to have its pairs, they
-/// are copied.
+/// version to come. The rows that the plan names have its pairs, and are copied. Of a tree that is
+/// kept it reads the digest, one row. No memory is taken, and calls nest no deeper than the layers
+/// of the nodes to be made.
 #[cycle(sow)]
 #[inline(always)]
 pub(crate) fn sow_plan<R: Rows, A: Allocator, B: Allocator>(
@@ -79,14 +58,12 @@ pub(crate) fn sow_plan<R: Rows, A: Allocator, B: Allocator>(
     desk: &mut Desk<A>,
     plan: &Plan<Box<PlanNode<B>, B>>,
     format: Format,
-    known: bool,
 ) -> Root
     requires plan { (at : ℕ → Placed)
         × IsPlan format at (R.content rows.old) desk.old (plan_of plan.now) }
     requires room { rows_planned (plan_of plan.now) ≤ free_count desk.old.lives }
     requires ready { IsWritable desk.old.lives (R.blank rows.old) }
-    requires known { known ≡ true
-        → HasKnown (R.content rows.old) desk.old (known_of plan.now) }
+    requires known { HasKnown (R.content rows.old) desk.old (known_of plan.now) }
     ensures sown { (at : ℕ → Placed)
         → IsPlan format at (R.content rows.old) desk.old (plan_of plan.now)
         → Sown format (R.content rows.old) (R.content rows.new) desk.old desk.new
@@ -96,29 +73,18 @@ pub(crate) fn sow_plan<R: Rows, A: Allocator, B: Allocator>(
 {
     match plan {
         Plan::Kept(link) => root_at(rows, *link),
-        Plan::Made(node) => sow_node(rows, desk, node, format, known),
+        Plan::Made(node) => sow_node(rows, desk, node, format),
     }
 }
 
-/// What is told of a pair, without what is not known for sure.
-fn trusted(origin: Origin, known: bool) -> Origin
-    ensures there { (content : Content) (pair : Pair)
-        → (known ≡ true → IsThere content pair origin) → IsThere content pair result }
-{
-    match origin {
-        Origin::Kept(row) if !known => Origin::Changed(row),
-        _ => origin,
-    }
-}
-
-/// Whether an entry, as far as is known, is as it was before, with the tree before it. It has no
-/// clause, as [`begins_as_before`] has none.
+/// Whether an entry is as it was before, with the tree before it. It has no clause, as
+/// [`begins_as_before`] has none.
 fn is_as_before<B: Allocator>(entry: &PlanEntry<B>) -> bool {
     matches!(entry.origin, Origin::Kept(_)) && matches!(entry.child, Plan::Kept(_))
 }
 
-/// Whether a node, as far as is known, begins with entries as they were before, so that what is
-/// kept of its text may be of use. It has no clause: a wrong answer costs time alone.
+/// Whether a node begins with entries as they were before, so that what is kept of its text may be
+/// of use. It has no clause: a wrong answer costs time alone.
 fn begins_as_before<B: Allocator>(entries: &[PlanEntry<B>]) -> bool {
     match entries.first() {
         Some(entry) => is_as_before(entry),
@@ -171,14 +137,12 @@ fn sow_node<R: Rows, A: Allocator, B: Allocator>(
     desk: &mut Desk<A>,
     node: &PlanNode<B>,
     format: Format,
-    known: bool,
 ) -> Root
     requires plan { (at : ℕ → Placed)
         × IsPlan format at (R.content rows.old) desk.old (plan_of_node node.now) }
     requires room { rows_planned (plan_of_node node.now) ≤ free_count desk.old.lives }
     requires ready { IsWritable desk.old.lives (R.blank rows.old) }
-    requires known { known ≡ true
-        → HasKnown (R.content rows.old) desk.old (known_of_node node.now) }
+    requires known { HasKnown (R.content rows.old) desk.old (known_of_node node.now) }
     ensures sown { (at : ℕ → Placed)
         → IsPlan format at (R.content rows.old) desk.old (plan_of_node node.now)
         → Sown format (R.content rows.old) (R.content rows.new) desk.old desk.new
@@ -196,18 +160,17 @@ fn sow_node<R: Rows, A: Allocator, B: Allocator>(
         is_copy,
     );
     for entry in &node.entries {
-        let child = sow_plan(rows, desk, &entry.child, format, known);
-        let origin = trusted(entry.origin, known);
+        let child = sow_plan(rows, desk, &entry.child, format);
         write_entry(
             rows,
             desk,
             &mut writer,
-            origin,
+            entry.origin,
             &child,
             &entry.key,
             &entry.value,
         );
     }
-    let tail = sow_plan(rows, desk, &node.tail, format, known);
+    let tail = sow_plan(rows, desk, &node.tail, format);
     writer.finish(rows, desk, &tail)
 }

@@ -2,10 +2,7 @@
 //! all of a list. Lists keep their room, so that none of it takes memory: one that is emptied from
 //! its front is a deque meanwhile, in the room that it has.
 ghost use Rattle.std.specs.Prelude.{◌≡◌, ◌<◌, ◌≤◌, ◌+◌, ◌++◌, ◌∷◌, [], slice_index_or, vec_len, vec_capacity};
-ghost use Rattle.std.specs.List.{AllByRecursion, swap_remove, SwappedAt};
-ghost use Rattle.mst_key.specs.History.{after};
-ghost use Rattle.mst_key.specs.Map.{IsMap};
-ghost use Rattle.mst_shards.specs.Sharding.{AllStep, PinsNow, HaveFewPairs};
+ghost use Rattle.std.specs.List.{swap_remove, SwappedAt};
 ghost use Rattle.mst_shards.specs.Laid.{AreOf};
 
 use mst_store::{Laid, LaidPinned, Pass, Pinned, Store};
@@ -124,75 +121,7 @@ pub fn lay_all<A: Allocator + Copy>(
     laid
 }
 
-/// Lifts each pinned pass. Returns their list too, which is now empty.
-pub fn lift_pins<'a, A: Allocator + Copy>(
-    stores: &'a [Store<A>],
-    laid: Vec<LaidPinned<A>, A>,
-    room: Vec<Pinned<'a, A>, A>,
-) -> (Vec<Pinned<'a, A>, A>, Vec<LaidPinned<A>, A>)
-    requires own { AreOf stores.now laid.items }
-    requires empty { room.items ≡ [] }
-    requires fits { vec_len laid ≤ vec_capacity room }
-    ensures same { result.0.items ≡ laid.items }
-    ensures empty { result.1.items ≡ [] }
-    ensures room { vec_len result.0 ≤ vec_capacity result.1 }
-{
-    let mut left = VecDeque::from_vec(laid);
-    let mut pinned = room;
-    let mut place = 0;
-    while let Some(pin) = left.pop_front() {
-        pinned.push_reserved(stores[place].lift_pinned(pin));
-        place += 1;
-    }
-    (pinned, left.into_vec())
-}
-
-/// Lays each pinned pass down.
-pub fn lay_pins<A: Allocator + Copy>(
-    pinned: Vec<Pinned<'_, A>, A>,
-    room: Vec<LaidPinned<A>, A>,
-) -> Vec<LaidPinned<A>, A>
-    requires empty { room.items ≡ [] }
-    requires fits { vec_len pinned ≤ vec_capacity room }
-    ensures same { result.items ≡ pinned.entry.items }
-    ensures room { vec_capacity result ≡ vec_capacity room }
-{
-    let mut left = VecDeque::from_vec(pinned);
-    let mut laid = room;
-    while let Some(pin) = left.pop_front() {
-        laid.push_reserved(pin.lay());
-    }
-    laid
-}
-
 // ---- pins
-
-/// Pins the current version of each shard, by passes that are laid down again at once. Returns the
-/// list of the passes too, which is now empty.
-pub fn pin_laid<A: Allocator + Copy>(
-    stores: &[Store<A>],
-    passes: Vec<Laid<A>, A>,
-    room: Vec<LaidPinned<A>, A>,
-) -> (Vec<LaidPinned<A>, A>, Vec<Laid<A>, A>)
-    requires own { AreOf stores.now passes.items }
-    requires empty { room.items ≡ [] }
-    requires fits { vec_len passes ≤ vec_capacity room }
-    ensures pins { AllStep PinsNow passes.items result.0.items }
-    ensures maps { AllByRecursion (λ p. IsMap (after p.seen)) result.0.items }
-    ensures few { HaveFewPairs result.0.items }
-    ensures empty { result.1.items ≡ [] }
-    ensures room { vec_len result.0 ≤ vec_capacity result.1 }
-{
-    let mut left = VecDeque::from_vec(passes);
-    let mut pinned = room;
-    let mut place = 0;
-    while let Some(laid) = left.pop_front() {
-        let pass = stores[place].lift(laid);
-        pinned.push_reserved(pass.pin().lay());
-        place += 1;
-    }
-    (pinned, left.into_vec())
-}
 
 /// Ends the pin of each shard, by pinned passes that are laid down again at once. Returns the list
 /// of the pinned passes too, which is now empty.

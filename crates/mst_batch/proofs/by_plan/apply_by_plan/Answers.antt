@@ -34,17 +34,17 @@ module _ (g : Over) (c : After-as_slice g) where
       (subst (λ marks. AreMarks marks (plan_of c.in-Ok.plan)) (sym c.as_slice.ensures.value)
       c.in-Ok-marks_of.ensures.marks)
 
-pub carry_out_by_plan-carried-requires-clause-stands :
-    goal.carry_out_by_plan-carried-requires-clause-stands
-carry_out_by_plan-carried-requires-clause-stands g c =
-    let at = (goal.at.carry_out_by_plan-carried-requires-clause-stands g c).After-as_slice in
+pub carry_out-carried-requires-clause-stands :
+    goal.carry_out-carried-requires-clause-stands
+carry_out-carried-requires-clause-stands g c =
+    let at = (goal.at.carry_out-carried-requires-clause-stands g c).After-as_slice in
     subst (λ (x : Content). MapStands c.args.format x c.args.desk.now c.args.root.now)
     (sym (same_rows g at)) c.requires.stands
 
-pub carry_out_by_plan-carried-requires-clause-plan :
-    goal.carry_out_by_plan-carried-requires-clause-plan
-carry_out_by_plan-carried-requires-clause-plan g c =
-    let at = (goal.at.carry_out_by_plan-carried-requires-clause-plan g c).After-as_slice in (
+pub carry_out-carried-requires-clause-plan :
+    goal.carry_out-carried-requires-clause-plan
+carry_out-carried-requires-clause-plan g c =
+    let at = (goal.at.carry_out-carried-requires-clause-plan g c).After-as_slice in (
       λ n. batched n c.args.edits.now,
       subst (λ (x : Content). IsPlanOf c.args.format x c.args.desk.now c.args.root.now
           c.as_slice.result.now (plan_of c.in-Ok.plan) (λ n. batched n c.args.edits.now))
@@ -59,9 +59,9 @@ returns-in-Ok-carried-clause-changed g c =
     subst (λ (x : Content). (change : List Pair → List Pair)
     → IsPlanOf c.args.format x c.args.desk.now c.args.root.now c.as_slice.result.now
     (plan_of c.in-Ok.plan) change
-    → AfterChange c.args.format x (g.R.Rows.content c.carry_out_by_plan-carried.new.rows)
+    → AfterChange c.args.format x (g.R.Rows.content c.carry_out-carried.new.rows)
     c.args.desk.now
-    c.carry_out_by_plan-carried.new.desk c.args.root.now c.in-Ok-carried.done change)
+    c.carry_out-carried.new.desk c.args.root.now c.in-Ok-carried.done change)
     (same_rows g at)
     c.in-Ok-carried.ensures.changed (λ n. batched n c.args.edits.now) (planned g at)
 
@@ -99,9 +99,9 @@ returns-in-Err-marks_of-clause-lacks g c = search rules
 pub returns-in-Err-marks_of-clause-untouched : goal.returns-in-Err-marks_of-clause-untouched
 returns-in-Err-marks_of-clause-untouched g c = search rules
 
-pub carry_out_by_plan-carried-requires-clause-free :
-    goal.carry_out_by_plan-carried-requires-clause-free
-carry_out_by_plan-carried-requires-clause-free g c = search rules
+pub carry_out-carried-requires-clause-free :
+    goal.carry_out-carried-requires-clause-free
+carry_out-carried-requires-clause-free g c = search rules
 
 pub returns-in-Ok-carried-clause-beside : goal.returns-in-Ok-carried-clause-beside
 returns-in-Ok-carried-clause-beside g c = search rules
@@ -129,10 +129,10 @@ returns-clause-changed g c = search rules
 
 -- ---- what the plan names is known
 
-pub carry_out_by_plan-carried-requires-clause-known :
-    goal.carry_out_by_plan-carried-requires-clause-known
-carry_out_by_plan-carried-requires-clause-known g c = λ yes.
-    let at = (goal.at.carry_out_by_plan-carried-requires-clause-known g c).After-as_slice in
+pub carry_out-carried-requires-clause-known :
+    goal.carry_out-carried-requires-clause-known
+carry_out-carried-requires-clause-known g c =
+    let at = (goal.at.carry_out-carried-requires-clause-known g c).After-as_slice in
     let one = c.requires.stands in
     let known : HasKnown (g.R.Rows.content c.args.rows.now) c.args.desk.now
     (known_of c.in-Ok.plan) = record {

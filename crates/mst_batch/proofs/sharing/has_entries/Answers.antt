@@ -1,14 +1,14 @@
-use Rattle.std.proofs.Common.{◌≡◌, ◌-◌, length, Option, IsSome, refl, sym, ◌∙◌, ap, subst, arith, rules}
+use Rattle.std.proofs.Common.{◌≡◌, ◌-◌, ℕ, List, length, Option, IsSome, refl, sym, ◌∙◌, ap, subst, arith, rules}
 use Rattle.mst_key.specs.declared.format.Format.{Format}
 use Rattle.mst_arena.specs.Row.{keyed_links, entry_value}
-use Rattle.mst_arena.specs.declared.row.KeyedLinks.{KeyedLinks}
 use Rattle.mst_arena.specs.Standing.{Chain}
 use Rattle.mst_read.specs.Search.{LiesBehind}
-use Rattle.mst_read.proofs.Still.{read_still, there_still}
-use Rattle.mst_read.proofs.Walk.{AtCell, at_cell, at_end, entry_left}
+use Rattle.mst_read.proofs.Still.{read_still}
+use Rattle.mst_read.proofs.Walk.{AtCell, at_cell, at_end}
 use Rattle.mst_arena.specs.Content.{Content}
 use Rattle.mst_batch.specs.Known.{AreThere, known_of_entry}
 use Rattle.mst_batch.specs.Plans.{plan_of}
+use Rattle.mst_batch.proofs.Heads.{next_some, next_there}
 use Rattle.mst_batch.proofs.KnownShapes.{entry_there}
 use Rattle.mst_batch.proofs.SameNodes.{IsSameFrom, other_count, value_at, one_more, not_all, tail_decides}
 use Rattle.mst_batch.proofs.sharing.has_entries.Given.{Over}
@@ -19,16 +19,32 @@ pub returns-then-entries-head-clause-entries : goal.returns-then-entries-head-cl
 returns-then-entries-head-clause-entries g c f w lies =
     other_count c.args.entries.now (plan_of c.args.tail.now) w lies c.if-entries-head.true
 
+pub loop-entry-init : goal.loop-entry-init
+loop-entry-init g c = record {
+  same = refl;
+  onward = λ f w lies. record {
+    rest = w;
+    first_is = lies.first;
+    tail_is = lies.tail;
+    left = omega (arith, lies.count, c.if-entries-head.false);
+    rows = lies.rows;
+    holds = (λ is. is, λ is. is);
+  };
+}
+
 -- ---- the next entry
+
+pub overflow_sub-row : goal.overflow_sub-row
+overflow_sub-row g c =
+    let z = c.requires.lies in
+    next_some (c.loop-entry.invariant.onward z.0 z.1 z.2) c.loop-entry-test.true
 
 pub entry-links-requires : goal.entry-links-requires
 entry-links-requires g c =
     let z = c.requires.lies in
-    let left = entry_left (c.loop-entry.invariant.onward z.0 z.1 z.2) c.loop-entry-test.true in
     record {
-      there = there_still (ap g.R.Rows.content c.loop-entry.invariant.same) keyed_links
-          (c.loop-entry.next - 1)
-          (subst (λ (e : Option KeyedLinks). IsSome e) (sym left.1) refl);
+      there = next_there (c.loop-entry.invariant.onward z.0 z.1 z.2) c.loop-entry-test.true
+          (ap g.R.Rows.content c.loop-entry.invariant.same);
     }
 
 pub is_entry-requires-clause-known : goal.is_entry-requires-clause-known
@@ -45,6 +61,21 @@ module _ (g : Over) (c : goal.After-entry-links g) (f : Format) (w : Chain)
       (IsSameFrom c.args.entries.now (plan_of c.args.tail.now) w c.loop-entry.entry-index)
   here = at_cell (c.loop-entry.invariant.onward f w lies) c.loop-entry-test.true
       (ap g.R.Rows.content c.loop-entry.invariant.same) c.entry-links.ensures.value
+
+pub is_entry-requires-clause-there : goal.is_entry-requires-clause-there
+is_entry-requires-clause-there g c =
+    let z = c.requires.lies in
+    let at = (goal.at.is_entry-requires-clause-there g c).After-entry-links in
+    let a = here g at z.0 z.1 z.2 in
+    subst (λ (v : Option (List ℕ)). IsSome v)
+    (sym (read_still
+    (ap g.R.Rows.content (c.entry-links.ensures.same ∙ c.loop-entry.invariant.same)) entry_value
+    (c.loop-entry.next - 1) (value_at c.args.entries.now (plan_of c.args.tail.now) z.1 a))) refl
+
+pub is_entry-requires-clause-links : goal.is_entry-requires-clause-links
+is_entry-requires-clause-links g c =
+    read_still (ap g.R.Rows.content c.entry-links.ensures.same) keyed_links
+    (c.loop-entry.next - 1) c.entry-links.ensures.value
 
 pub returns-then-not-is_entry-clause-entries : goal.returns-then-not-is_entry-clause-entries
 returns-then-not-is_entry-clause-entries g c f w lies =

@@ -9,7 +9,7 @@ use Rattle.mst_batch.specs.Plans.{last, with_planned, planned_entry}
 use Rattle.mst_batch.specs.declared.plan.PlanEntry.{PlanEntry}
 use Rattle.mst_batch.proofs.Heads.{with_head}
 use Rattle.mst_batch.proofs.PlanShapes.{tail}
-use Rattle.mst_batch.proofs.SameNodes.{entries_decide}
+use Rattle.mst_batch.proofs.SameNodes.{entries_decide, other_layer, none_there}
 use Rattle.mst_batch.proofs.sharing.matches.Goals as goal
 
 pub has_entries-requires-clause-lies : goal.has_entries-requires-clause-lies
@@ -38,3 +38,13 @@ returns-then-node-head-clause-node g c f p lies =
     c.as_slice.ensures.value
     (c.has_entries.ensures.entries f h.chain
     (behind_still (ap g.R.Rows.content c.head_at.ensures.same) h.lies)))
+
+pub returns-else-node-head-clause-node : goal.returns-else-node-head-clause-node
+returns-else-node-head-clause-node g c f p lies =
+    other_layer c.args.node.now
+    (with_head p lies.rows (sym (c.head_at.ensures.head f p lies) ∙ c.in-Some.is))
+    c.if-node-head.false
+
+pub returns-in_default-clause-node : goal.returns-in_default-clause-node
+returns-in_default-clause-node g c f p lies =
+    none_there c.args.node.now p (sym (c.head_at.ensures.head f p lies) ∙ c.in_default.is)

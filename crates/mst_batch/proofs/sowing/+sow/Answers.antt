@@ -233,7 +233,7 @@ sow_node-sow_plan-child-requires g t c κs within =
                 (
                   still_writable _ _ _ _ _ _ s.moves c.loop-entry.invariant.beside.0
                       c.requires.ready,
-                  λ yes. child_is_known g t here at p (c.requires.known yes),
+                  child_is_known g t here at p c.requires.known,
                 ),
               ),
             ),
@@ -306,8 +306,7 @@ sow_node-write_entry-requires-clause-there g t c =
     let p = c.requires.plan.1 in
     let here = (goal.at.sow_node-write_entry-requires-clause-there g t c).After-entry-item in
     let q = c.sow_plan-child.ensures.sown at (child_plan g t here at p) in
-    c.trusted-origin.ensures.there (g.R.Rows.content c.sow_plan-child.new.rows) _
-    (λ yes. there g t here at p (c.requires.known yes) _ _ _ _ _ _ q)
+    there g t here at p c.requires.known _ _ _ _ _ _ q
 
 pub sow_node-loop-entry-preserved : goal.sow_node-loop-entry-preserved
 sow_node-loop-entry-preserved g t c =
@@ -430,7 +429,7 @@ sow_node-sow_plan-tail-requires g t c κs within =
                 (
                   still_writable _ _ _ _ _ _ s.moves c.loop-entry.invariant.beside.0
                       c.requires.ready,
-                  λ yes. tail_is_known g t behind at p (c.requires.known yes),
+                  tail_is_known g t behind at p c.requires.known,
                 ),
               ),
             ),

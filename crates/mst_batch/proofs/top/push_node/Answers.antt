@@ -1,8 +1,13 @@
 use Rattle.std.proofs.Common.{◌∙◌, ap, arith}
 use Rattle.std.proofs.lemmas.Result.{on_ok_weaker}
 use Rattle.mst_read.proofs.Walk.{at_cell, at_end, child_lies, tail_lies}
+use Rattle.mst_batch.proofs.Heads.{top_there, next_some, next_there}
 use Rattle.mst_batch.proofs.NodeItems.{begins, goes_on}
 use Rattle.mst_batch.proofs.top.push_node.Goals as goal
+
+pub head-head-requires : goal.head-head-requires
+head-head-requires g c =
+    let z = c.requires.lies in record { there = top_there z.1 z.2 c.requires.some }
 
 pub loop-init : goal.loop-init
 loop-init g c = record {
@@ -11,6 +16,24 @@ loop-init g c = record {
       begins format (g.R.Rows.content c.args.rows.now) c.args.link p lies c.requires.some
       c.head-head.result c.head-head.ensures.value c.args.items.now.items;
 }
+
+pub overflow_sub-next : goal.overflow_sub-next
+overflow_sub-next g c =
+    let z = c.requires.lies in
+    next_some (c.loop.invariant.onward z.0 z.1 z.2) c.loop-test.true
+
+pub entry-entry-requires : goal.entry-entry-requires
+entry-entry-requires g c =
+    let z = c.requires.lies in
+    record {
+      there = next_there (c.loop.invariant.onward z.0 z.1 z.2) c.loop-test.true
+          (ap g.R.Rows.content c.loop.invariant.same);
+    }
+
+pub overflow_sub-next-in-loop : goal.overflow_sub-next-in-loop
+overflow_sub-next-in-loop g c =
+    let z = c.requires.lies in
+    next_some (c.loop.invariant.onward z.0 z.1 z.2) c.loop-test.true
 
 pub push_tree-requires : goal.push_tree-requires
 push_tree-requires g c =
