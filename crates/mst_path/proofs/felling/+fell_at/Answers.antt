@@ -1,4 +1,4 @@
-use Rattle.std.proofs.Common.{◌≡◌, ℕ, ◌+◌, ◌-◌, ◌<◌, [], Some, sym, ◌∙◌, ap, subst, arith, rules}
+use Rattle.std.proofs.Common.{◌≡◌, ℕ, ◌+◌, ◌-◌, ◌<◌, [], Some, IsSome, sym, ◌∙◌, ap, subst, arith, rules}
 use Rattle.mst_arena.specs.Content.{Content, part_at}
 use Rattle.mst_arena.specs.Lives.{State}
 use Rattle.mst_arena.specs.Row.{keyed_links}
@@ -49,6 +49,32 @@ module _ (g : Over) (t : ℕ) (c : After-kill-in-loop g t)
       (sym same_rows)
       (subst (λ (s : State). ToFell (g.R.Rows.content c.args.rows.now) s c.entry-entry.result.child)
       (sym c.kill-in-loop.ensures.dead) entry.below)
+
+pub overflow_sub-next : goal.overflow_sub-next
+overflow_sub-next g t c =
+    omega (
+      arith,
+      (entry_there _ _ _ _ _ _ _ _ _ _ _ (c.loop.invariant.felling c.requires.tree)
+          c.loop-test.true).1,
+    )
+
+pub overflow_sub-next-in-loop : goal.overflow_sub-next-in-loop
+overflow_sub-next-in-loop g t c =
+    omega (
+      arith,
+      (entry_there _ _ _ _ _ _ _ _ _ _ _ (c.loop.invariant.felling c.requires.tree)
+          c.loop-test.true).1,
+    )
+
+pub entry-entry-requires : goal.entry-entry-requires
+entry-entry-requires g t c =
+    record {
+      there =
+          subst (λ (x : Content). IsSome (part_at keyed_links x (c.loop.next - 1)))
+          (sym (ap g.R.Rows.content c.loop.invariant.same))
+          (entry_there _ _ _ _ _ _ _ _ _ _ _ (c.loop.invariant.felling c.requires.tree)
+          c.loop-test.true).0;
+    }
 
 pub kill-requires-in-loop : goal.kill-requires-in-loop
 kill-requires-in-loop g t c =

@@ -1,4 +1,4 @@
-use Rattle.std.proofs.Common.{◌≡◌, ◌-◌, ℕ, [], ◌∷◌, ◌++◌, length, Option, IsSome, sym, ◌∙◌, ap, subst, arith}
+use Rattle.std.proofs.Common.{◌≡◌, ◌-◌, ℕ, Bool, IsTrue, [], ◌∷◌, ◌++◌, length, Option, IsSome, sym, ◌∙◌, ap, subst, arith}
 use Rattle.mst_key.specs.declared.format.Format.{Format}
 use Rattle.mst_arena.specs.Content.{Content, part_at}
 use Rattle.mst_arena.specs.Row.{keyed_links}
@@ -10,7 +10,7 @@ use Rattle.mst_path.specs.Runs.{OldPiece}
 use Rattle.mst_path.specs.Writing.{ahead, IsWritten, IsRootOf}
 use Rattle.mst_path.specs.Copying.{Copied}
 use Rattle.mst_path.specs.Making.{Rest, Finished}
-use Rattle.mst_path.proofs.lemmas.rows.CopyRows.{small_link, old_alive, links_there, ends_are, pair_there, next_some}
+use Rattle.mst_path.proofs.lemmas.rows.CopyRows.{small_link, still_writable, old_alive, links_there, ends_are, pair_there, next_some}
 use Rattle.mst_path.proofs.lemmas.steps.Seams.{first_back, no_length, seam_out, Seamed, with_seam, back_copying, tail_stays, back_head_out, with_back}
 use Rattle.mst_path.proofs.lemmas.steps.Finishing.{none_ahead}
 use Rattle.mst_path.proofs.lemmas.trees.Made.{piece_alive}
@@ -19,6 +19,14 @@ use Rattle.mst_path.proofs.making.finish_with_back.Goals.{After-move_entry, Afte
 use Rattle.mst_path.proofs.making.finish_with_back.Goals as goal
 
 -- ---- the first entry at the back is moved after the seam
+
+pub links-links-requires : goal.links-links-requires
+links-links-requires g c =
+    let format = c.requires.rest.0 in
+    record {
+      there = links_there _ _ _ _ _ (first_back format _ _ _ _ c.requires.rest.1
+          c.requires.some).row;
+    }
 
 pub move_entry-requires-clause-child : goal.move_entry-requires-clause-child
 move_entry-requires-clause-child g c =
@@ -88,6 +96,12 @@ move_run-requires-clause-copying g c =
           c.requires.rest.1) (c.args.parts.now.back.count - 1) (omega (arith, c.requires.some)),
     )
 
+pub move_run-requires-clause-ready : goal.move_run-requires-clause-ready
+move_run-requires-clause-ready g c =
+    still_writable _ _ _ _ _ _ c.move_entry.ensures.moves
+    (c.move_entry.ensures.beside.0 ∙ ap g.R.Rows.blank c.links-links.ensures.same)
+    c.requires.ready
+
 -- ---- the entries after it are moved
 
 module _ (g : Over) (c : goal.After-move_run g) where
@@ -152,6 +166,21 @@ module _ (g : Over) (c : goal.After-root_at-tail g) (format : Format)
       → IsRootOf format r.tail c.root_at-tail.result
   root stays = c.root_at-tail.ensures.root format r.tail r.back_run.tail_at stays.rows
 
+pub finish-requires-clause-writer : goal.finish-requires-clause-writer
+finish-requires-clause-writer g c = c.move_run.ensures.writer
+
+pub finish-requires-clause-all : goal.finish-requires-clause-all
+finish-requires-clause-all g c =
+    none_left g (goal.at.finish-requires-clause-all g c).After-move_run
+
+pub finish-requires-clause-blank : goal.finish-requires-clause-blank
+finish-requires-clause-blank g c =
+    let same = ap g.R.Rows.blank c.root_at-tail.ensures.same ∙ c.move_run.ensures.beside.0
+    ∙ c.move_entry.ensures.beside.0 ∙ ap g.R.Rows.blank c.links-links.ensures.same in
+    subst (λ (h : ℕ). IsTrue (g.R.Rows.blank c.root_at-tail.new.rows h))
+    (sym (same_head g (goal.at.finish-requires-clause-blank g c).After-move_run))
+    (subst (λ (b : ℕ → Bool). IsTrue (b c.args.writer.head)) (sym same) c.requires.head)
+
 pub finish-requires-clause-tail : goal.finish-requires-clause-tail
 finish-requires-clause-tail g c =
     let format = c.requires.rest.0 in
@@ -199,3 +228,13 @@ returns-clause-finished g c = λ format r.
     (ap (λ (o : Option ℕ). length (ahead o)) m.next_is)
     (no_length c.move_run.new.writer.next c.move_run.new.writer.left
     c.move_run.ensures.writer.reserved (none_left g run)))
+
+pub returns-clause-beside : goal.returns-clause-beside
+returns-clause-beside g c = (
+  c.finish.ensures.beside.0 ∙ ap g.R.Rows.blank c.root_at-tail.ensures.same
+      ∙ c.move_run.ensures.beside.0 ∙ c.move_entry.ensures.beside.0
+      ∙ ap g.R.Rows.blank c.links-links.ensures.same,
+  c.finish.ensures.beside.1 ∙ ap g.R.Rows.kept c.root_at-tail.ensures.same
+      ∙ c.move_run.ensures.beside.1 ∙ c.move_entry.ensures.beside.1
+      ∙ ap g.R.Rows.kept c.links-links.ensures.same,
+)

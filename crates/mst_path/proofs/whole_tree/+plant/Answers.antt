@@ -79,6 +79,9 @@ plant_node-begin-writer-requires-clause-room g t c =
       c.requires.room,
     )
 
+pub plant_node-begin-writer-requires-clause-rows : goal.plant_node-begin-writer-requires-clause-rows
+plant_node-begin-writer-requires-clause-rows g t c = c.requires.ready.few
+
 pub plant_node-loop-entry-init : goal.plant_node-loop-entry-init
 plant_node-loop-entry-init g t c =
     let made = c.begin-writer.ensures in
@@ -159,6 +162,14 @@ plant_node-plant_child-child-requires g t c κs within =
         ),
       ),
     )
+
+pub plant_node-entry-requires-clause-writer : goal.plant_node-entry-requires-clause-writer
+plant_node-entry-requires-clause-writer g t c = c.loop-entry.invariant.writer
+
+pub plant_node-entry-requires-clause-some : goal.plant_node-entry-requires-clause-some
+plant_node-entry-requires-clause-some g t c =
+    let here = (goal.at.plant_node-entry-requires-clause-some g t c).After-entry-item in
+    omega (arith, c.loop-entry.invariant.left, inside g t here)
 
 pub plant_node-entry-requires-clause-room : goal.plant_node-entry-requires-clause-room
 plant_node-entry-requires-clause-room g t c more =
@@ -281,6 +292,21 @@ plant_node-plant_child-tail-requires g t c κs within =
       ),
     )
 
+pub plant_node-finish-requires-clause-writer : goal.plant_node-finish-requires-clause-writer
+plant_node-finish-requires-clause-writer g t c = c.loop-entry.invariant.writer
+
+pub plant_node-finish-requires-clause-all : goal.plant_node-finish-requires-clause-all
+plant_node-finish-requires-clause-all g t c =
+    none_left g t (goal.at.plant_node-finish-requires-clause-all g t c).After-loop-entry
+
+pub plant_node-finish-requires-clause-blank : goal.plant_node-finish-requires-clause-blank
+plant_node-finish-requires-clause-blank g t c =
+    let blank = g.R.Rows.blank c.args.rows.now in
+    let old = taken_blank _ _ _ blank c.loop-entry.invariant.so_far.takes c.requires.ready.free
+    in
+    let same = c.plant_child-tail.ensures.beside.0 ∙ c.loop-entry.invariant.beside.0 in
+    subst (λ (b : ℕ → Bool). IsTrue (b c.loop-entry.writer.head)) (sym same) old.0
+
 pub plant_node-finish-requires-clause-tail : goal.plant_node-finish-requires-clause-tail
 plant_node-finish-requires-clause-tail g t c =
     root_small c.args.format _ _ _ _ _ _ c.plant_child-tail.ensures.planted
@@ -307,3 +333,11 @@ plant_node-returns-clause-planted g t c =
     (ap (λ xs. node c.args.format (out-Node A n).layer
     (with_entries xs (last (tail c.args.format A n)))) (whole g t behind)
     ∙ sym (node_out c.args.format A n)) made)
+
+pub plant_node-returns-clause-beside : goal.plant_node-returns-clause-beside
+plant_node-returns-clause-beside g t c = (
+  c.finish.ensures.beside.0 ∙ c.plant_child-tail.ensures.beside.0
+      ∙ c.loop-entry.invariant.beside.0,
+  c.finish.ensures.beside.1 ∙ c.plant_child-tail.ensures.beside.1
+      ∙ c.loop-entry.invariant.beside.1,
+)
