@@ -1,11 +1,12 @@
-use Rattle.std.proofs.Common.{◌≡◌, ◌∙◌, ◌<◌, ◌≤◌, ◌∷◌, [], ℕ, List, Option, ap, arith, refl, subst}
+use Rattle.std.proofs.Common.{◌≡◌, ◌∙◌, ◌<◌, ◌≤◌, ◌∷◌, [], ℕ, List, Option, ap, arith, refl, subst, sym}
 use Rattle.atomic_table.specs.Table.{Me}
 use Rattle.mst_arena.specs.Lives as lives
 use Rattle.mst_words.specs.declared.view.View.{View}
+use Rattle.mst_words.specs.Layout.{table_words}
 use Rattle.mst_words.specs.Records as records
-use Rattle.mst_words.specs.Access.{PartStored, RowStored, relinked_list}
+use Rattle.mst_words.specs.Access.{PartStored, RowStored, may_read, relinked_list}
 use Rattle.mst_words.proofs.Accesses.{blank_parts, inside}
-use Rattle.mst_words.proofs.Copied.{behind_front, entry_stored, same_words, still_ends}
+use Rattle.mst_words.proofs.Copied.{behind_front, entry_stored, same_words, still_blank, still_ends}
 use Rattle.mst_words.proofs.board.Board.copy_words.Given.{Over}
 use Rattle.mst_words.proofs.board.Board.copy_words.Goals.{After-store_words}
 use Rattle.mst_words.proofs.board.Board.copy_words.Goals as goal
@@ -26,6 +27,24 @@ module _ (g : Over) (c : goal.After-store_words g) where
       (blank_parts v c.args.to c.requires.blank).inside
       (inside v c.args.from c.requires.readable)
       c.store_words.ensures.stored ge lt
+
+pub copy_bytes-requires-clause-own : goal.copy_bytes-requires-clause-own
+copy_bytes-requires-clause-own g c = record {
+  own = c.store_words.ensures.same.0 ∙ c.requires.own.own;
+  wide = c.requires.own.wide
+      ∙ ap table_words (sym (sized g (goal.at.copy_bytes-requires-clause-own g c).After-store_words));
+}
+
+pub copy_bytes-requires-clause-readable : goal.copy_bytes-requires-clause-readable
+copy_bytes-requires-clause-readable g c =
+    ap (λ (z : Me (Option lives.State) View). may_read z.0 c.args.from)
+    c.store_words.ensures.same.2
+    ∙ c.requires.readable
+
+pub copy_bytes-requires-clause-blank : goal.copy_bytes-requires-clause-blank
+copy_bytes-requires-clause-blank g c =
+    still_blank c.args.seat.now.me c.store_words.new.seat.me c.args.to
+    c.store_words.ensures.same.2 c.store_words.ensures.stored.long c.requires.blank
 
 pub copy_bytes-requires-clause-ends : goal.copy_bytes-requires-clause-ends
 copy_bytes-requires-clause-ends g c =
@@ -68,3 +87,13 @@ returns-clause-stored g c =
     c.from-2.ensures
     (subst (λ (n : ℕ). RowStored v.rows c.args.to 16 (relinked_list f n c.from-2.result) old new)
     c.from.ensures all)
+
+pub returns-clause-same : goal.returns-clause-same
+returns-clause-same g c = (
+  c.copy_bytes.ensures.same.0 ∙ c.store_words.ensures.same.0,
+  c.copy_bytes.ensures.same.1 ∙ c.store_words.ensures.same.1,
+  c.copy_bytes.ensures.same.2
+      ∙ ap (λ (z : Me (Option lives.State) View).
+      (record z.0 { known_words = c.copy_bytes.new.seat.me.0.known_words }, z.1))
+      c.store_words.ensures.same.2,
+)
