@@ -1,1 +1,2 @@
 pub mod PlainWords
+pub mod WordByWord

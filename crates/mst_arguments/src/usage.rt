@@ -35,79 +35,81 @@ const VERSION: &str = "0.4.0-dev";
 /// The text of the version, if nothing else is asked.
 const VERSION_TEXT: &str = "mst 0.4.0-dev\n";
 
+// An argument with its help, and what clap does where it finds one.
+fn argument<'a>(alloc: Global, name: &'a str, action: ArgAction, help: &'a str) -> Arg<'a> {
+    Arg::new(alloc, name).action(action).help(help)
+}
+
+// An option with a value, which the help calls by this name.
+fn option<'a>(alloc: Global, name: &'a str, value: &'a str, help: &'a str) -> Arg<'a> {
+    argument(alloc, name, ArgAction::Set, help)
+        .long(name)
+        .value_name(value)
+}
+
+// An option that is a number.
+fn number_option<'a>(alloc: Global, name: &'a str, help: &'a str) -> Arg<'a> {
+    option(alloc, name, "N", help).value_parser(value_parser!(u32))
+}
+
 // An option that is a number and has to be given.
 fn required_number<'a>(alloc: Global, name: &'a str, help: &'a str) -> Arg<'a> {
-    Arg::new(alloc, name)
-        .long(name)
-        .value_name("N")
-        .help(help)
-        .required(true)
-        .action(ArgAction::Set)
-        .value_parser(value_parser!(u32))
+    number_option(alloc, name, help).required(true)
 }
 
 // An option that is a number and has a default.
 fn usual_number<'a>(alloc: Global, name: &'a str, help: &'a str, usual: &'a str) -> Arg<'a> {
-    Arg::new(alloc, name)
-        .long(name)
-        .value_name("N")
-        .help(help)
-        .action(ArgAction::Set)
-        .value_parser(value_parser!(u32))
-        .default_value(usual)
+    number_option(alloc, name, help).default_value(usual)
 }
 
 // The option that names a format. Values other than 1 and 2 are refused by the task that the words
 // ask for, and not by clap.
 fn format_option<'a>(alloc: Global, help: &'a str) -> Arg<'a> {
-    Arg::new(alloc, "format")
-        .long("format")
-        .value_name("F")
-        .help(help)
-        .action(ArgAction::Set)
-        .default_value("1")
+    option(alloc, "format", "F", help).default_value("1")
 }
 
 // The option that makes a script's map a sharded one. Values that are no splits are refused by the
 // task that the words ask for, and not by clap.
 fn splits_option<'a>(alloc: Global) -> Arg<'a> {
-    Arg::new(alloc, "splits")
-        .long("splits")
-        .value_name("K,K,..")
-        .help("The splits of a sharded map: rising hexadecimal keys")
-        .action(ArgAction::Set)
+    let help = "The splits of a sharded map: rising hexadecimal keys";
+    option(alloc, "splits", "K,K,..", help)
 }
 
 // A word that has to be given.
 fn required_word<'a>(alloc: Global, name: &'a str, help: &'a str) -> Arg<'a> {
-    Arg::new(alloc, name)
-        .required(true)
-        .action(ArgAction::Set)
-        .help(help)
+    argument(alloc, name, ArgAction::Set, help).required(true)
 }
 
 // The option of a proof of a sharded map, which has no value.
 fn sharded_switch<'a>(alloc: Global) -> Arg<'a> {
-    Arg::new(alloc, "sharded")
-        .long("sharded")
-        .action(ArgAction::SetTrue)
-        .help("The proof is of a sharded map, in two parts")
+    let help = "The proof is of a sharded map, in two parts";
+    argument(alloc, "sharded", ArgAction::SetTrue, help).long("sharded")
+}
+
+// A command with its arguments.
+fn command<'a>(
+    alloc: Global,
+    name: &'a str,
+    about: &'a str,
+    arguments: Vec<Arg<'a>>,
+) -> Result<Command<'a>, AllocError> {
+    Command::new(alloc, name).about(about).args(arguments)
 }
 
 // The command of a load.
 fn load_command<'a>(alloc: Global) -> Result<Command<'a>, AllocError> {
+    let about = "Lets threads read and write one store at once, and reports what they left";
     let options = vec![in alloc;
         required_number(alloc, "readers", "How many threads read, 1 to 24"),
         required_number(alloc, "writers", "How many threads write, 1 to 8"),
         required_number(alloc, "calls", "How many calls each makes, 1 to 100000"),
     ]?;
-    Command::new(alloc, "load")
-        .about("Lets threads read and write one store at once, and reports what they left")
-        .args(options)
+    command(alloc, "load", about, options)
 }
 
 // The command of a script.
 fn run_command<'a>(alloc: Global) -> Result<Command<'a>, AllocError> {
+    let about = "Answers the lines of standard input, each of them a command of a pass";
     let rows = "How many rows the store has, 4 to 65535";
     let passes = "How many passes the store has, 1 to 32";
     let format = "The format in which the store opens, 1 or 2";
@@ -117,25 +119,22 @@ fn run_command<'a>(alloc: Global) -> Result<Command<'a>, AllocError> {
         format_option(alloc, format),
         splits_option(alloc),
     ]?;
-    Command::new(alloc, "run")
-        .about("Answers the lines of standard input, each of them a command of a pass")
-        .args(options)
+    command(alloc, "run", about, options)
 }
 
 // The command that verifies a proof.
 fn verify_command<'a>(alloc: Global) -> Result<Command<'a>, AllocError> {
+    let about = "Says what the proof on standard input, in hexadecimal, shows of a key";
     let root = "The root digest of the map, 64 hexadecimal digits";
     let key = "The key, 1 to 32 bytes of two hexadecimal digits each";
     let format = "The format of the root digest and the proof, 1 or 2";
-    let options = vec![in alloc;
+    let arguments = vec![in alloc;
         required_word(alloc, "ROOT", root),
         required_word(alloc, "KEY", key),
         sharded_switch(alloc),
         format_option(alloc, format),
     ]?;
-    Command::new(alloc, "verify")
-        .about("Says what the proof on standard input, in hexadecimal, shows of a key")
-        .args(options)
+    command(alloc, "verify", about, arguments)
 }
 
 // The command that replays events.
@@ -177,20 +176,21 @@ fn program<'a>(alloc: Global) -> Result<Command<'a>, AllocError> {
     with_command(program, load_command(alloc))
 }
 
-// The error that refuses words in which clap finds none, should that ever be.
-fn no_task(alloc: Global) -> Result<Error, AllocError> {
-    program(alloc)?.error(ErrorKind::InvalidSubcommand, "the words name no task")
+// The error that clap finds in words that name no task, or one that says so, should it find none.
+fn error_of<'a>(program: &mut Command<'a>, words: &'a [&'a str]) -> Result<Error, AllocError> {
+    match program.try_get_matches_from_mut(words) {
+        Ok(matches) => {
+            drop(matches);
+            program.error(ErrorKind::InvalidSubcommand, "the words name no task")
+        }
+        Err(error) => Ok(error),
+    }
 }
 
 // The error that clap finds in words that name no task.
 fn error_in(alloc: Global, words: &[&str]) -> Result<Error, AllocError> {
-    match program(alloc)?.try_get_matches_from(words) {
-        Ok(matches) => {
-            drop(matches);
-            no_task(alloc)
-        }
-        Err(error) => Ok(error),
-    }
+    let mut program = program(alloc)?;
+    error_of(&mut program, words)
 }
 
 // The refusal of memory that kept clap from its work, if it was one.
