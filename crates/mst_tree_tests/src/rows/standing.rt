@@ -42,11 +42,11 @@ impl Model for StandingMap {
 
 impl StandingMap {
     /// The map of a tree, planted in this many new rows.
-    fn planted<A: Allocator>(
+    fn planted(
         rt: &impl Abort,
         alloc: Global,
         format: Format,
-        tree: Option<&Node<A>>,
+        tree: Option<&Node<Global>>,
         size: u32,
     ) -> Result<StandingMap, Memory>
         requires tree { (m : List Pair) × IsMap m
@@ -54,8 +54,8 @@ impl StandingMap {
         requires some { 0 < size }
         requires few { size ≤ 65535 }
     {
-        let mut desk = Desk::new(alloc, size, 2, 0)?;
         let mut rows = CountedRows::new(alloc, size)?;
+        let mut desk = Desk::new(alloc, size, 2, 0)?;
         let Ok(root) = plant(&mut rows, &mut desk, tree, format) else {
             panic!(rt; "no room")
         };
