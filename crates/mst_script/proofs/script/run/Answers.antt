@@ -1,20 +1,23 @@
-use Rattle.std.proofs.Common.{rules}
+use Rattle.std.proofs.Common.{List, vec_items, rules, subst, sym}
+use Rattle.mst_store.specs.Passes.{Known}
+use Rattle.mst_script.specs.Serving.{AreAllOf}
+use Rattle.mst_script.specs.Scripts.{RanScript, StoppedScript}
 use Rattle.mst_script.proofs.script.run.Goals as goal
 
 pub returns-in-Err-clause-whole : goal.returns-in-Err-clause-whole
-returns-in-Err-clause-whole g c = search rules
+returns-in-Err-clause-whole g c = c.requires.whole
 
 pub returns-in-Err-clause-ok : goal.returns-in-Err-clause-ok
-returns-in-Err-clause-ok g c = search rules
+returns-in-Err-clause-ok g c = tt
 
 pub returns-in-Err-clause-ended : goal.returns-in-Err-clause-ended
-returns-in-Err-clause-ended g c = search rules
+returns-in-Err-clause-ended g c = tt
 
 pub returns-in-Err-clause-steady_source : goal.returns-in-Err-clause-steady_source
-returns-in-Err-clause-steady_source g c = search rules
+returns-in-Err-clause-steady_source g c = tt
 
 pub returns-in-Err-clause-steady_sink : goal.returns-in-Err-clause-steady_sink
-returns-in-Err-clause-steady_sink g c = search rules
+returns-in-Err-clause-steady_sink g c = tt
 
 pub returns-in-Err-clause-stopped : goal.returns-in-Err-clause-stopped
 returns-in-Err-clause-stopped g c = search rules
@@ -33,10 +36,10 @@ new-all-requires-clause-room g c = search rules
 
 pub settle_and_drive-driven-requires-clause-source :
     goal.settle_and_drive-driven-requires-clause-source
-settle_and_drive-driven-requires-clause-source g c = search rules
+settle_and_drive-driven-requires-clause-source g c = c.requires.source
 
 pub settle_and_drive-driven-requires-clause-sink : goal.settle_and_drive-driven-requires-clause-sink
-settle_and_drive-driven-requires-clause-sink g c = search rules
+settle_and_drive-driven-requires-clause-sink g c = c.requires.sink
 
 pub settle_and_drive-driven-requires-clause-pending :
     goal.settle_and_drive-driven-requires-clause-pending
@@ -54,10 +57,19 @@ pub settle_and_drive-driven-requires-clause-free : goal.settle_and_drive-driven-
 settle_and_drive-driven-requires-clause-free g c = search rules
 
 pub returns-in-Ok-driven-clause-whole : goal.returns-in-Ok-driven-clause-whole
-returns-in-Ok-driven-clause-whole g c = search rules
+returns-in-Ok-driven-clause-whole g c = subst (λ (qs : List Known). AreAllOf c.args.store.now qs)
+    (sym c.into_free.ensures.free) c.settle_and_drive-driven.ensures.whole
 
 pub returns-in-Ok-driven-clause-ok : goal.returns-in-Ok-driven-clause-ok
-returns-in-Ok-driven-clause-ok g c = search rules
+returns-in-Ok-driven-clause-ok g c =
+    subst (λ (ps : List Known). RanScript g.S.Source.gives g.W.Sink.takes c.args.store.now
+    c.args.source.now c.args.sink.now ps c.settle_and_drive-driven.new.source
+    c.settle_and_drive-driven.new.sink (vec_items c.into_free.result))
+    (search rules)
+    (subst (λ (qs : List Known). RanScript g.S.Source.gives g.W.Sink.takes c.args.store.now
+    c.args.source.now c.args.sink.now c.new-all.result.free c.settle_and_drive-driven.new.source
+    c.settle_and_drive-driven.new.sink qs)
+    (sym c.into_free.ensures.free) c.in-Ok-driven.ensures.ok)
 
 pub returns-in-Ok-driven-clause-ended : goal.returns-in-Ok-driven-clause-ended
 returns-in-Ok-driven-clause-ended g c = search rules
@@ -75,28 +87,39 @@ pub returns-in-Ok-driven-clause-device : goal.returns-in-Ok-driven-clause-device
 returns-in-Ok-driven-clause-device g c = search rules
 
 pub returns-in-Ok-driven-clause-memory : goal.returns-in-Ok-driven-clause-memory
-returns-in-Ok-driven-clause-memory g c = search rules
+returns-in-Ok-driven-clause-memory g c = tt
 
 pub returns-clause-whole : goal.returns-clause-whole
-returns-clause-whole g c = search rules
+returns-clause-whole g c = subst (λ (qs : List Known). AreAllOf c.args.store.now qs)
+    (sym c.into_free.ensures.free) c.settle_and_drive-driven.ensures.whole
 
 pub returns-clause-ok : goal.returns-clause-ok
-returns-clause-ok g c = search rules
+returns-clause-ok g c = tt
 
 pub returns-clause-ended : goal.returns-clause-ended
-returns-clause-ended g c = search rules
+returns-clause-ended g c = tt
 
 pub returns-clause-steady_source : goal.returns-clause-steady_source
-returns-clause-steady_source g c = search rules
+returns-clause-steady_source g c = tt
 
 pub returns-clause-steady_sink : goal.returns-clause-steady_sink
-returns-clause-steady_sink g c = search rules
+returns-clause-steady_sink g c = tt
 
 pub returns-clause-stopped : goal.returns-clause-stopped
-returns-clause-stopped g c = search rules
+returns-clause-stopped g c = λ _.
+    subst (λ (ps : List Known). StoppedScript g.S.Source.gives g.W.Sink.takes g.W.Sink.failures
+    c.args.store.now
+    c.args.source.now c.args.sink.now ps c.settle_and_drive-driven.new.source
+    c.settle_and_drive-driven.new.sink (vec_items c.into_free.result))
+    (search rules)
+    (subst (λ (qs : List Known). StoppedScript g.S.Source.gives g.W.Sink.takes g.W.Sink.failures
+    c.args.store.now
+    c.args.source.now c.args.sink.now c.new-all.result.free c.settle_and_drive-driven.new.source
+    c.settle_and_drive-driven.new.sink qs)
+    (sym c.into_free.ensures.free) c.in-Err-driven.ensures.err)
 
 pub returns-clause-device : goal.returns-clause-device
-returns-clause-device g c = search rules
+returns-clause-device g c = λ _. c.in-Err-driven.ensures.failed
 
 pub returns-clause-memory : goal.returns-clause-memory
-returns-clause-memory g c = search rules
+returns-clause-memory g c = tt
