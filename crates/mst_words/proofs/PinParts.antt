@@ -1,4 +1,4 @@
--- The part Pins.
+-- The part Pins of the rule holds on where one view or one word changes.
 use Rattle.std.proofs.Common.{◌≡◌, ℕ, ◌+◌, ◌-◌, ◌*◌, ◌%◌, ◌^◌, ◌<◌, ◌≤◌, ◌≢◌, Bool, true, false, cond, eqb, eq-eqb, ne_eqb, List, Option, Some, None, set, get_or, sym, refl, ap, ◌∙◌, subst, arith, bit_xor}
 use Rattle.std.specs.Int.{bit_at}
 use mathlib.Core.Logic.{dite}

@@ -1,4 +1,4 @@
--- The part Rows.
+-- The part Rows of the rule holds on where one view or one word changes.
 use Rattle.std.proofs.Common.{◌≡◌, ℕ, ◌+◌, ◌<◌, ◌≤◌, ◌≢◌, inl, inr, Bool, true, cond, eqb, eq-eqb, ne_eqb, List, [], ◌∷◌, ◌++◌, length, set, get_or, sym, refl, ap, ◌∙◌, subst, ⊎_elim, arith, Some}
 use mathlib.Core.Logic.{dite}
 use mathlib.Core.Option.{some}

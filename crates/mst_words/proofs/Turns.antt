@@ -1,4 +1,4 @@
--- The part Turn.
+-- The part Turn of the rule holds on where one view or one word changes.
 use Rattle.std.proofs.Common.{◌≡◌, ℕ, ◌<◌, true, false, Option, None, List, [], ◌∷◌, set, sym, ap, ◌∙◌, subst, arith}
 use mathlib.Core.Logic.{dite}
 use mathlib.Core.Option.{some, none}

@@ -32,7 +32,8 @@ pub copy_bytes-requires-clause-own : goal.copy_bytes-requires-clause-own
 copy_bytes-requires-clause-own g c = record {
   own = c.store_words.ensures.same.0 ∙ c.requires.own.own;
   wide = c.requires.own.wide
-      ∙ ap table_words (sym (sized g (goal.at.copy_bytes-requires-clause-own g c).After-store_words));
+      ∙ ap table_words
+      (sym (sized g (goal.at.copy_bytes-requires-clause-own g c).After-store_words));
 }
 
 pub copy_bytes-requires-clause-readable : goal.copy_bytes-requires-clause-readable
