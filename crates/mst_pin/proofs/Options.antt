@@ -1,4 +1,4 @@
--- An option by its cases.
+-- An option that is none is `None`, and one that is some has a value.
 use Rattle.std.proofs.Common.{◌≡◌, ℕ, Bool, true, false, Option, Some, None, refl, sym, ◌∙◌, ◌≢◌, eqb, eq-eqb}
 use Rattle.std.specs.Bool.{OnFalse}
 use Rattle.std.specs.Prelude.{IsSome, IsNone, IsTrue, ◌↔◌, is_some}

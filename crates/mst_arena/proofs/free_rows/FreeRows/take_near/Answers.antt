@@ -12,7 +12,8 @@ take_at-requires-clause-there g c =
     let is : bit i.words.items c.args.row ≡ 1 =
     ap (λ (l : List ℕ). bit l c.args.row) (sym c.deref.ensures.value) ∙ set in
     ap (λ (s : List Bool). slice_get s c.args.row) (sym c.self.view_is)
-    ∙ set_bit_flag i.rows i.count i.at i.words.items i.summary.items _ _ c.self.invariant c.args.row is
+    ∙ set_bit_flag i.rows i.count i.at i.words.items i.summary.items _ _ c.self.invariant c.args.row
+    is
 
 pub take_at-requires-clause-at : goal.take_at-requires-clause-at
 take_at-requires-clause-at g c =
@@ -33,7 +34,8 @@ returns-then-is_set-clause-some g c =
     ap (λ (l : List ℕ). bit l c.args.row) (sym c.deref.ensures.value) ∙ set in
     let there : slice_get c.args.self.now c.args.row ≡ Some true =
     ap (λ (s : List Bool). slice_get s c.args.row) (sym c.self.view_is)
-    ∙ set_bit_flag i.rows i.count i.at i.words.items i.summary.items _ _ c.self.invariant c.args.row is
+    ∙ set_bit_flag i.rows i.count i.at i.words.items i.summary.items _ _ c.self.invariant c.args.row
+    is
     in (
       ap (λ (r : ℕ). slice_get c.args.self.now r) c.take_at.ensures.same ∙ there,
       c.take_at.ensures.taken

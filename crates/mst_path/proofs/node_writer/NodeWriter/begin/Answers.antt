@@ -11,7 +11,8 @@ take_behind-first-requires g c =
 
 pub returns-clause-writer : goal.returns-clause-writer
 returns-clause-writer g c =
-    let both = takes_append _ _ _ _ _ c.take_head-head.ensures.takes c.take_behind-first.ensures.takes
+    let both = takes_append _ _ _ _ _ c.take_head-head.ensures.takes
+    c.take_behind-first.ensures.takes
     in
     let small = takes_small _ _ _ both c.requires.rows in
     record {
