@@ -310,9 +310,9 @@ fn text_scan<'a>(
     }
 }
 
-/// What a text says of a key, if it is a node's: what `read_text_in`, `Flat::lies_within` and
-/// `Flat::locate` say, from one reading in which each key is hashed once. Returns `None` exactly if
-/// the bytes are not in the grammar of node texts.
+/// What a text says of a key, if it is a node's: its layer, whether its keys lie in the span, and
+/// where the key lies in it, from one reading in which each key is hashed once. Returns `None`
+/// exactly if the bytes are not in the grammar of node texts.
 pub fn find_in_text(format: Format, text: &[u8], key: &Key, span: Span) -> Option<Finding>
     ensures found { IfSome result (λ f. (n : FlatNode) × (n.format ≡ format) × IsFlatNode n
         × (text.now ≡ spelling n) × IsFound key.now span n f) }

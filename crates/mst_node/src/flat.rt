@@ -8,17 +8,14 @@ ghost use Rattle.mst_key.specs.Map.{key_cmp};
 ghost use Rattle.mst_node.specs.Text.{child_before};
 ghost use Rattle.mst_node.specs.Grammar.{KeysFit};
 ghost use Rattle.mst_node.specs.Reading.{Gives, node_at, body_at};
-ghost use Rattle.mst_node.specs.KeyPlace.{place_of, LiesWithin};
 ghost use Rattle.mst_node.specs.Seen.{seen};
 ghost use Rattle.mst_node.specs.Held.{held_as, HasSize};
 
 use crate::held::Held;
-use crate::key_place::{KeyPlace, Span};
 use crate::order::comes_before;
 use crate::reading::{EntryBytes, behind, child_of, entry_of};
 use crate::sinks::format_byte;
 use mst_key::{Format, Key, Value, layer_of};
-use std::cmp::Ordering;
 use std::marker::Model;
 
 /// A flat node: a node with the digests of its children in their place. It is borrowed from the
@@ -209,59 +206,5 @@ impl<'a> Flat<'a> {
             self.tail()
         };
         child.copied()
-    }
-
-    /// Whether all keys of the node lie in the span. The entries are gone over once, and no key is
-    /// hashed.
-    pub fn lies_within(&self, span: &Span) -> bool
-        ensures within { IsTrue result ↔ LiesWithin span.now self.now }
-    {
-        let mut rest = self.body;
-        for _ in 0..self.count {
-            let Some((entry, after)) = entry_of(self.format, rest) else {
-                unreachable!()
-            };
-            let Ok(key) = Key::new(entry.key) else {
-                unreachable!()
-            };
-            if !span.has(&key) {
-                return false;
-            }
-            rest = after;
-        }
-        true
-    }
-
-    /// Where the key lies in the node, whose span is given. The entries are gone over once, up to
-    /// the place, and no key is hashed.
-    pub fn locate(&self, key: &Key, span: Span) -> KeyPlace
-        ensures place { result ≡ place_of key.now span self.now }
-    {
-        let Span { mut low, high } = span;
-        let mut rest = self.body;
-        for _ in 0..self.count {
-            let Some((entry, after)) = entry_of(self.format, rest) else {
-                unreachable!()
-            };
-            let (Ok(at), Ok(value)) = (Key::new(entry.key), Value::new(entry.value)) else {
-                unreachable!()
-            };
-            match key.cmp(&at) {
-                Ordering::Less => {
-                    let span = Span {
-                        low,
-                        high: Some(at),
-                    };
-                    let child = entry.child.copied();
-                    return KeyPlace::Gap { child, span };
-                }
-                Ordering::Equal => return KeyPlace::Found(value),
-                Ordering::Greater => low = Some(at),
-            }
-            rest = after;
-        }
-        let child = self.tail().copied();
-        let span = Span { low, high };
-        KeyPlace::Gap { child, span }
     }
 }
