@@ -83,6 +83,11 @@ module _ (current : ℕ) (versions : List ℕ) (lives : List Life) (free : List 
       go (Some (Born b)) e is = cc
       go (Some (Dead b d)) e is = cc
 
+  -- what is free is in the set of free rows
+  pub free_flag : (r : ℕ) → slice_get lives r ≡ Some Free → slice_get free r ≡ Some true
+  free_flag r at = ap (λ (f : List Bool). slice_get f r) desk.free_rows
+      ∙ slice_get-map is_free lives r ∙ ap (option_map is_free) at
+
   -- the row that dies is added to the list
   pub desk_kill : (r b d : ℕ) → slice_get lives r ≡ Some (Born b) → IsDesk current versions
       (slice_set lives r (Dead b d)) free (dead ++ r ∷ []) held last vc lc dc hc mc

@@ -197,6 +197,7 @@ impl<A: Allocator> Desk<A> {
     pub fn take_near(&mut self, row: u32) -> Option<u32>
         ensures some { IfSome result (λ r. (slice_get self.old.lives r ≡ Some Free)
             × (self.new ≡ with_life self.old r (Born (next self.old)))) }
+        ensures near { IfSome result (λ r. slice_get self.old.lives row ≡ Some Free → r ≡ row) }
         ensures none { IfNone result ((free_count self.old.lives ≡ 0) × (self.new ≡ self.old)) }
     {
         let row = self.free.take_near(row)?;

@@ -129,6 +129,7 @@ impl<A: Allocator> FreeRows<A> {
     pub fn take_near(&mut self, row: u32) -> Option<u32>
         ensures some { IfSome result (λ r. (slice_get self.old r ≡ Some true)
             × (self.new ≡ slice_set self.old r false)) }
+        ensures near { IfSome result (λ r. slice_get self.old row ≡ Some true → r ≡ row) }
         ensures none { IfNone result ((count_true self.old ≡ 0) × (self.new ≡ self.old)) }
     {
         if is_set(&self.words, row as usize) {

@@ -3,7 +3,7 @@ use Rattle.std.proofs.lemmas.Grind.{common_steps, elements}
 use Rattle.std.specs.Prelude.{slice_get}
 use Rattle.mst_arena.specs.declared.life.Life.TheVariants.{Free, Born}
 use Rattle.mst_arena.specs.Lives.{State, with_life, version}
-use Rattle.mst_arena.proofs.DeskLemmas.{desk_life, free_life, read_index}
+use Rattle.mst_arena.proofs.DeskLemmas.{desk_life, free_flag, free_life, read_index}
 use Rattle.mst_arena.proofs.desk.Desk.take_near.Goals as goal
 
 pub invariant_of-self-2 : goal.invariant_of-self-2
@@ -29,6 +29,12 @@ returns-clause-some g c =
           ∙ ap (λ (n : ℕ). with_life c.args.self.now c.in_ok-row.row (Born (n + 1))) born,
     )
 
+pub returns-clause-near : goal.returns-clause-near
+returns-clause-near g c is =
+    c.in_ok-row.ensures.near
+    (free_flag _ _ _ _ _ _ _ _ _ _ _ _ c.self.invariant c.args.row
+    (ap (λ (s : State). slice_get s.lives c.args.row) c.self.view_is ∙ is))
+
 pub index-requires : goal.index-requires
 index-requires g c = search rules
 
@@ -43,6 +49,9 @@ returns-in_err-row-clause-some g c = search rules
 
 pub returns-in_err-row-clause-none : goal.returns-in_err-row-clause-none
 returns-in_err-row-clause-none g c = grind (arith, common_steps)
+
+pub returns-in_err-row-clause-near : goal.returns-in_err-row-clause-near
+returns-in_err-row-clause-near g c = search rules
 
 pub overflow_cast-row : goal.overflow_cast-row
 overflow_cast-row g c = search rules
