@@ -1,5 +1,6 @@
 pub mod Fellings
 pub mod PlanShapes
+pub mod PlanSizes
 pub mod Sowings
 pub mod Replaced
 pub mod SmallPlans

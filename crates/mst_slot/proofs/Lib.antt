@@ -1,3 +1,4 @@
 pub mod Seats
 pub mod Sent
 pub mod Steps
+pub mod Wholes

@@ -1,9 +1,8 @@
 use Rattle.std.proofs.Common.{◌≡◌, ℕ, ◌+◌, ◌-◌, ◌<◌, length, get_or, map, ap, subst, arith, rules}
 use Rattle.std.specs.Prelude.{◌^◌, min}
-use Rattle.std.proofs.lemmas.Grind.{common_steps}
-use Rattle.mst_batch.specs.declared.plan.PlanEntry.TheViews.{the_lemmas}
 use Rattle.mst_batch.specs.Plans.{planned_entry}
 use Rattle.mst_batch.proofs.PlanShapes.{items, list_rows, rows_more, node_rows, take_all}
+use Rattle.mst_batch.proofs.PlanSizes.{child_smaller, tail_smaller}
 use Rattle.mst_batch.proofs.sowing.+count.Given.{Over}
 use Rattle.mst_batch.proofs.sowing.+count.Goals.{rows_of_node-After-entry-item, rows_of_node-After-loop-entry}
 use Rattle.mst_batch.proofs.sowing.+count.Goals as goal
@@ -21,7 +20,15 @@ module _ (g : Over) (t : ℕ) (c : goal.rows_of_node-After-entry-item g t) where
 
 pub rows_of_node-rows_of-requires : goal.rows_of_node-rows_of-requires
 rows_of_node-rows_of-requires g t c κs within =
-    (grind (arith, common_steps, the_lemmas), search rules)
+    let here = (goal.at.rows_of_node-rows_of-requires g t c).After-entry-item in (
+      omega (
+        arith,
+        c.decreases,
+        child_smaller g.row.B.Denot c.args.node.now c.loop-entry.entry-index
+            c.entry-item.result (inside g t here) (item_is g t here),
+      ),
+      search rules,
+    )
 
 pub rows_of_node-loop-entry-preserved : goal.rows_of_node-loop-entry-preserved
 rows_of_node-loop-entry-preserved g t c =
@@ -45,7 +52,8 @@ module _ (g : Over) (t : ℕ) (c : goal.rows_of_node-After-loop-entry g t) where
       let so_far = c.loop-entry.invariant in rw whole at so_far
 
 pub rows_of_node-rows_of-requires-2 : goal.rows_of_node-rows_of-requires-2
-rows_of_node-rows_of-requires-2 g t c κs within = (search (rules, the_lemmas), search rules)
+rows_of_node-rows_of-requires-2 g t c κs within =
+    (omega (arith, c.decreases, tail_smaller g.row.B.Denot c.args.node.now), search rules)
 
 pub rows_of_node-returns : goal.rows_of_node-returns
 rows_of_node-returns g t c = record {

@@ -1,5 +1,4 @@
 use Rattle.std.proofs.Common.{◌≡◌, ◌+◌, ◌<◌, ◌≤◌, [], ℕ, Bool, IsTrue, IfSome, List, length, get_or, map, take, ap, refl, sym, subst, ◌∙◌, arith, rules}
-use Rattle.std.proofs.lemmas.Grind.{common_steps}
 use Rattle.std.proofs.lemmas.List.Sums.{count_by-le-length}
 use Rattle.mst_node.specs.Tree as tree
 use Rattle.mst_node.specs.Tree.{Tree}
@@ -15,13 +14,13 @@ use Rattle.mst_path.proofs.lemmas.trees.Growing.{ahead_count, ahead_none}
 use Rattle.mst_path.proofs.lemmas.trees.Made.{piece_alive}
 use Rattle.mst_batch.specs.declared.plan.PlanNode.{out-PlanNode}
 use Rattle.mst_batch.specs.declared.plan.PlanEntry.{out-PlanEntry}
-use Rattle.mst_batch.specs.declared.plan.PlanEntry.TheViews.{the_lemmas}
 use Rattle.mst_batch.specs.Known.{HasKnown, IsThere, known_of, known_of_node}
 use Rattle.mst_batch.specs.Plans.{PlanTree, PlannedEntry, kept, plan_of, plan_of_node, planned_entry, rows_planned, rows_kept, tree_planned, IsPlan}
 use Rattle.mst_batch.specs.Sowing.{Sown}
 use Rattle.mst_batch.proofs.KnownShapes.{child_known, tail_known, entry_told, there_from}
 use Rattle.mst_batch.proofs.KnownSowing.{has_known, still_known, sown_still}
 use Rattle.mst_batch.proofs.PlanShapes.{items, tail, list_rows, list_kept, plan_out, tree_with, kept_with, rows_ahead, rows_least, rows_last, node_rows, entries_more, take_all, some_entries, low_layer, kept_rows, whole_old, child_kept, child_links, child_stands, child_search, tail_links, tail_stands, tail_search}
+use Rattle.mst_batch.proofs.PlanSizes.{child_smaller, tail_smaller}
 use Rattle.mst_batch.proofs.Sowings.{SownSoFar, kept_whole, begins, plan_later, head_in, next_in, entry_more, node_whole}
 use Rattle.mst_batch.proofs.sowing.+sow.Given.{Over}
 use Rattle.mst_batch.proofs.sowing.+sow.Goals.{sow_node-After-len, sow_node-After-entry-item, sow_node-After-loop-entry}
@@ -210,7 +209,12 @@ sow_node-sow_plan-child-requires g t c κs within =
     let p = c.requires.plan.1 in
     let s = c.loop-entry.invariant.so_far at p in
     let here = (goal.at.sow_node-sow_plan-child-requires g t c).After-entry-item in (
-      grind (arith, common_steps, the_lemmas),
+      omega (
+        arith,
+        c.decreases,
+        child_smaller g.row.B.Denot c.args.node.now c.loop-entry.entry-index
+            c.entry-item.result (inside g t here) (item_is g t here),
+      ),
       (
         search rules,
         (
@@ -408,7 +412,7 @@ sow_node-sow_plan-tail-requires g t c κs within =
     let p = c.requires.plan.1 in
     let behind = (goal.at.sow_node-sow_plan-tail-requires g t c).After-loop-entry in
     let s = so_far_whole g t behind at p in (
-      search (rules, the_lemmas),
+      omega (arith, c.decreases, tail_smaller g.row.B.Denot c.args.node.now),
       (
         search rules,
         (
