@@ -28,6 +28,7 @@ during a call, and two calls by one pass wait for each other. So make none in a 
 would wait for ever for the call that it interrupts. A store does not outlive os.fork() in a process
 with threads.
 """
+from ._blocks import ShardedBlock, ShardedPart, ShardedWriter
 from ._differing import Difference
 from ._group import ShardedGroup
 from ._library import KEY_LONGEST, ROOT_LENGTH, VALUE_LONGEST, library_version
@@ -39,9 +40,8 @@ from ._refusals import (
     RefusedEdit,
 )
 from ._refusals import BAD_SPLITS, MOVING, OVERTAKEN, BusyShard, Moving, Overtaken, RefusedShard
-from ._sharded import (
-    ShardedBlock, ShardedPart, ShardedReader, ShardedSnapshot, ShardedWriter, open_sharded,
-)
+from ._sharded import open_sharded
+from ._snapshots import ShardedReader, ShardedSnapshot
 
 __version__ = "0.4.0-dev"
 
