@@ -2,4 +2,5 @@ pub mod Canceled
 pub mod Coming
 pub mod Concluded
 pub mod PartsCommitted
+pub mod Rooms
 pub mod Sent

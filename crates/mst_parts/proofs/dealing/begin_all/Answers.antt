@@ -2,18 +2,20 @@ use Rattle.std.proofs.Common.{◌≡◌, ◌∙◌, ◌∷◌, ◌++◌, [], Lis
 use Rattle.std.specs.Arc.{arc_value}
 use Rattle.std.specs.List.{AllByRecursion}
 use Rattle.std.specs.VecDeque.{deque_items}
-use Rattle.std.proofs.lemmas.List.{length-map}
+use Rattle.std.proofs.lemmas.List.{length-map, nil_from_length}
 use Rattle.mst_key.specs.declared.history.Edit.{Edit}
 use Rattle.mst_store.specs.Passes.{Known}
 use Rattle.mst_shards.specs.Opening.{Shards}
 use Rattle.mst_parts.specs.Origins.{Origin, edits_of, passes_of, IsStoreAt}
 use Rattle.mst_parts.proofs.Coming.{stands_at, passes_more, edits_more}
+use Rattle.mst_parts.proofs.Rooms.{room_for_all, room_for_one, one_fewer, room_still}
 use Rattle.mst_shards.proofs.HandingOut.{goes_on, all_gone}
 use Rattle.mst_parts.proofs.dealing.begin_all.Goals as goal
 
 pub loop-pass-init : goal.loop-pass-init
 loop-pass-init g c = (
-  search rules,
+  room_for_all _ _ _ _ _ c.args.room.ok.0 c.requires.empty c.from_vec-left.ensures.len
+      c.requires.fits,
   search rules,
   c.from_vec-waiting.ensures.len ∙ c.requires.dealt ∙ sym c.from_vec-left.ensures.len,
   c.from_vec-sharing.ensures.len ∙ c.requires.shares ∙ sym c.from_vec-left.ensures.len,
@@ -41,6 +43,13 @@ begin-requires g c =
           (deque_items c.loop-pass.left) c.in-Some.pass c.len-place.result c.requires.own was.4
           c.in-Some.ensures.items (c.len-place.ensures ∙ c.loop-pass.parts.ok.0 ∙ sym mapped));
     }
+
+pub push_reserved-requires : goal.push_reserved-requires
+push_reserved-requires g c =
+    room_for_one _ _ _ _ c.loop-pass.invariant.0 c.in-Some.ensures.cases
+
+pub loop-pass-smaller : goal.loop-pass-smaller
+loop-pass-smaller g c = one_fewer _ _ c.in-Some.ensures.cases
 
 pub loop-pass-preserved : goal.loop-pass-preserved
 loop-pass-preserved g c =
@@ -96,3 +105,14 @@ returns-clause-edits g c =
     let empty = c.in_default.ensures.cases.0 in
     all_gone (vec_items c.args.dealt) (edits_of (vec_items c.loop-pass.parts))
     (deque_items c.loop-pass.waiting) was.5 (sym c.loop-pass.waiting.ok.0 ∙ was.2 ∙ empty)
+
+pub returns-clause-empty : goal.returns-clause-empty
+returns-clause-empty g c =
+    c.into_vec.ensures.items ∙ sym c.in_default.ensures.items
+    ∙ nil_from_length (deque_items c.loop-pass.left)
+    (sym c.loop-pass.left.ok.0 ∙ c.in_default.ensures.cases.0)
+
+pub returns-clause-room : goal.returns-clause-room
+returns-clause-room g c =
+    room_still _ _ _ _ c.loop-pass.invariant.1
+    (c.into_vec.ensures.capacity ∙ c.in_default.ensures.capacity)

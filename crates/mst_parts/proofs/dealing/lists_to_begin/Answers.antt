@@ -1,31 +1,28 @@
-use Rattle.std.proofs.Common.{◌≡◌, ◌∙◌, ℕ, List, length, rules, ap, arith}
-use Rattle.std.specs.Arc.{arc_value}
+use Rattle.std.proofs.Common.{◌≡◌, ◌∙◌, ◌+◌, ◌≤◌, ℕ, List, length, vec_capacity, ap, subst}
+use Rattle.mst_shards.specs.Opening.{Shards}
 use Rattle.mst_blocks.specs.Blocks.{parts_of}
 use Rattle.mst_parts.proofs.dealing.lists_to_begin.Goals as goal
 
 pub returns-clause-edits : goal.returns-clause-edits
 returns-clause-edits g c =
-    let same : c.splits-splits.result.now ≡ (arc_value c.args.map.now).splits = search rules in
     c.in_ok-parts.ensures.parts
-    ∙ ap (λ (l : List (List ℕ)). parts_of l c.args.edits.now) same
+    ∙ ap (λ (l : List (List ℕ)). parts_of l c.args.edits.now)
+    (c.splits-splits.ensures.splits ∙ ap (λ (s : Shards). s.splits) c.deref.ensures)
 
 pub returns-clause-dealt : goal.returns-clause-dealt
 returns-clause-dealt g c =
-    let same : c.splits-splits.result.now ≡ (arc_value c.args.map.now).splits = search rules in
-    let wide = ap (λ (l : List (List ℕ)). length l) same in
-    let count = c.in_ok-parts.ensures.count in
-    omega (arith, wide, count)
+    c.in_ok-parts.ensures.count
+    ∙ ap (λ (l : List (List ℕ)). length l + 1)
+    (c.splits-splits.ensures.splits ∙ ap (λ (s : Shards). s.splits) c.deref.ensures)
 
 pub returns-clause-shares : goal.returns-clause-shares
 returns-clause-shares g c =
-    let same : c.splits-splits.result.now ≡ (arc_value c.args.map.now).splits = search rules in
-    let wide = ap (λ (l : List (List ℕ)). length l) same in
-    let count = c.in_ok-shares.ensures.count in
-    omega (arith, wide, count)
+    c.in_ok-shares.ensures.count
+    ∙ ap (λ (l : List (List ℕ)). length l + 1)
+    (c.splits-splits.ensures.splits ∙ ap (λ (s : Shards). s.splits) c.deref.ensures)
 
 pub returns-clause-room : goal.returns-clause-room
 returns-clause-room g c =
-    let same : c.splits-splits.result.now ≡ (arc_value c.args.map.now).splits = search rules in
-    let wide = ap (λ (l : List (List ℕ)). length l) same in
-    let room = c.in_ok-room.ensures.room in
-    omega (arith, wide, room)
+    subst (λ (l : List (List ℕ)). length l + 1 ≤ vec_capacity c.in_ok-room.room)
+    (c.splits-splits.ensures.splits ∙ ap (λ (s : Shards). s.splits) c.deref.ensures)
+    c.in_ok-room.ensures.room

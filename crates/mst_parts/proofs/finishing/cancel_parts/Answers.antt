@@ -1,4 +1,4 @@
-use Rattle.std.proofs.Common.{◌≡◌, List, ◌∷◌, ◌++◌, [], length, sym, ap, ◌∙◌, subst, arith, rules}
+use Rattle.std.proofs.Common.{◌≡◌, List, ◌∷◌, ◌++◌, [], length, sym, ap, ◌∙◌, subst, arith}
 use Rattle.std.specs.VecDeque.{deque_items}
 use Rattle.std.proofs.lemmas.List.{length-map}
 use Rattle.mst_store.specs.Passes.{Known}
@@ -6,13 +6,15 @@ use Rattle.mst_shards.specs.Sharding.{AllStep}
 use Rattle.mst_blocks.specs.Blocks.{MakesNothing}
 use Rattle.mst_parts.specs.Origins.{Origin, passes_of}
 use Rattle.mst_parts.proofs.Coming.{part_low, part_own}
+use Rattle.mst_parts.proofs.Rooms.{room_for_all, room_for_one, one_fewer}
 use Rattle.mst_shards.proofs.HandingOut.{goes_on, all_gone}
 use Rattle.mst_shards.proofs.PinningAll.{all_step_length, all_step_more}
 use Rattle.mst_parts.proofs.finishing.cancel_parts.Goals as goal
 
 pub loop-part-init : goal.loop-part-init
 loop-part-init g c = (
-  search rules,
+  room_for_all _ _ _ _ _ c.args.room.ok.0 c.requires.empty c.from_vec-left.ensures.len
+      c.requires.fits,
   (
     [],
     sym (ap passes_of c.from_vec-left.ensures.items),
@@ -50,6 +52,13 @@ cancel_part-requires g c =
           c.in-Some.ensures.items (c.len-place.ensures ∙ c.loop-part.passes.ok.0 ∙ long)
           c.index-stores-place.is;
     }
+
+pub push_reserved-requires : goal.push_reserved-requires
+push_reserved-requires g c =
+    room_for_one _ _ _ _ c.loop-part.invariant.0 c.in-Some.ensures.cases
+
+pub loop-part-smaller : goal.loop-part-smaller
+loop-part-smaller g c = one_fewer _ _ c.in-Some.ensures.cases
 
 pub loop-part-preserved : goal.loop-part-preserved
 loop-part-preserved g c =

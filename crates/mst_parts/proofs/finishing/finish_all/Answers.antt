@@ -1,4 +1,4 @@
-use Rattle.std.proofs.Common.{◌≡◌, List, ◌∷◌, ◌++◌, [], length, map, refl, sym, ap, ◌∙◌, subst, arith, rules}
+use Rattle.std.proofs.Common.{◌≡◌, List, ◌∷◌, ◌++◌, [], length, map, refl, sym, ap, ◌∙◌, subst, arith}
 use Rattle.std.specs.VecDeque.{deque_items}
 use Rattle.std.proofs.lemmas.List.{length-append, length-map}
 use Rattle.mst_key.specs.declared.history.Edit.{Edit}
@@ -8,6 +8,7 @@ use Rattle.mst_blocks.specs.Blocks.{MakesNothing}
 use Rattle.mst_parts.specs.Origins.{Origin, edits_of, passes_of}
 use Rattle.mst_blocks.specs.Staging.{AllStaged, IsStaged, canceled_stage}
 use Rattle.mst_parts.proofs.Coming.{part_low, part_own}
+use Rattle.mst_parts.proofs.Rooms.{room_for_all, room_for_one, one_fewer}
 use Rattle.mst_blocks.proofs.Committing.{staged_more, nothing_more, canceled_more, Stops, stops_more}
 use Rattle.mst_shards.proofs.HandingOut.{goes_on, all_gone}
 use Rattle.mst_shards.proofs.PinningAll.{all_step_length}
@@ -15,7 +16,8 @@ use Rattle.mst_parts.proofs.finishing.finish_all.Goals as goal
 
 pub loop-part-init : goal.loop-part-init
 loop-part-init g c = (
-  search rules,
+  room_for_all _ _ _ _ _ c.args.room.ok.0 c.requires.empty c.from_vec-left.ensures.len
+      c.requires.fits,
   (
     [],
     [],
@@ -65,6 +67,13 @@ finish_next-requires g c =
           (c.len-place.ensures ∙ c.loop-part.stages.ok.0 ∙ sym mapped ∙ long)
           c.index-stores-place.is;
     }
+
+pub push_reserved-requires : goal.push_reserved-requires
+push_reserved-requires g c =
+    room_for_one _ _ _ _ c.loop-part.invariant.0 c.in-Some.ensures.cases
+
+pub loop-part-smaller : goal.loop-part-smaller
+loop-part-smaller g c = one_fewer _ _ c.in-Some.ensures.cases
 
 pub loop-part-preserved : goal.loop-part-preserved
 loop-part-preserved g c =
