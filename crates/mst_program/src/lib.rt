@@ -10,7 +10,7 @@
 //! ```
 //!
 //! [`run_program`] is the whole program as a call, which `mst` makes over the words and the streams
-//! of the process; [`command`] is the same over words that are read, which tests make over bytes,
+//! of the process; [`command`] is the same over words that are read, with a gate of the caller's,
 //! and [`execute`] does a task that `mst_arguments` reads from words. `specs/Tasks.antt` says what
 //! each task reads and writes. The exit statuses are 0 to 4. [`Watch`] says whether a user is told
 //! how far a load is, and [`Progress`] writes how many of its calls have returned.
