@@ -75,15 +75,15 @@ pub enum Case {
     Small(Format, u32, usize),
     /// The pairs before a batch, its edits, and the pairs after it.
     Applied(Pairs, Edits, Pairs),
-    /// The listings of a directory, and what its audit says.
-    Audited(Listings, Text),
+    /// The listings of a directory in a format, and what its audit says.
+    Audited(Format, Listings, Text),
 }
 
 /// Whether a question of batches and directories has its answer; false for any other question.
 fn lists_hold(rt: &impl Abort, alloc: Global, case: Case) -> bool {
     match case {
         Case::Applied(before, edits, after) => is_applied(rt, alloc, before, edits, after),
-        Case::Audited(listings, words) => is_audited(rt, alloc, listings, words),
+        Case::Audited(format, listings, words) => is_audited(rt, alloc, format, listings, words),
         _ => false,
     }
 }

@@ -139,18 +139,26 @@ fn way_is<R: Rows>(rt: &impl Abort, rows: &mut R, key: &[u8], wanted: Way) -> bo
     rows.way(0, &Sought::new(&key_of(rt, key))) == wanted
 }
 
-// A key that is a prefix of the entry's is below it, also if the bytes after it are 0.
+/// Whether the ways from the entry of the key `ab\0` at number 0 are by the order of keys. A key
+/// that is a prefix of the entry's is below it, also if the bytes after it are 0.
+fn ways_are<R: Rows>(rt: &impl Abort, rows: &mut R) -> bool
+    requires links { IsSome (part_at keyed_links (R.content rows.old) 0) }
+    ensures same { rows.new ≡ rows.old }
+{
+    let below = way_is(rt, rows, b"ab", Way::Child(7));
+    let here = way_is(rt, rows, b"ab\0", Way::Here);
+    let above = way_is(rt, rows, b"ab\0\0", Way::Next(9));
+    below && here && above
+}
+
 #[test]
 fn the_way_from_an_entry_is_by_the_order_of_keys(rt: HostRuntime) {
     let row = entry_of(&rt, 7, 9, b"ab\0", b"xyz");
     let rows = PlainRows::new(rt.alloc(), 1).expect(&rt, "memory");
     let mut rows = WholeRows { rows };
     rows.write(0, &row);
-    let ways = way_is(&rt, &mut rows, b"ab", Way::Child(7))
-        && way_is(&rt, &mut rows, b"ab\0", Way::Here)
-        && way_is(&rt, &mut rows, b"ab\0\0", Way::Next(9))
-        && way_is(&rt, &mut rows.rows, b"ab\0\0", Way::Next(9));
-    confirm(&rt, ways, "the ways by default, and one of plain rows");
+    let ways = ways_are(&rt, &mut rows) && ways_are(&rt, &mut rows.rows);
+    confirm(&rt, ways, "the ways by default, and those of plain rows");
 }
 
 /// Whether the version that follows this one is as expected.

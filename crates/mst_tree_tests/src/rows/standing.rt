@@ -48,18 +48,22 @@ impl StandingMap {
         format: Format,
         tree: Option<&Node<Global>>,
         size: u32,
-    ) -> Result<StandingMap, Memory>
+    ) -> StandingMap
         requires tree { (m : List Pair) × IsMap m
             × IsTreeOf format (tree_at format (option_copied tree)) m }
         requires some { 0 < size }
         requires few { size ≤ 65535 }
     {
-        let mut rows = CountedRows::new(alloc, size)?;
-        let mut desk = Desk::new(alloc, size, 2, 0)?;
+        let Ok(mut rows) = CountedRows::new(alloc, size) else {
+            panic!(rt; "no memory")
+        };
+        let Ok(mut desk) = Desk::new(alloc, size, 2, 0) else {
+            panic!(rt; "no memory")
+        };
         let Ok(root) = plant(&mut rows, &mut desk, tree, format) else {
             panic!(rt; "no room")
         };
-        Ok(StandingMap { rows, root, format })
+        StandingMap { rows, root, format }
     }
 
     /// The map of these pairs, planted in rows enough.
@@ -73,7 +77,7 @@ impl StandingMap {
         few(rt, pairs);
         let tree = build_in(alloc, format, pairs).expect(rt, "memory");
         let size = if pairs.len() < 4_000 { 8_000 } else { 65_535 };
-        StandingMap::planted(rt, alloc, format, tree.as_deref(), size).expect(rt, "memory")
+        StandingMap::planted(rt, alloc, format, tree.as_deref(), size)
     }
 
     /// How many entries were written whose next one is not in the next row.
