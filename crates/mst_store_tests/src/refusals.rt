@@ -1,5 +1,7 @@
-//! The text of each refusal.
+//! The text of each refusal, of a store and of a sharded map.
 use crate::confirming::confirm;
+use mst_blocks::{BlockFault, PartFault};
+use mst_shards::ShardsFault;
 use mst_store::{
     ApplyFault, BatchFault, Busy, ChangeFault, Memory, MigrateFault, OpenFault, WriteFault,
 };
@@ -16,6 +18,8 @@ enum Refusal {
     Apply(ApplyFault),
     Batch(BatchFault),
     Count(Busy),
+    Block(BlockFault),
+    Shards(ShardsFault),
 }
 
 /// Whether a refusal prints this text.
@@ -34,6 +38,8 @@ fn any_says(rt: &impl Abort, alloc: Global, refusal: &Refusal, text: &str) -> bo
         Refusal::Apply(fault) => says(rt, alloc, fault, text),
         Refusal::Batch(fault) => says(rt, alloc, fault, text),
         Refusal::Count(busy) => says(rt, alloc, busy, text),
+        Refusal::Block(fault) => says(rt, alloc, fault, text),
+        Refusal::Shards(fault) => says(rt, alloc, fault, text),
     }
 }
 
@@ -44,6 +50,8 @@ fn memory_says(rt: &impl Abort, alloc: Global, refused: Memory) -> bool {
         && says(rt, alloc, &MigrateFault::Memory(refused), TEXT)
         && says(rt, alloc, &ApplyFault::Memory(refused), TEXT)
         && says(rt, alloc, &BatchFault::Memory(refused), TEXT)
+        && says(rt, alloc, &BlockFault::Memory(refused), TEXT)
+        && says(rt, alloc, &ShardsFault::Memory(refused), TEXT)
 }
 
 const SHAPE: &str = "a store has 4 to 65535 rows and 1 to 32 passes";
@@ -70,6 +78,26 @@ const TEXTS: &[(Refusal, &str)] = &[
     (Refusal::Batch(BatchFault::VersionsSpent), SPENT),
     (Refusal::Batch(BatchFault::NoRoom), NO_ROOM),
     (Refusal::Count(Busy), BUSY),
+    (
+        Refusal::Block(BlockFault::Shard(7, PartFault::Refused(ApplyFault::NoRoom))),
+        "shard 7: no room",
+    ),
+    (
+        Refusal::Block(BlockFault::Shard(0, PartFault::Overtaken)),
+        "shard 0: another has written",
+    ),
+    (
+        Refusal::Block(BlockFault::Directory(PartFault::Refused(ApplyFault::VersionsSpent))),
+        "directory: version numbers are spent",
+    ),
+    (
+        Refusal::Shards(ShardsFault::Splits),
+        "splits rise strictly, from above the least key, and are at most 1023",
+    ),
+    (
+        Refusal::Shards(ShardsFault::Shape),
+        "a shard has 4 to 65535 rows and 1 to 32 passes",
+    ),
 ];
 
 #[test]

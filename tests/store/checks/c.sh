@@ -95,6 +95,7 @@ in_c() {
     try "calls at both ends of what they take" run_c ends
     try "free rows while versions are pinned, and versions made" run_c knows
     try "all short scripts of three passes in few rows" run_c at_rest
+    try "each order of two passes that pin and one that writes" run_c orders
     try "threads that write, and threads that see batches whole" run_c races
     try "memory that is counted and refused" run_c nomem
     try "memory that is refused in ever larger heaps" run_c growths

@@ -12,24 +12,28 @@ use mst_store::ApplyFault;
 use std::alloc::Global;
 use std::process::Abort;
 
-/// Begins a block of a put in each of the three shards.
+/// Begins a block of these edits.
 fn begun(
     rt: &impl Abort,
     alloc: Global,
     writer: Writer<Global>,
-    value: u8,
+    edits: &[Edit],
 ) -> (Block<Global>, Vec<BlockPart<Global>>)
     ensures own { result.1.items ≡ result.0.parts }
 {
-    let edits = [
-        put(rt, b"a", value),
-        put(rt, b"m", value),
-        put(rt, b"z", value),
-    ];
-    match Block::begin(writer, alloc, &edits) {
+    match Block::begin(writer, alloc, edits) {
         Ok(begun) => begun,
         Err(_) => panic!(rt; "memory"),
     }
+}
+
+/// A put in each of the three shards.
+fn three_puts(rt: &impl Abort, value: u8) -> [Edit; 3] {
+    [
+        put(rt, b"a", value),
+        put(rt, b"m", value),
+        put(rt, b"z", value),
+    ]
 }
 
 /// The values of the three keys in the reader's snapshot.
@@ -43,29 +47,20 @@ fn values(rt: &impl Abort, reader: Reader<Global>) -> (Reader<Global>, [u8; 3]) 
     (snapshot.release(), values)
 }
 
-/// Begins a block whose last part finds no room.
-fn begun_too_large(
-    rt: &impl Abort,
-    alloc: Global,
-    writer: Writer<Global>,
-) -> (Block<Global>, Vec<BlockPart<Global>>)
-    ensures own { result.1.items ≡ result.0.parts }
-{
+/// A put in the first shard, and more in the last one than a small shard has room for.
+fn too_many_puts(rt: &impl Abort, alloc: Global) -> Vec<Edit> {
     let mut edits: Vec<Edit> = Vec::new(alloc);
     edits.push(put(rt, b"a", 1)).expect(rt, "memory");
     for last in 0..8 {
         edits.push(put(rt, &[b'z', last], 1)).expect(rt, "memory");
     }
-    match Block::begin(writer, alloc, edits.as_slice()) {
-        Ok(begun) => begun,
-        Err(_) => panic!(rt; "memory"),
-    }
+    edits
 }
 
 #[test]
 fn parts_are_prepared_by_threads(rt: HostRuntime) {
     let (writer, reader) = opened(&rt, 64, Format::One);
-    let (block, mut parts) = begun(&rt, rt.alloc(), writer, 7);
+    let (block, mut parts) = begun(&rt, rt.alloc(), writer, &three_puts(&rt, 7));
     prepare_in_threads(&rt, rt.alloc(), parts.as_mut_slice(), 3);
     let (reader, before) = values(&rt, reader);
     let (_writer, told) = block.commit(rt.alloc(), parts);
@@ -77,7 +72,8 @@ fn parts_are_prepared_by_threads(rt: HostRuntime) {
 #[test]
 fn parts_that_threads_prepared_tell_who_was_refused(rt: HostRuntime) {
     let (writer, _reader) = opened(&rt, 4, Format::Two);
-    let (block, mut parts) = begun_too_large(&rt, rt.alloc(), writer);
+    let edits = too_many_puts(&rt, rt.alloc());
+    let (block, mut parts) = begun(&rt, rt.alloc(), writer, &edits);
     prepare_in_threads(&rt, rt.alloc(), parts.as_mut_slice(), 0);
     let no_room = PartFault::Refused(ApplyFault::NoRoom);
     let told_by_last = parts.get(2).and_then(|part| part.refusal());

@@ -1,14 +1,14 @@
-//! Who has a share of a map: a snapshot that is dropped, and a map that outlives its writer. Each
-//! order in which hands are closed is tested in C (`tests/store/blocks.c`).
+//! A snapshot that is dropped, and has its share of the map for good. In C a hand that is closed
+//! releases its snapshot first: each order of that is tested there, with a map that outlives its
+//! writer (`tests/store/blocks.c`).
 use crate::confirming::confirm;
 use crate::sharded::blocks::{ask_block, is_whole, make_block};
 use crate::sharded::maps::{Users, opened, shape_of, taken, users_of};
-use linked_list_allocator::LocalHeap;
 use mst_blocks::{BlockFault, PartFault, Writer};
 use mst_key::Format;
-use mst_snapshots::{Reader, Snapshot};
+use mst_snapshots::Reader;
 use mst_store::ApplyFault;
-use std::alloc::{Allocator, Global};
+use std::alloc::Global;
 use std::process::Abort;
 
 /// The writer of a new map, and a reader. A snapshot of block 1 was dropped.
@@ -27,7 +27,7 @@ fn with_one_dropped(
 }
 
 /// Confirms that the reader's snapshot is whole, and of this block.
-fn confirm_last<A: Allocator + Copy>(rt: &impl Abort, reader: Reader<A>, number: u64) -> Reader<A> {
+fn confirm_last(rt: &impl Abort, reader: Reader<Global>, number: u64) -> Reader<Global> {
     let mut snapshot = taken(rt, reader);
     confirm(rt, is_whole(rt, &mut snapshot, number), "the last block");
     snapshot.release()
@@ -52,29 +52,4 @@ fn a_snapshot_that_was_dropped_holds_its_rows(rt: HostRuntime) {
     let no_room = BlockFault::Shard(0, PartFault::Refused(ApplyFault::NoRoom));
     confirm(&rt, told == Err(no_room), "no room for block 3");
     let _reader = confirm_last(&rt, reader, 2);
-}
-
-/// Two readers of a new map of block 1. Its writer is gone.
-fn without_writer<A: Allocator + Copy>(rt: &impl Abort, alloc: A) -> (Reader<A>, Reader<A>) {
-    let Users {
-        writer,
-        first,
-        second,
-    } = users_of(rt, alloc, shape_of(16, Format::Two));
-    let _gone = make_block(rt, alloc, writer, 1);
-    (first, second)
-}
-
-/// Whether snapshots are read when the writer is gone, and the last one when it alone has a share.
-fn outlives<A: Allocator + Copy>(rt: &impl Abort, alloc: A) {
-    let (first, second) = without_writer(rt, alloc);
-    drop(confirm_last(rt, first, 1));
-    let _last = confirm_last(rt, second, 1);
-}
-
-#[test]
-fn a_map_outlives_its_writer(rt: HostRuntime) {
-    let heap = LocalHeap::new(rt.alloc(), 131_072).expect(&rt, "memory");
-    outlives(&rt, &heap);
-    confirm(&rt, heap.used() == 0, "the last share gives all back");
 }
