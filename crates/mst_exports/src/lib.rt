@@ -1,7 +1,8 @@
 //! The store for C, and for every language that calls C: a static library.
 //!
 //! Each export is a call of `mst_c`, which lists the numbers that calls return, or of
-//! `mst_c_blocks`, and repeats its contract. `include/mst_store.h` declares them.
+//! `mst_c_blocks`, and repeats its contract. `include/mst_store.h` declares them with the same
+//! names of arguments; a slice is there a pointer and a length.
 #![tactic(auto)]
 
 ghost use Rattle.std.specs.Prelude.{◌≡◌, ◌≢◌, ◌↔◌, ◌⊎◌, pos, length as count, None, IsSome};
@@ -19,30 +20,30 @@ use mst_c::hand::{Hand, PaddedHand};
 use mst_c::{batches, formats, knowing, opening, ranging, telling};
 use std::alloc::Global;
 
-/// Opens a store of the empty map in format 1 or 2, with `rows` rows, and puts a pass into each of
-/// the hands. What a hand held before is closed. Returns 0; -3 for another format; -10 if a store
-/// cannot have that many rows or passes; -9 if a growth was refused; and no other number. If it
-/// does not return 0, all hands are empty.
+/// Opens a store of the empty map in format 1 or 2, with `rows` rows, and puts a pass into each
+/// hand of `passes`. What a hand held before is closed. Returns 0; -3 for another format; -10 if a
+/// store cannot have that many rows or passes; -9 if a growth was refused; and no other number. If
+/// it does not return 0, all hands are empty.
 #[unsafe(no_mangle)]
-pub extern "C" fn mst_open(alloc: Global, format: u32, rows: u32, hands: &mut [PaddedHand]) -> i32
-    ensures opened { result ≡ pos 0 → Opened format rows hands.new }
-    ensures empty { result ≢ pos 0 → AllEmpty hands.new }
+pub extern "C" fn mst_open(alloc: Global, format: u32, rows: u32, passes: &mut [PaddedHand]) -> i32
+    ensures opened { result ≡ pos 0 → Opened format rows passes.new }
+    ensures empty { result ≢ pos 0 → AllEmpty passes.new }
     ensures size { result ≡ bad_shape
-        ↔ IsSome (format_named format) × (¬ (IsSize rows (count hands.old))) }
+        ↔ IsSome (format_named format) × (¬ (IsSize rows (count passes.old))) }
     ensures format { result ≡ unknown_format ↔ (format_named format ≡ None) }
     ensures range { (result ≡ pos 0) ⊎ (result ≡ unknown_format) ⊎ (result ≡ bad_shape)
         ⊎ (result ≡ memory) }
 {
-    opening::open(alloc, format, rows, hands)
+    opening::open(alloc, format, rows, passes)
 }
 
 /// Returns the length of the key's value, 0 to 64, and its bytes stand first in the room. Returns
 /// -1 if the key is absent; -7, -5, -2. With each of these the room stays as it was.
 #[unsafe(no_mangle)]
-pub extern "C" fn mst_get(alloc: Global, hand: &mut Hand, key: &[u8], room: &mut [u8]) -> i32
-    ensures told { GetTold hand.old.held key.now room.old result room.new hand.new.held }
+pub extern "C" fn mst_get(alloc: Global, pass: &mut Hand, key: &[u8], room: &mut [u8]) -> i32
+    ensures told { GetTold pass.old.held key.now room.old result room.new pass.new.held }
 {
-    telling::get(alloc, hand, key, room)
+    telling::get(alloc, pass, key, room)
 }
 
 /// Gives the key the value. Returns what `mst_get` would have returned before the write; with -2
@@ -51,23 +52,23 @@ pub extern "C" fn mst_get(alloc: Global, hand: &mut Hand, key: &[u8], room: &mut
 #[unsafe(no_mangle)]
 pub extern "C" fn mst_try_put(
     alloc: Global,
-    hand: &mut Hand,
+    pass: &mut Hand,
     key: &[u8],
     value: &[u8],
     room: &mut [u8],
 ) -> i32
-    ensures told { PutTold hand.old.held key.now value.now room.old result room.new hand.new.held }
+    ensures told { PutTold pass.old.held key.now value.now room.old result room.new pass.new.held }
 {
-    telling::try_put(alloc, hand, key, value, room)
+    telling::try_put(alloc, pass, key, value, room)
 }
 
 /// Returns 32, the length of the root digest, and its bytes stand first in the room. Returns -7; -2
 /// for a room of less than 32 bytes.
 #[unsafe(no_mangle)]
-pub extern "C" fn mst_root(alloc: Global, hand: &mut Hand, root: &mut [u8]) -> i32
-    ensures told { RootTold hand.old.held root.old result root.new hand.new.held }
+pub extern "C" fn mst_root(alloc: Global, pass: &mut Hand, root: &mut [u8]) -> i32
+    ensures told { RootTold pass.old.held root.old result root.new pass.new.held }
 {
-    telling::root(alloc, hand, root)
+    telling::root(alloc, pass, root)
 }
 
 /// Makes the proof of the key's answer against the root digest of the same version. Returns 0: its
@@ -76,84 +77,84 @@ pub extern "C" fn mst_root(alloc: Global, hand: &mut Hand, root: &mut [u8]) -> i
 #[unsafe(no_mangle)]
 pub extern "C" fn mst_prove(
     alloc: Global,
-    hand: &mut Hand,
+    pass: &mut Hand,
     key: &[u8],
     room: &mut [u8],
     length: &mut usize,
 ) -> i32
-    ensures told { ProveTold hand.old.held key.now room.old length.old result room.new
-        length.new hand.new.held }
+    ensures told { ProveTold pass.old.held key.now room.old length.old result room.new
+        length.new pass.new.held }
 {
-    telling::prove(alloc, hand, key, room, length)
+    telling::prove(alloc, pass, key, room, length)
 }
 
 /// Pins the current version: each read is of it until `mst_unpin`. Returns 0; -7; -8 if the pass is
 /// pinned already.
 #[unsafe(no_mangle)]
-pub extern "C" fn mst_pin(alloc: Global, hand: &mut Hand) -> i32
-    ensures told { PinTold hand.old.held result hand.new.held }
+pub extern "C" fn mst_pin(alloc: Global, pass: &mut Hand) -> i32
+    ensures told { PinTold pass.old.held result pass.new.held }
 {
-    telling::pin(alloc, hand)
+    telling::pin(alloc, pass)
 }
 
 /// Ends the pin. Returns 0; -7; -8 if the pass is not pinned.
 #[unsafe(no_mangle)]
-pub extern "C" fn mst_unpin(alloc: Global, hand: &mut Hand) -> i32
-    ensures told { UnpinTold hand.old.held result hand.new.held }
+pub extern "C" fn mst_unpin(alloc: Global, pass: &mut Hand) -> i32
+    ensures told { UnpinTold pass.old.held result pass.new.held }
 {
-    telling::unpin(alloc, hand)
+    telling::unpin(alloc, pass)
 }
 
 /// Closes the pass, after ending its pin if it has one. Returns 0 or -7. The store is freed with
 /// its last pass.
 #[unsafe(no_mangle)]
-pub extern "C" fn mst_close(alloc: Global, hand: &mut Hand) -> i32
-    ensures told { CloseTold hand.old.held result hand.new.held }
+pub extern "C" fn mst_close(alloc: Global, pass: &mut Hand) -> i32
+    ensures told { CloseTold pass.old.held result pass.new.held }
 {
-    telling::close(alloc, hand)
+    telling::close(alloc, pass)
 }
 
 /// Takes the key out of the map. Returns what `mst_try_put` returns, without -6.
 #[unsafe(no_mangle)]
-pub extern "C" fn mst_try_remove(alloc: Global, hand: &mut Hand, key: &[u8], room: &mut [u8]) -> i32
-    ensures told { RemoveTold hand.old.held key.now room.old result room.new hand.new.held }
+pub extern "C" fn mst_try_remove(alloc: Global, pass: &mut Hand, key: &[u8], room: &mut [u8]) -> i32
+    ensures told { RemoveTold pass.old.held key.now room.old result room.new pass.new.held }
 {
-    telling::try_remove(alloc, hand, key, room)
+    telling::try_remove(alloc, pass, key, room)
 }
 
-/// Sets `number` to the number of the version, which is the number of writes and migrations before
-/// it. Returns 0; or -7, and then the number stays.
+/// Sets `version` to the number of the version, which is the number of writes and migrations before
+/// it. Returns 0; or -7, and then `version` stays.
 #[unsafe(no_mangle)]
-pub extern "C" fn mst_version(alloc: Global, hand: &mut Hand, number: &mut u64) -> i32
-    ensures told { VersionTold hand.old.held number.old result number.new hand.new.held }
+pub extern "C" fn mst_version(alloc: Global, pass: &mut Hand, version: &mut u64) -> i32
+    ensures told { VersionTold pass.old.held version.old result version.new pass.new.held }
 {
-    telling::version(alloc, hand, number)
+    telling::version(alloc, pass, version)
 }
 
 /// Sets `count` to the number of the version's pairs. Returns 0; or -7, and then the count stays.
 #[unsafe(no_mangle)]
-pub extern "C" fn mst_len(alloc: Global, hand: &mut Hand, count: &mut u64) -> i32
-    ensures told { LenTold hand.old.held count.old result count.new hand.new.held }
+pub extern "C" fn mst_len(alloc: Global, pass: &mut Hand, count: &mut u64) -> i32
+    ensures told { LenTold pass.old.held count.old result count.new pass.new.held }
 {
-    telling::len(alloc, hand, count)
+    telling::len(alloc, pass, count)
 }
 
 /// Returns the number of the version's format, 1 or 2; or -7.
 #[unsafe(no_mangle)]
-pub extern "C" fn mst_format(alloc: Global, hand: &mut Hand) -> i32
-    ensures told { FormatTold hand.old.held result hand.new.held }
+pub extern "C" fn mst_format(alloc: Global, pass: &mut Hand) -> i32
+    ensures told { FormatTold pass.old.held result pass.new.held }
 {
-    formats::format(alloc, hand)
+    formats::format(alloc, pass)
 }
 
 /// Turns the tree of the map to format 1 or 2; the map stays as it is. Returns the number of the
 /// format that it had, 1 or 2. Returns -7, -3 for another number, -8, -9, -21, -22, -23: then
 /// nothing is changed. A migration to the current format takes no memory and no row.
 #[unsafe(no_mangle)]
-pub extern "C" fn mst_try_migrate(alloc: Global, hand: &mut Hand, format: u32) -> i32
-    ensures told { MigrateTold hand.old.held format result hand.new.held }
+pub extern "C" fn mst_try_migrate(alloc: Global, pass: &mut Hand, format: u32) -> i32
+    ensures told { MigrateTold pass.old.held format result pass.new.held }
 {
-    formats::try_migrate(alloc, hand, format)
+    formats::try_migrate(alloc, pass, format)
 }
 
 /// Makes the edits of a buffer, one after another, as one version. An edit is a byte 1 for a put or
@@ -165,77 +166,77 @@ pub extern "C" fn mst_try_migrate(alloc: Global, hand: &mut Hand, format: u32) -
 #[unsafe(no_mangle)]
 pub extern "C" fn mst_try_apply(
     alloc: Global,
-    hand: &mut Hand,
+    pass: &mut Hand,
     edits: &[u8],
     place: &mut usize,
 ) -> i32
-    ensures told { ApplyTold hand.old.held edits.now place.old result place.new hand.new.held }
+    ensures told { ApplyTold pass.old.held edits.now place.old result place.new pass.new.held }
 {
-    batches::try_apply(alloc, hand, edits, place)
+    batches::try_apply(alloc, pass, edits, place)
 }
 
-/// Sets `count` to the number of rows that the map of the current version takes. Returns 0; or -7,
-/// -8 for a pinned pass, -21, -24, and then the count stays.
+/// Sets `rows` to the number of rows that the map of the current version takes. Returns 0; or -7,
+/// -8 for a pinned pass, -21, -24, and then `rows` stays.
 #[unsafe(no_mangle)]
-pub extern "C" fn mst_rows(alloc: Global, hand: &mut Hand, count: &mut u32) -> i32
-    ensures told { RowsTold hand.old.held count.old result count.new hand.new.held }
+pub extern "C" fn mst_rows(alloc: Global, pass: &mut Hand, rows: &mut u32) -> i32
+    ensures told { RowsTold pass.old.held rows.old result rows.new pass.new.held }
 {
-    telling::rows(alloc, hand, count)
+    telling::rows(alloc, pass, rows)
 }
 
-/// Sets `count` to the number of rows that are free to the next write, with pinned versions too.
-/// Returns 0; or -7, -8 for a pinned pass, -21, and then the count stays.
+/// Sets `rows` to the number of rows that are free to the next write, with pinned versions too.
+/// Returns 0; or -7, -8 for a pinned pass, -21, and then `rows` stays.
 #[unsafe(no_mangle)]
-pub extern "C" fn mst_free_rows(alloc: Global, hand: &mut Hand, count: &mut u32) -> i32
-    ensures told { FreeRowsTold hand.old.held count.old result count.new hand.new.held }
+pub extern "C" fn mst_free_rows(alloc: Global, pass: &mut Hand, rows: &mut u32) -> i32
+    ensures told { FreeRowsTold pass.old.held rows.old result rows.new pass.new.held }
 {
-    knowing::free_rows(alloc, hand, count)
+    knowing::free_rows(alloc, pass, rows)
 }
 
 /// Finds the versions that are pinned, which are as many as the store has passes at most. Returns
-/// 0: their numbers stand first in the room, in ascending order, each once, and `length` is how
-/// many they are. Returns -2: `length` is set so, and the room stays. Returns -7, -8 for a pinned
+/// 0: their numbers stand first in `versions`, in ascending order, each once, and `count` is how
+/// many they are. Returns -2: `count` is set so, and `versions` stays. Returns -7, -8 for a pinned
 /// pass, -21: both stay.
 #[unsafe(no_mangle)]
 pub extern "C" fn mst_pinned_versions(
     alloc: Global,
-    hand: &mut Hand,
-    room: &mut [u64],
-    length: &mut usize,
+    pass: &mut Hand,
+    versions: &mut [u64],
+    count: &mut usize,
 ) -> i32
-    ensures told { PinnedVersionsTold hand.old.held room.old length.old result room.new length.new
-        hand.new.held }
+    ensures told { PinnedVersionsTold pass.old.held versions.old count.old result versions.new
+        count.new pass.new.held }
 {
-    knowing::pinned_versions(alloc, hand, room, length)
+    knowing::pinned_versions(alloc, pass, versions, count)
 }
 
-/// Sets `number` to the version that the pass's last write made, whatever other passes wrote since.
-/// Returns 0; or -7, -1 if the pass has made none, and then the number stays.
+/// Sets `version` to the one that the pass's last write made, whatever other passes wrote since.
+/// Returns 0; or -7, -1 if the pass has made none, and then `version` stays.
 #[unsafe(no_mangle)]
-pub extern "C" fn mst_made(alloc: Global, hand: &mut Hand, number: &mut u64) -> i32
-    ensures told { MadeTold hand.old.held number.old result number.new hand.new.held }
+pub extern "C" fn mst_made(alloc: Global, pass: &mut Hand, version: &mut u64) -> i32
+    ensures told { MadeTold pass.old.held version.old result version.new pass.new.held }
 {
-    knowing::made(alloc, hand, number)
+    knowing::made(alloc, pass, version)
 }
 
 /// Finds the pair of the least key above the bound, or of the least key if the bound has no bytes.
 /// Returns the length of the value: its bytes stand first in the room, those of the key first in
-/// `key_room`, and `length` is the key's. Returns -7; -5 for a bound of more than 32 bytes; -1 if
-/// there is no such pair; -2 if one of the two rooms is too short. With each of these both rooms
-/// and `length` stay.
+/// `key_room`, and `next_length` is the key's. Returns -7; -5 for a bound of more than 32 bytes; -1
+/// if there is no such pair; -2 if one of the two rooms is too short. With each of these both rooms
+/// and `next_length` stay.
 #[unsafe(no_mangle)]
 pub extern "C" fn mst_next(
     alloc: Global,
-    hand: &mut Hand,
+    pass: &mut Hand,
     key: &[u8],
     key_room: &mut [u8],
-    length: &mut usize,
+    next_length: &mut usize,
     room: &mut [u8],
 ) -> i32
-    ensures told { NextTold hand.old.held key.now key_room.old length.old room.old result
-        key_room.new length.new room.new hand.new.held }
+    ensures told { NextTold pass.old.held key.now key_room.old next_length.old room.old result
+        key_room.new next_length.new room.new pass.new.held }
 {
-    telling::next(alloc, hand, key, key_room, length, room)
+    telling::next(alloc, pass, key, key_room, next_length, room)
 }
 
 /// Finds the first pairs, at most `limit`, whose keys are at least `from` and below `to`; a bound
@@ -246,7 +247,7 @@ pub extern "C" fn mst_next(
 #[unsafe(no_mangle)]
 pub extern "C" fn mst_range(
     alloc: Global,
-    hand: &mut Hand,
+    pass: &mut Hand,
     from: &[u8],
     to: &[u8],
     limit: u32,
@@ -254,8 +255,8 @@ pub extern "C" fn mst_range(
     count: &mut usize,
     length: &mut usize,
 ) -> i32
-    ensures told { RangeTold hand.old.held from.now to.now limit room.old count.old length.old
-        result room.new count.new length.new hand.new.held }
+    ensures told { RangeTold pass.old.held from.now to.now limit room.old count.old length.old
+        result room.new count.new length.new pass.new.held }
 {
-    ranging::range(alloc, hand, from, to, limit, room, count, length)
+    ranging::range(alloc, pass, from, to, limit, room, count, length)
 }

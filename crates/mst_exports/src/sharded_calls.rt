@@ -18,9 +18,9 @@ use mst_c_blocks::{counting, making, opening, parts, proving, reading, telling};
 use std::alloc::Global;
 
 /// Opens a sharded map of the empty map in format 1 or 2, each shard with `rows` rows, and makes
-/// block 0. Puts its writer into the first of the hands, and a reader into each of the others. What
-/// a hand held before is closed. The splits stand in a buffer: each is a byte for its length, and
-/// its bytes. Returns 0; exactly for another format -3; otherwise -26 exactly if the buffer has
+/// block 0. Puts its writer into the first hand of `handles`, and a reader into each of the others.
+/// What a hand held before is closed. The splits stand in a buffer: each is a byte for its length,
+/// and its bytes. Returns 0; exactly for another format -3; otherwise -26 exactly if the buffer has
 /// bytes that are no keys, or keys that do not rise strictly from above that of one zero byte, or
 /// more than 1,023 of them; otherwise -10 exactly if a store cannot have that many rows or passes;
 /// otherwise -9 if a growth was refused; and no other number. If it does not return 0, all hands
@@ -31,20 +31,20 @@ pub extern "C" fn mst_sharded_open(
     format: u32,
     rows: u32,
     splits: &[u8],
-    hands: &mut [PaddedBlocksHand],
+    handles: &mut [PaddedBlocksHand],
 ) -> i32
-    ensures opened { result ≡ pos 0 → BlocksOpened format rows splits.now hands.new }
-    ensures empty { result ≢ pos 0 → NoneHeld hands.new }
+    ensures opened { result ≡ pos 0 → BlocksOpened format rows splits.now handles.new }
+    ensures empty { result ≢ pos 0 → NoneHeld handles.new }
     ensures format { result ≡ unknown_format ↔ (format_named format ≡ None) }
     ensures splits { result ≡ bad_splits
         ↔ IsSome (format_named format) × ((ss : List (List ℕ)) → PacksSplits splits.now ss → ⊥) }
     ensures size { result ≡ bad_shape ↔ IsSome (format_named format)
         × ((ss : List (List ℕ)) × PacksSplits splits.now ss)
-        × ¬ (IsSize rows (count hands.old)) }
+        × ¬ (IsSize rows (count handles.old)) }
     ensures range { (result ≡ pos 0) ⊎ (result ≡ unknown_format) ⊎ (result ≡ bad_splits)
         ⊎ (result ≡ bad_shape) ⊎ (result ≡ memory) }
 {
-    opening::open(alloc, format, rows, splits, hands)
+    opening::open(alloc, format, rows, splits, handles)
 }
 
 /// Closes the writer, the reader or the snapshot, whose pins end first; or a block that was begun,
@@ -65,19 +65,19 @@ pub extern "C" fn mst_sharded_shards(alloc: Global, hand: &mut BlocksHand) -> i3
     telling::shards(alloc, hand)
 }
 
-/// Sets `count` to the number of rows that are free to the next block in the shard with this
-/// number, from 0, or in the directory, which has the number of the shards. Returns 0; or -7, -8
-/// for what is no writer, -1 if there is no such shard, -21, and then the count stays.
+/// Sets `rows` to the number of rows that are free to the next block in the shard with this number,
+/// from 0, or in the directory, which has the number of the shards. Returns 0; or -7, -8 for what
+/// is no writer, -1 if there is no such shard, -21, and then `rows` stays.
 #[unsafe(no_mangle)]
 pub extern "C" fn mst_sharded_free_rows(
     alloc: Global,
-    hand: &mut BlocksHand,
+    writer: &mut BlocksHand,
     shard: usize,
-    count: &mut u32,
+    rows: &mut u32,
 ) -> i32
-    ensures told { FreeRowsTold hand.old.held shard count.old result count.new hand.new.held }
+    ensures told { FreeRowsTold writer.old.held shard rows.old result rows.new writer.new.held }
 {
-    counting::free_rows(alloc, hand, shard, count)
+    counting::free_rows(alloc, writer, shard, rows)
 }
 
 /// Makes the edits of a buffer, which is as that of `mst_try_apply`, of all shards as the writer's
@@ -92,36 +92,36 @@ pub extern "C" fn mst_sharded_free_rows(
 #[unsafe(no_mangle)]
 pub extern "C" fn mst_sharded_apply(
     alloc: Global,
-    hand: &mut BlocksHand,
+    writer: &mut BlocksHand,
     edits: &[u8],
     place: &mut usize,
     shard: &mut usize,
     number: &mut u64,
 ) -> i32
-    ensures told { ApplyTold hand.old.held edits.now place.old shard.old number.old result
-        place.new shard.new number.new hand.new.held }
+    ensures told { ApplyTold writer.old.held edits.now place.old shard.old number.old result
+        place.new shard.new number.new writer.new.held }
 {
-    making::apply_edits(alloc, hand, edits, place, shard, number)
+    making::apply_edits(alloc, writer, edits, place, shard, number)
 }
 
 /// Begins the writer's next block, of the edits of a buffer as that of `mst_sharded_apply`: the
-/// writer's hand becomes that of the block, and each of the hands of the parts, which are closed
+/// writer's hand becomes that of the block, and each of the hands of `parts`, which are closed
 /// first, gets the part of the shard with its number. Returns 0. Otherwise the writer is as it was:
 /// returns -7, -8 for what is no writer, -10 if there are not as many hands as shards, and then the
-/// hands of the parts stay; -5, -6, -25 for what is no edit, with `place` as `mst_sharded_apply`
-/// has it, and -9 if a growth was refused, and then the hands of the parts are empty.
+/// hands of `parts` stay; -5, -6, -25 for what is no edit, with `place` as `mst_sharded_apply`
+/// has it, and -9 if a growth was refused, and then the hands of `parts` are empty.
 #[unsafe(no_mangle)]
 pub extern "C" fn mst_sharded_begin(
     alloc: Global,
-    hand: &mut BlocksHand,
+    writer: &mut BlocksHand,
     edits: &[u8],
     place: &mut usize,
-    hands: &mut [PaddedBlocksHand],
+    parts: &mut [PaddedBlocksHand],
 ) -> i32
-    ensures told { BeginTold hand.old.held edits.now place.old hands.old result place.new
-        hand.new.held hands.new }
+    ensures told { BeginTold writer.old.held edits.now place.old parts.old result place.new
+        writer.new.held parts.new }
 {
-    parts::begin(alloc, hand, edits, place, hands)
+    parts::begin(alloc, writer, edits, place, parts)
 }
 
 /// Prepares the part of a block: makes its edits in free rows and hashes them. Readers see nothing
@@ -130,10 +130,10 @@ pub extern "C" fn mst_sharded_begin(
 /// -21, -22, -9, -23 or -29; -7; -8 for what is no part, or one of a block that was made or taken
 /// back; -21 if another call has the part.
 #[unsafe(no_mangle)]
-pub extern "C" fn mst_sharded_prepare(alloc: Global, hand: &mut BlocksHand) -> i32
-    ensures told { PrepareTold hand.old.held result hand.new.held }
+pub extern "C" fn mst_sharded_prepare(alloc: Global, part: &mut BlocksHand) -> i32
+    ensures told { PrepareTold part.old.held result part.new.held }
 {
-    parts::prepare(alloc, hand)
+    parts::prepare(alloc, part)
 }
 
 /// Makes the block that was begun, of its parts, whether they are prepared or not: returns what
@@ -143,24 +143,24 @@ pub extern "C" fn mst_sharded_prepare(alloc: Global, hand: &mut BlocksHand) -> i
 #[unsafe(no_mangle)]
 pub extern "C" fn mst_sharded_commit(
     alloc: Global,
-    hand: &mut BlocksHand,
+    block: &mut BlocksHand,
     shard: &mut usize,
     number: &mut u64,
 ) -> i32
-    ensures told { CommitTold hand.old.held shard.old number.old result shard.new number.new
-        hand.new.held }
+    ensures told { CommitTold block.old.held shard.old number.old result shard.new number.new
+        block.new.held }
 {
-    parts::commit(alloc, hand, shard, number)
+    parts::commit(alloc, block, shard, number)
 }
 
 /// Takes the block that was begun back: nothing has changed, and the hand has the writer again.
 /// Returns 0; -7; -8 for what is no block; -21 while a part is just being prepared, and then the
 /// block stays.
 #[unsafe(no_mangle)]
-pub extern "C" fn mst_sharded_cancel(alloc: Global, hand: &mut BlocksHand) -> i32
-    ensures told { CancelTold hand.old.held result hand.new.held }
+pub extern "C" fn mst_sharded_cancel(alloc: Global, block: &mut BlocksHand) -> i32
+    ensures told { CancelTold block.old.held result block.new.held }
 {
-    parts::cancel(alloc, hand)
+    parts::cancel(alloc, block)
 }
 
 /// Sets `number` to the number of the writer's last block, or of the snapshot's block: 0 is the
@@ -176,19 +176,19 @@ pub extern "C" fn mst_sharded_number(alloc: Global, hand: &mut BlocksHand, numbe
 /// read is of it until `mst_sharded_release`. Returns 0; -7; -8 for what is no reader; -30 while a
 /// block is published, and then the reader stays.
 #[unsafe(no_mangle)]
-pub extern "C" fn mst_sharded_try_snapshot(alloc: Global, hand: &mut BlocksHand) -> i32
-    ensures told { TryTold hand.old.held result hand.new.held }
+pub extern "C" fn mst_sharded_try_snapshot(alloc: Global, reader: &mut BlocksHand) -> i32
+    ensures told { TryTold reader.old.held result reader.new.held }
 {
-    telling::try_snapshot(alloc, hand)
+    telling::try_snapshot(alloc, reader)
 }
 
 /// Turns the snapshot into a reader: its pins end. Returns 0; -7; -8 for what is no
 /// snapshot.
 #[unsafe(no_mangle)]
-pub extern "C" fn mst_sharded_release(alloc: Global, hand: &mut BlocksHand) -> i32
-    ensures told { ReleaseTold hand.old.held result hand.new.held }
+pub extern "C" fn mst_sharded_release(alloc: Global, snapshot: &mut BlocksHand) -> i32
+    ensures told { ReleaseTold snapshot.old.held result snapshot.new.held }
 {
-    telling::release(alloc, hand)
+    telling::release(alloc, snapshot)
 }
 
 /// As `mst_get`: of the writer from its last block, of a snapshot from its block, of a reader from
@@ -208,20 +208,20 @@ pub extern "C" fn mst_sharded_get(
 
 /// As `mst_next`, in the map of a snapshot's block. Returns -7; -5 for a bound of more than 32
 /// bytes; -8 for what is no snapshot; -1 if there is no such pair; -2 if one of the two rooms is
-/// too short. With each of these both rooms and `length` stay.
+/// too short. With each of these both rooms and `next_length` stay.
 #[unsafe(no_mangle)]
 pub extern "C" fn mst_sharded_next(
     alloc: Global,
-    hand: &mut BlocksHand,
+    snapshot: &mut BlocksHand,
     key: &[u8],
     key_room: &mut [u8],
-    length: &mut usize,
+    next_length: &mut usize,
     room: &mut [u8],
 ) -> i32
-    ensures told { NextTold hand.old.held key.now key_room.old length.old room.old result
-        key_room.new length.new room.new hand.new.held }
+    ensures told { NextTold snapshot.old.held key.now key_room.old next_length.old room.old result
+        key_room.new next_length.new room.new snapshot.new.held }
 {
-    reading::next(alloc, hand, key, key_room, length, room)
+    reading::next(alloc, snapshot, key, key_room, next_length, room)
 }
 
 /// As `mst_range`, in the map of a snapshot's block. Returns 0 or -2. Returns -7, -5 for a bound of
@@ -229,7 +229,7 @@ pub extern "C" fn mst_sharded_next(
 #[unsafe(no_mangle)]
 pub extern "C" fn mst_sharded_range(
     alloc: Global,
-    hand: &mut BlocksHand,
+    snapshot: &mut BlocksHand,
     from: &[u8],
     to: &[u8],
     limit: u32,
@@ -237,28 +237,28 @@ pub extern "C" fn mst_sharded_range(
     count: &mut usize,
     length: &mut usize,
 ) -> i32
-    ensures told { RangeTold hand.old.held from.now to.now limit room.old count.old length.old
-        result room.new count.new length.new hand.new.held }
+    ensures told { RangeTold snapshot.old.held from.now to.now limit room.old count.old length.old
+        result room.new count.new length.new snapshot.new.held }
 {
-    reading::range(alloc, hand, from, to, limit, room, count, length)
+    reading::range(alloc, snapshot, from, to, limit, room, count, length)
 }
 
 /// Sets `count` to the number of the pairs of a snapshot's block, of all shards together. Returns
 /// 0; or -7, -8 for what is no snapshot, and then the count stays.
 #[unsafe(no_mangle)]
-pub extern "C" fn mst_sharded_len(alloc: Global, hand: &mut BlocksHand, count: &mut u64) -> i32
-    ensures told { LenTold hand.old.held count.old result count.new hand.new.held }
+pub extern "C" fn mst_sharded_len(alloc: Global, snapshot: &mut BlocksHand, count: &mut u64) -> i32
+    ensures told { LenTold snapshot.old.held count.old result count.new snapshot.new.held }
 {
-    reading::len(alloc, hand, count)
+    reading::len(alloc, snapshot, count)
 }
 
 /// Returns the number of the format of a snapshot's block, 1 or 2; -7; -8 for what is no
 /// snapshot.
 #[unsafe(no_mangle)]
-pub extern "C" fn mst_sharded_format(alloc: Global, hand: &mut BlocksHand) -> i32
-    ensures told { FormatTold hand.old.held result hand.new.held }
+pub extern "C" fn mst_sharded_format(alloc: Global, snapshot: &mut BlocksHand) -> i32
+    ensures told { FormatTold snapshot.old.held result snapshot.new.held }
 {
-    reading::format(alloc, hand)
+    reading::format(alloc, snapshot)
 }
 
 /// Returns 32, the length of the root digest of the writer's last block, or of the snapshot's
@@ -277,15 +277,15 @@ pub extern "C" fn mst_sharded_root(alloc: Global, hand: &mut BlocksHand, root: &
 #[unsafe(no_mangle)]
 pub extern "C" fn mst_sharded_prove(
     alloc: Global,
-    hand: &mut BlocksHand,
+    snapshot: &mut BlocksHand,
     key: &[u8],
     room: &mut [u8],
     length: &mut usize,
 ) -> i32
-    ensures told { ProveTold hand.old.held key.now room.old length.old result room.new length.new
-        hand.new.held }
+    ensures told { ProveTold snapshot.old.held key.now room.old length.old result room.new
+        length.new snapshot.new.held }
 {
-    proving::prove(alloc, hand, key, room, length)
+    proving::prove(alloc, snapshot, key, room, length)
 }
 
 /// Lists the directory of a snapshot as `mst_range` lists pairs: of each shard its lower bound,
@@ -294,13 +294,13 @@ pub extern "C" fn mst_sharded_prove(
 #[unsafe(no_mangle)]
 pub extern "C" fn mst_sharded_directory(
     alloc: Global,
-    hand: &mut BlocksHand,
+    snapshot: &mut BlocksHand,
     room: &mut [u8],
     count: &mut usize,
     length: &mut usize,
 ) -> i32
-    ensures told { DirectoryTold hand.old.held room.old count.old length.old result room.new
-        count.new length.new hand.new.held }
+    ensures told { DirectoryTold snapshot.old.held room.old count.old length.old result room.new
+        count.new length.new snapshot.new.held }
 {
-    proving::directory(alloc, hand, room, count, length)
+    proving::directory(alloc, snapshot, room, count, length)
 }
