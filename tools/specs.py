@@ -74,7 +74,7 @@ def module(name):
 
 def is_spec(name):
     """Whether a module is a file of `specs/` of this repository."""
-    return name.startswith("mst_") and ".specs." in name
+    return re.match(r"mst(_\w+)?\.specs\.", name) is not None
 
 
 def named(text, here, own=()):

@@ -14,7 +14,7 @@ ROOT = os.path.normpath(os.path.join(os.path.dirname(os.path.abspath(__file__)),
 USED = ["mst_store", "mst_shards", "mst_blocks", "mst_parts", "mst_snapshots", "mst_proof",
         "mst_sharded_proof", "mst_exports", "mst_verifier"]
 # Crates that promise nothing: they call the others.
-CALLERS = re.compile(r"mst|mst_cookbook|mst_\w+_tests")
+CALLERS = re.compile(r"mst_cookbook|mst_\w+_tests")
 CLAUSE = re.compile(r"\s*(requires|ensures)\b(?: (\w+))? \{")
 ITEM = re.compile(r"(?:pub(?:\(\w+\))? )?(?:unsafe )?(impl|trait)\b")
 OPEN_TYPE = re.compile(r"(?m)^pub (?:struct|enum|trait) (\w+)")

@@ -12,9 +12,8 @@
 //! ```
 //!
 //! A script is answered over a store, a proof is judged, the core of pins is replayed, a load is
-//! run. `specs/Programs.antt` says what each of them reads and writes. The choice of the task is in
-//! `mst_program`, with a script over a sharded map: so this crate stands beside sharded maps, not
-//! above them.
+//! run. `specs/Programs.antt` says what each of them reads and writes. `mst` chooses the task, and
+//! answers a script over a sharded map: so this crate stands beside sharded maps, not above them.
 #![tactic(auto)]
 
 mod events;

@@ -1,5 +1,0 @@
-use Rattle.std.proofs.Common.{rules}
-use Rattle.mst_program.proofs.progress.is_shown.Goals as goal
-
-pub returns : goal.returns
-returns c = search rules
