@@ -34,8 +34,8 @@ use Rattle.mst_path.specs.AfterChange.{AfterChange}
 use Rattle.mst_path.proofs.lemmas.versions.Changes.{Changed, after_change, unchanged_map}
 use Rattle.mst_path.proofs.lemmas.versions.Versions.{rows_of_map}
 use Rattle.mst_batch.specs.Applying.{LacksBatch, LacksPairs}
-use Rattle.mst_batch.specs.declared.faults.NotApplied.{NotApplied}
-use Rattle.mst_batch.specs.declared.faults.NotApplied.TheVariants.{Memory, NoRoom}
+use Rattle.mst_batch.specs.declared.faults.BatchRefusal.{BatchRefusal}
+use Rattle.mst_batch.specs.declared.faults.BatchRefusal.TheVariants.{Memory, NoRoom}
 
 -- ---- what it costs
 
@@ -176,7 +176,7 @@ module _ (format : Format) (c : Content) (root : Root) (zero_link : root.link �
       subst (λ (k : List Pair). n < cost format k (batched k es))
       (sym (no_pairs format c root zero_link m st)) (omega (arith, less, is))
 
-  pub lacks_pairs : (s : State) → 1 < length es → (why : NotApplied)
+  pub lacks_pairs : (s : State) → 1 < length es → (why : BatchRefusal)
       → LacksPairs why (free_count s.lives) (batched [] es) → LacksBatch why format c s root es
   lacks_pairs s some (Memory refused) lacks = some
   lacks_pairs s some NoRoom lacks = lacks_room (free_count s.lives) (omega (arith, lacks))

@@ -12,7 +12,7 @@ ghost use Rattle.mst_path.specs.Reached.{Changes};
 ghost use Rattle.mst_batch.specs.Applying.{LacksBatch};
 
 use crate::by_plan::apply_by_plan;
-use crate::faults::NotApplied;
+use crate::faults::BatchRefusal;
 use crate::loading::load;
 use crate::single::apply_one;
 use mst_arena::{Desk, Root, Rows};
@@ -46,7 +46,7 @@ pub fn apply<R: Rows, A: Allocator, B: Allocator + Copy>(
     alloc: B,
     edits: &[Edit],
     format: Format,
-) -> Result<Root, NotApplied>
+) -> Result<Root, BatchRefusal>
     requires stands { MapStands format (R.content rows.old) desk.old root.now }
     requires free { FreeIsBlank desk.old.lives (R.blank rows.old) }
     ensures stands { IfOk result (λ done. (m : List Pair)
@@ -76,7 +76,7 @@ pub fn apply<R: Rows, A: Allocator, B: Allocator + Copy>(
         [] => Ok(*root),
         [edit] => match apply_one(rows, desk, root, edit, format) {
             Ok(done) => Ok(done),
-            Err(NoRoom) => Err(NotApplied::NoRoom),
+            Err(NoRoom) => Err(BatchRefusal::NoRoom),
         },
         _ if root.link == 0 => load(rows, desk, root, alloc, edits, format),
         _ => apply_by_plan(rows, desk, root, alloc, edits, format),

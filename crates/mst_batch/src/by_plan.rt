@@ -5,10 +5,10 @@ ghost use Rattle.mst_path.specs.Takes.{FreeIsBlank, StaysBeside};
 ghost use Rattle.mst_path.specs.Changing.{MapStands};
 ghost use Rattle.mst_path.specs.AfterChange.{AfterChange};
 ghost use Rattle.mst_batch.specs.Applying.{LacksBatch};
-ghost use Rattle.mst_batch.specs.declared.faults.NotApplied.TheVariants as lacking;
+ghost use Rattle.mst_batch.specs.declared.faults.BatchRefusal.TheVariants as lacking;
 
 use crate::carrying::carry_out;
-use crate::faults::NotApplied;
+use crate::faults::BatchRefusal;
 use crate::marking::marks_of;
 use crate::planning::find_plan;
 use crate::releasing::release;
@@ -19,10 +19,10 @@ use mst_path::NoRoom;
 use std::alloc::Allocator;
 
 /// Why a batch was refused whose plan was made: it lacks nothing but rows.
-fn lack_of(_refused: NoRoom) -> NotApplied
+fn lack_of(_refused: NoRoom) -> BatchRefusal
     ensures no_room { result ≡ lacking.NoRoom }
 {
-    NotApplied::NoRoom
+    BatchRefusal::NoRoom
 }
 
 /// Makes a batch of some edits, more than one, in the map that stands at a root, as `apply` does.
@@ -36,7 +36,7 @@ pub(crate) fn apply_by_plan<R: Rows, A: Allocator, B: Allocator + Copy>(
     alloc: B,
     edits: &[Edit],
     format: Format,
-) -> Result<Root, NotApplied>
+) -> Result<Root, BatchRefusal>
     requires stands { MapStands format (R.content rows.old) desk.old root.now }
     requires some { 1 < length edits.now }
     requires free { FreeIsBlank desk.old.lives (R.blank rows.old) }
@@ -50,11 +50,11 @@ pub(crate) fn apply_by_plan<R: Rows, A: Allocator, B: Allocator + Copy>(
     are_within_limits(edits);
     let plan = match find_plan(rows, alloc, root, edits, format) {
         Ok(plan) => plan,
-        Err(refused) => return Err(NotApplied::Memory(refused)),
+        Err(refused) => return Err(BatchRefusal::Memory(refused)),
     };
     let kept = match marks_of(alloc, &plan) {
         Ok(kept) => kept,
-        Err(refused) => return Err(NotApplied::Memory(refused)),
+        Err(refused) => return Err(BatchRefusal::Memory(refused)),
     };
     let carried = carry_out(rows, desk, root, &plan, kept.as_slice(), format);
     release(plan);

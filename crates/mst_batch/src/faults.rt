@@ -3,7 +3,7 @@ use mst_key::Memory;
 
 /// Why a batch of edits was not made. Rows and desk are as before.
 #[derive(Clone, Copy)]
-pub enum NotApplied {
+pub enum BatchRefusal {
     /// A growth of a list or of the plan was refused.
     Memory(Memory),
     /// Fewer rows are free than the batch takes.

@@ -58,6 +58,6 @@ mod top;
 mod updating;
 
 pub use applying::apply;
-pub use faults::NotApplied;
+pub use faults::BatchRefusal;
 pub use laws::{plans_beside, plans_can_be_met};
 pub use plan::{Origin, Plan, PlanEntry, PlanNode};

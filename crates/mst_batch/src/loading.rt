@@ -9,7 +9,7 @@ ghost use Rattle.mst_path.specs.Changing.{MapStands};
 ghost use Rattle.mst_path.specs.AfterChange.{AfterChange};
 ghost use Rattle.mst_batch.specs.Applying.{LacksBatch, LacksPairs};
 
-use crate::faults::NotApplied;
+use crate::faults::BatchRefusal;
 use mst_arena::{Desk, Root, Rows};
 use mst_edits::{are_within_limits, edited_pairs};
 use mst_key::{Edit, Format};
@@ -24,7 +24,7 @@ fn tree_after<B: Allocator + Copy>(
     edits: &[Edit],
     format: Format,
     most: u32,
-) -> Result<Option<Box<Node<B>, B>>, NotApplied>
+) -> Result<Option<Box<Node<B>, B>>, BatchRefusal>
     requires few { most ≤ highest_count }
     ensures tree { IfOk result
         (λ tree. IsTreeOf format (tree_of_child format tree) (batched [] edits.now)) }
@@ -32,14 +32,14 @@ fn tree_after<B: Allocator + Copy>(
 {
     let pairs = match edited_pairs(alloc, &[], edits) {
         Ok(pairs) => pairs,
-        Err(refused) => return Err(NotApplied::Memory(refused)),
+        Err(refused) => return Err(BatchRefusal::Memory(refused)),
     };
     if pairs.len() > most as usize {
-        return Err(NotApplied::NoRoom);
+        return Err(BatchRefusal::NoRoom);
     }
     match build_in(alloc, format, pairs.as_slice()) {
         Ok(tree) => Ok(tree),
-        Err(refused) => Err(NotApplied::Memory(refused)),
+        Err(refused) => Err(BatchRefusal::Memory(refused)),
     }
 }
 
@@ -54,7 +54,7 @@ pub(crate) fn load<R: Rows, A: Allocator, B: Allocator + Copy>(
     alloc: B,
     edits: &[Edit],
     format: Format,
-) -> Result<Root, NotApplied>
+) -> Result<Root, BatchRefusal>
     requires stands { MapStands format (R.content rows.old) desk.old root.now }
     requires empty { root.now.link ≡ 0 }
     requires some { 1 < length edits.now }
@@ -79,6 +79,6 @@ pub(crate) fn load<R: Rows, A: Allocator, B: Allocator + Copy>(
     release(Some(node));
     match planted {
         Ok(done) => Ok(done),
-        Err(NoRoom) => Err(NotApplied::NoRoom),
+        Err(NoRoom) => Err(BatchRefusal::NoRoom),
     }
 }

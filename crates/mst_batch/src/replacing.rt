@@ -5,7 +5,7 @@ ghost use Rattle.mst_arena.specs.Lives.{free_count};
 ghost use Rattle.mst_arena.specs.Standing.{Placed, used};
 ghost use Rattle.mst_path.specs.Felling.{ToFell};
 ghost use Rattle.mst_path.specs.Making.{Grown};
-ghost use Rattle.mst_path.specs.Takes.{IsWritable, StaysBeside};
+ghost use Rattle.mst_path.specs.Takes.{RowsAreWritable, StaysBeside};
 ghost use Rattle.mst_batch.specs.Known.{HasKnown, known_of};
 ghost use Rattle.mst_batch.specs.Plans.{plan_of, rows_planned, tree_planned, IsPlan};
 ghost use Rattle.mst_batch.specs.Replacing.{Keeps};
@@ -37,7 +37,7 @@ pub(crate) fn replace<R: Rows, A: Allocator, B: Allocator>(
         × IsPlan format at (R.content rows.old) desk.old (plan_of plan.now)
         × Keeps at kept.now old.placed (plan_of plan.now) }
     requires room { rows_planned (plan_of plan.now) ≤ free_count desk.old.lives }
-    requires ready { IsWritable desk.old.lives (R.blank rows.old) }
+    requires ready { RowsAreWritable desk.old.lives (R.blank rows.old) }
     requires known { HasKnown (R.content rows.old) desk.old (known_of plan.now) }
     ensures grown { (at : ℕ → Placed) (old : ToFell (R.content rows.old) desk.old root.now.link)
         → IsPlan format at (R.content rows.old) desk.old (plan_of plan.now)

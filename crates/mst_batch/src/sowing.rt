@@ -6,7 +6,7 @@ ghost use Rattle.mst_arena.specs.Content.{Content};
 ghost use Rattle.mst_arena.specs.Limits.{highest_link};
 ghost use Rattle.mst_arena.specs.Lives.{free_count};
 ghost use Rattle.mst_arena.specs.Standing.{Placed, rows_of, used, HasRows};
-ghost use Rattle.mst_path.specs.Takes.{Takes, IsOut, KeepsBut, FewRows, IsWritable, StaysBeside};
+ghost use Rattle.mst_path.specs.Takes.{Takes, IsOut, KeepsBut, FewRows, RowsAreWritable, StaysBeside};
 ghost use Rattle.mst_path.specs.Writing.{PlacedEntry, entries_used, IsRootOf, ahead, IsNextBlank, IsWriter, IsWritten};
 ghost use Rattle.mst_batch.specs.Known.{HasKnown, IsThere, known_of, known_of_node};
 ghost use Rattle.mst_batch.specs.Plans.{plan_of, plan_of_node, rows_planned, rows_kept, tree_planned, IsPlan};
@@ -62,7 +62,7 @@ pub(crate) fn sow_plan<R: Rows, A: Allocator, B: Allocator>(
     requires plan { (at : ℕ → Placed)
         × IsPlan format at (R.content rows.old) desk.old (plan_of plan.now) }
     requires room { rows_planned (plan_of plan.now) ≤ free_count desk.old.lives }
-    requires ready { IsWritable desk.old.lives (R.blank rows.old) }
+    requires ready { RowsAreWritable desk.old.lives (R.blank rows.old) }
     requires known { HasKnown (R.content rows.old) desk.old (known_of plan.now) }
     ensures sown { (at : ℕ → Placed)
         → IsPlan format at (R.content rows.old) desk.old (plan_of plan.now)
@@ -141,7 +141,7 @@ fn sow_node<R: Rows, A: Allocator, B: Allocator>(
     requires plan { (at : ℕ → Placed)
         × IsPlan format at (R.content rows.old) desk.old (plan_of_node node.now) }
     requires room { rows_planned (plan_of_node node.now) ≤ free_count desk.old.lives }
-    requires ready { IsWritable desk.old.lives (R.blank rows.old) }
+    requires ready { RowsAreWritable desk.old.lives (R.blank rows.old) }
     requires known { HasKnown (R.content rows.old) desk.old (known_of_node node.now) }
     ensures sown { (at : ℕ → Placed)
         → IsPlan format at (R.content rows.old) desk.old (plan_of_node node.now)

@@ -12,8 +12,8 @@ use Rattle.mst_arena.specs.declared.row.Root.{Root}
 use Rattle.mst_path.specs.Changing.{OnlyFreeWritten}
 use Rattle.mst_path.specs.Made.{IsMade}
 use Rattle.mst_path.specs.Reached.{Changes}
-use Rattle.mst_batch.specs.declared.faults.NotApplied.{NotApplied}
-use Rattle.mst_batch.specs.declared.faults.NotApplied.TheVariants as applied
+use Rattle.mst_batch.specs.declared.faults.BatchRefusal.{BatchRefusal}
+use Rattle.mst_batch.specs.declared.faults.BatchRefusal.TheVariants as batch_refusal
 use Rattle.mst_batch.specs.Applying.{LacksBatch}
 use Rattle.mst_words.specs.Access.{Seated, IsSameSeat, beside, content_of}
 use Rattle.mst_versions.specs.declared.turn.Turn.{Turn}
@@ -34,7 +34,7 @@ module _ {A : Type 0} (t : Turn A) (s z : Seated) (h : HasTurn t s.me) (es : Lis
   abbrev pairs : List Pair
   pairs = after s.me.0.seen
 
-  pub batch_made : (r : Result Root NotApplied) → IfOk r (λ root. (m : List Pair)
+  pub batch_made : (r : Result Root BatchRefusal) → IfOk r (λ root. (m : List Pair)
       → Stands t.format (content_of s.me.0) t.root m
       → Stands t.format (content_of z.me.0) root (batched m es))
       → IfOk r (λ root. (m : List Pair) → Stands t.format (content_of s.me.0) t.root m
@@ -56,13 +56,13 @@ module _ {A : Type 0} (t : Turn A) (s z : Seated) (h : HasTurn t s.me) (es : Lis
 -- ---- they are not made
 
 lacks_edits : {A : Type 0} (t : Turn A) (m : SeatState) → HasTurn t m → (es : List Edit)
-    (why : NotApplied)
+    (why : BatchRefusal)
     → LacksBatch why t.format (content_of m.0) t.desk t.root es → LacksEdits why es t m
-lacks_edits t m h es (applied.Memory refused) lacks = lacks
-lacks_edits t m h es applied.NoRoom lacks = lacks (after m.0.seen) h.stands
+lacks_edits t m h es (batch_refusal.Memory refused) lacks = lacks
+lacks_edits t m h es batch_refusal.NoRoom lacks = lacks (after m.0.seen) h.stands
 
 pub batch_lacks : {A : Type 0} (t : Turn A) (m : SeatState) → HasTurn t m → (es : List Edit)
-    (r : Result Root NotApplied)
+    (r : Result Root BatchRefusal)
     → IfErr r (λ why. LacksBatch why t.format (content_of m.0) t.desk t.root es)
     → IfErr r (λ why. LacksEdits why es t m)
 batch_lacks t m h es (Ok root) lacks = tt
@@ -72,7 +72,7 @@ batch_lacks t m h es (Err why) lacks = lacks_edits t m h es why lacks
 pub batch_memory : {A : Type 0} (s : Seated) (m1 : SeatState) (t : Turn A) (b : Begun s.me t m1)
     (number : ℕ) (mine : s.me.0.number ≡ number) (m2 : SeatState) (z : Seated) → IsSameSeat s z
     → m2 ≡ m1 → z.me ≡ (record m2.0 { turn = false }, []) → (es : List Edit) (refused : Memory)
-    → length m1.0.seen < last_version → LacksEdits (applied.Memory refused) es t m1
+    → length m1.0.seen < last_version → LacksEdits (batch_refusal.Memory refused) es t m1
     → AtSeat (RefusesBatch (fault.Memory refused) es) number s z
 batch_memory s m1 t b number mine m2 z same still back es refused early several =
     given_back s m1 t b number mine m2 z same still back (RefusesBatch (fault.Memory refused) es)

@@ -3,8 +3,8 @@ use Rattle.std.specs.Prelude.{◌≡◌, ◌+◌, ◌<◌, List, length}
 use Rattle.mst_key.specs.declared.history.Change.TheVariants.{Batch}
 use Rattle.mst_key.specs.declared.history.Edit.{Edit}
 use Rattle.mst_arena.specs.Lives.{last_version}
-use Rattle.mst_batch.specs.declared.faults.NotApplied.{NotApplied}
-use Rattle.mst_batch.specs.declared.faults.NotApplied.TheVariants as applied
+use Rattle.mst_batch.specs.declared.faults.BatchRefusal.{BatchRefusal}
+use Rattle.mst_batch.specs.declared.faults.BatchRefusal.TheVariants as batch_refusal
 use Rattle.mst_batching.specs.declared.faults.ApplyFault.{ApplyFault}
 use Rattle.mst_batching.specs.declared.faults.ApplyFault.TheVariants.{Busy, VersionsSpent, Memory, NoRoom}
 use Rattle.mst_versions.specs.declared.faults.WriteFault.TheVariants as write
@@ -14,9 +14,9 @@ use Rattle.mst_versions.specs.Turns.{SeatState}
 use Rattle.mst_versions.specs.Writes.{LacksRows, Refuses}
 
 -- why the holder of the turn does not make the edits
-abbrev pub LacksEdits : {A : Type 0} → NotApplied → List Edit → Turn A → SeatState → Type 0
-LacksEdits (applied.Memory refused) edits t m = 1 < length edits
-LacksEdits applied.NoRoom edits t m = LacksRows (Batch edits) t m
+abbrev pub LacksEdits : {A : Type 0} → BatchRefusal → List Edit → Turn A → SeatState → Type 0
+LacksEdits (batch_refusal.Memory refused) edits t m = 1 < length edits
+LacksEdits batch_refusal.NoRoom edits t m = LacksRows (Batch edits) t m
 
 -- Why a batch of edits is refused. It adds nothing to the history then: no reader sees some of the
 -- edits without the others. Another pass has the turn, the version numbers are spent, a growth was

@@ -16,7 +16,7 @@ ghost use Rattle.mst_batching.specs.Preparing.{IsPrepared, Prepares, published};
 
 use crate::faults::ApplyFault;
 use mst_arena::Root;
-use mst_batch::NotApplied;
+use mst_batch::BatchRefusal;
 use mst_key::{Batch, Change, Edit, Event};
 use mst_versions::finishing::PublishedTurn;
 use mst_versions::turn::{BeginFault, Turn, begin_write, give_back};
@@ -39,7 +39,7 @@ fn make_batch<A: Allocator + Copy, B: Allocator + Copy>(
     alloc: B,
     turn: &mut Turn<A>,
     edits: &[Edit],
-) -> Result<Root, NotApplied>
+) -> Result<Root, BatchRefusal>
     requires turn { HasTurn turn.old seat.old.me }
     requires open { length seat.old.me.0.seen < last_version }
     ensures same { IsSameSeat seat.old seat.new }
@@ -95,11 +95,11 @@ pub fn prepare<A: Allocator + Copy, B: Allocator + Copy>(
             finishing::fill(seat, &turn, &root, format);
             Ok(Preparation { turn, root })
         }
-        Err(NotApplied::Memory(refused)) => {
+        Err(BatchRefusal::Memory(refused)) => {
             give_back(seat, turn);
             Err(ApplyFault::Memory(refused))
         }
-        Err(NotApplied::NoRoom) => {
+        Err(BatchRefusal::NoRoom) => {
             give_back(seat, turn);
             Err(ApplyFault::NoRoom)
         }

@@ -17,8 +17,8 @@ use Rattle.mst_batching.specs.Applying.{RefusesBatch}
 use Rattle.mst_c.specs.Codes.{bad_key, bad_value, closed, wrong_state, memory, busy, versions_spent, no_free_rows, bad_batch}
 use Rattle.mst_c.specs.declared.pass_box.State.{State}
 use Rattle.mst_c.specs.declared.pass_box.State.TheVariants.{Away, Free, Pinned}
-use Rattle.mst_c.specs.declared.pass_box.Unapplied.{Unapplied}
-use Rattle.mst_c.specs.declared.pass_box.Unapplied.TheVariants.{Pins, Memory, Store}
+use Rattle.mst_c.specs.declared.pass_box.ApplyRefusal.{ApplyRefusal}
+use Rattle.mst_c.specs.declared.pass_box.ApplyRefusal.TheVariants.{Pins, Memory, Store}
 use Rattle.mst_c.specs.declared.packing.EditFault.{EditFault}
 use Rattle.mst_c.specs.declared.packing.EditFault.TheVariants.{KeySize, ValueSize, Form}
 use Rattle.mst_c.specs.declared.packing.BadEdit.{BadEdit}
@@ -105,7 +105,7 @@ edits_or_none (Err bad) = []
 
 -- A batch by a free pass is as the pass's contract says, if there is memory for the list of its
 -- edits; otherwise the pass does nothing. A pinned pass makes none of them
-abbrev pub Applies : List Edit → State → Result (Unit {0}) Unapplied → State → Type 0
+abbrev pub Applies : List Edit → State → Result (Unit {0}) ApplyRefusal → State → Type 0
 Applies es Away result s = ⊥
 Applies es (Free p) (Ok _) s =
     (q : Known) × (s ≡ Free q) × Wrote (made_by p (Batch es)) p history.done q
@@ -130,20 +130,20 @@ apply_fault_code apply.VersionsSpent = versions_spent
 apply_fault_code (apply.Memory refused) = memory
 apply_fault_code apply.NoRoom = no_free_rows
 
-abbrev pub unapplied_code : Unapplied → ℤ
-unapplied_code Pins = wrong_state
-unapplied_code (Memory refused) = memory
-unapplied_code (Store fault) = apply_fault_code fault
+abbrev pub apply_refusal_code : ApplyRefusal → ℤ
+apply_refusal_code Pins = wrong_state
+apply_refusal_code (Memory refused) = memory
+apply_refusal_code (Store fault) = apply_fault_code fault
 
-abbrev pub apply_code : Result (Unit {0}) Unapplied → ℤ
+abbrev pub apply_code : Result (Unit {0}) ApplyRefusal → ℤ
 apply_code (Ok _) = pos 0
-apply_code (Err fault) = unapplied_code fault
+apply_code (Err fault) = apply_refusal_code fault
 
 -- the place of a bad edit is told before the pass does anything; otherwise what the pass did
 abbrev pub SpeltTold : Result (List Edit) BadEdit → State → ℕ → ℤ → ℕ → Option State → Type 0
 SpeltTold (Err bad) s place code place' hand =
     (code ≡ fault_code bad.fault) × (place' ≡ bad.place) × (hand ≡ Some s)
-SpeltTold (Ok es) s place code place' hand = (r : Result (Unit {0}) Unapplied) × (t : State)
+SpeltTold (Ok es) s place code place' hand = (r : Result (Unit {0}) ApplyRefusal) × (t : State)
     × (hand ≡ Some t) × Applies es s r t × (code ≡ apply_code r) × (place' ≡ place)
 
 -- -7 for an empty hand, otherwise by what the buffer spells

@@ -11,8 +11,8 @@ use Rattle.mst_versions.specs.Migrating.{RefusesMigration}
 use Rattle.mst_c.specs.Codes.{unknown_format, closed, wrong_state, memory, busy, versions_spent, no_free_rows}
 use Rattle.mst_c.specs.declared.pass_box.State.{State}
 use Rattle.mst_c.specs.declared.pass_box.State.TheVariants.{Away, Free, Pinned}
-use Rattle.mst_c.specs.declared.pass_box.Unmoved.{Unmoved}
-use Rattle.mst_c.specs.declared.pass_box.Unmoved.TheVariants.{Pins, Store}
+use Rattle.mst_c.specs.declared.pass_box.MigrateRefusal.{MigrateRefusal}
+use Rattle.mst_c.specs.declared.pass_box.MigrateRefusal.TheVariants.{Pins, Store}
 use Rattle.mst_c.specs.Holding.{Reads}
 
 -- the format that has this number
@@ -32,7 +32,7 @@ FormatTold (Some s) code hand =
     (f : Format) × (t : State) × (hand ≡ Some t) × Reads (λ g _. g) s f t × (code ≡ format_code f)
 
 -- A migration by a free pass is as the pass's contract says; a pinned pass migrates nothing
-abbrev pub Moves : Format → State → Result Format Unmoved → State → Type 0
+abbrev pub Moves : Format → State → Result Format MigrateRefusal → State → Type 0
 Moves to Away result s = ⊥
 Moves to (Free p) (Ok was) s =
     (q : Known) × (s ≡ Free q) × Wrote (made_by p (Migrate to)) p (history.was was) q
@@ -50,18 +50,18 @@ migrate_fault_code VersionsSpent = versions_spent
 migrate_fault_code (Memory refused) = memory
 migrate_fault_code NoRoom = no_free_rows
 
-abbrev pub unmoved_code : Unmoved → ℤ
-unmoved_code Pins = wrong_state
-unmoved_code (Store fault) = migrate_fault_code fault
+abbrev pub migrate_refusal_code : MigrateRefusal → ℤ
+migrate_refusal_code Pins = wrong_state
+migrate_refusal_code (Store fault) = migrate_fault_code fault
 
-abbrev pub move_code : Result Format Unmoved → ℤ
+abbrev pub move_code : Result Format MigrateRefusal → ℤ
 move_code (Ok was) = format_code was
-move_code (Err fault) = unmoved_code fault
+move_code (Err fault) = migrate_refusal_code fault
 
 -- -7 for an empty hand, -3 for what is no format's number, otherwise what the pass did
 abbrev pub MigrateTold : Option State → ℕ → ℤ → Option State → Type 0
 MigrateTold None number code hand = (code ≡ closed) × (hand ≡ None)
 MigrateTold (Some s) number code hand =
     (format_named number ≡ None → (code ≡ unknown_format) × (hand ≡ Some s))
-    × ((to : Format) → format_named number ≡ Some to → (r : Result Format Unmoved) × (t : State)
-    × (hand ≡ Some t) × Moves to s r t × (code ≡ move_code r))
+    × ((to : Format) → format_named number ≡ Some to → (r : Result Format MigrateRefusal)
+    × (t : State) × (hand ≡ Some t) × Moves to s r t × (code ≡ move_code r))

@@ -8,10 +8,10 @@ use Rattle.mst_store.specs.Passes.{Known, format_seen, Answers, Looks, Wrote, Fi
 use Rattle.mst_versions.specs.Writes.{rows_of}
 use Rattle.mst_c.specs.declared.pass_box.State.{State}
 use Rattle.mst_c.specs.declared.pass_box.State.TheVariants.{Away, Free, Pinned}
-use Rattle.mst_c.specs.declared.pass_box.Unwritten.{Unwritten}
-use Rattle.mst_c.specs.declared.pass_box.Unwritten.TheVariants.{Pins, Store}
-use Rattle.mst_c.specs.declared.pass_box.Uncounted.{Uncounted}
-use Rattle.mst_c.specs.declared.pass_box.Uncounted.TheVariants as uncounted
+use Rattle.mst_c.specs.declared.pass_box.WriteRefusal.{WriteRefusal}
+use Rattle.mst_c.specs.declared.pass_box.WriteRefusal.TheVariants.{Pins, Store}
+use Rattle.mst_c.specs.declared.pass_box.CountRefusal.{CountRefusal}
+use Rattle.mst_c.specs.declared.pass_box.CountRefusal.TheVariants as count_refusal
 
 -- A read returns what this question asks of a map and its format: a free pass of that which it
 -- finds now, for which it looks once, a pinned one of that of its version
@@ -29,7 +29,7 @@ Forgets (Free p) s = s ≡ Free (having_asked 1 p)
 Forgets (Pinned p) s = s ≡ Pinned p
 
 -- A write by a free pass is as the pass's contract says; a pinned pass writes nothing
-abbrev pub Writes : Change → State → Result (Option (List ℕ)) Unwritten → State → Type 0
+abbrev pub Writes : Change → State → Result (Option (List ℕ)) WriteRefusal → State → Type 0
 Writes change Away result s = ⊥
 Writes change (Free p) (Ok old) s =
     (q : Known) × (s ≡ Free q) × Wrote (made_by p change) p (had old) q
@@ -62,15 +62,15 @@ Versions (Pinned p) n s = (s ≡ Pinned p) × (n ≡ length p.seen)
 
 -- The rows of the map are counted by a free pass where no other pass writes, exactly if it finds no
 -- version pinned, in as many steps as the pass's contract says
-abbrev pub Counts : State → Result (Option ℕ) Uncounted → State → Type 0
+abbrev pub Counts : State → Result (Option ℕ) CountRefusal → State → Type 0
 Counts Away result s = ⊥
 Counts (Free p) (Ok found) s =
     (q : Known) × (s ≡ Free q) × Looks p q
     × IfSome found (λ n. n ≡ rows_of (format_seen q) (after q.seen))
     × (p.store.passes ≡ 1 → IsSome found) × (IsSome found ↔ (q.found ≡ []))
     × (q.asked ≡ p.asked + p.store.passes + 4)
-Counts (Free p) (Err uncounted.Busy) s = (q : Known) × (s ≡ Free q) × FindsBusy p q
-Counts (Free p) (Err uncounted.Pins) s = ⊥
-Counts (Pinned p) (Err uncounted.Pins) s = s ≡ Pinned p
-Counts (Pinned p) (Err uncounted.Busy) s = ⊥
+Counts (Free p) (Err count_refusal.Busy) s = (q : Known) × (s ≡ Free q) × FindsBusy p q
+Counts (Free p) (Err count_refusal.Pins) s = ⊥
+Counts (Pinned p) (Err count_refusal.Pins) s = s ≡ Pinned p
+Counts (Pinned p) (Err count_refusal.Busy) s = ⊥
 Counts (Pinned p) (Ok found) s = ⊥

@@ -8,13 +8,13 @@ use Rattle.mst_versions.specs.Writes.{rows_of, AreFound}
 use Rattle.mst_c.specs.Codes.{absent, short_room, closed, wrong_state, busy}
 use Rattle.mst_c.specs.declared.pass_box.State.{State}
 use Rattle.mst_c.specs.declared.pass_box.State.TheVariants.{Away, Free, Pinned}
-use Rattle.mst_c.specs.declared.pass_box.Uncounted.{Uncounted}
-use Rattle.mst_c.specs.declared.pass_box.Uncounted.TheVariants.{Pins, Busy}
+use Rattle.mst_c.specs.declared.pass_box.CountRefusal.{CountRefusal}
+use Rattle.mst_c.specs.declared.pass_box.CountRefusal.TheVariants.{Pins, Busy}
 use Rattle.mst_c.specs.Told.{room_after}
 
 -- The rows that are free are counted by a free pass where no other pass writes, with pinned
 -- versions too, in as many steps as the pass's contract says
-abbrev pub CountsFree : State → Result ℕ Uncounted → State → Type 0
+abbrev pub CountsFree : State → Result ℕ CountRefusal → State → Type 0
 CountsFree Away result s = ⊥
 CountsFree (Free p) (Ok free) s =
     (q : Known) × (s ≡ Free q) × Looks p q × AreFree free q
@@ -29,7 +29,7 @@ CountsFree (Pinned p) (Ok free) s = ⊥
 
 -- The versions that are found pinned are listed by a free pass where no other pass has the turn, in
 -- as many steps as the pass's contract says
-abbrev pub ListsPinned : State → Result (List ℕ) Uncounted → State → Type 0
+abbrev pub ListsPinned : State → Result (List ℕ) CountRefusal → State → Type 0
 ListsPinned Away result s = ⊥
 ListsPinned (Free p) (Ok versions) s =
     (q : Known) × (s ≡ Free q) × Looks p q × IsListing q.found versions
@@ -47,13 +47,13 @@ Knows Away made s = ⊥
 Knows (Free p) made s = (s ≡ Free p) × (made ≡ p.made)
 Knows (Pinned p) made s = (s ≡ Pinned p) × (made ≡ p.made)
 
-abbrev pub free_code : Result ℕ Uncounted → ℤ
+abbrev pub free_code : Result ℕ CountRefusal → ℤ
 free_code (Ok n) = pos 0
 free_code (Err Pins) = wrong_state
 free_code (Err Busy) = busy
 
 -- the free rows, where they were counted
-abbrev pub free_after : ℕ → Result ℕ Uncounted → ℕ
+abbrev pub free_after : ℕ → Result ℕ CountRefusal → ℕ
 free_after number (Ok n) = n
 free_after number (Err fault) = number
 
@@ -62,25 +62,25 @@ abbrev pub FreeRowsTold : Option State → ℕ → ℤ → ℕ → Option State 
 FreeRowsTold None number code number' hand =
     (code ≡ closed) × (number' ≡ number) × (hand ≡ None)
 FreeRowsTold (Some s) number code number' hand =
-    (r : Result ℕ Uncounted) × (t : State) × (hand ≡ Some t) × CountsFree s r t
+    (r : Result ℕ CountRefusal) × (t : State) × (hand ≡ Some t) × CountsFree s r t
     × (code ≡ free_code r) × (number' ≡ free_after number r)
 
-abbrev pub unlisted_code : Uncounted → ℤ
+abbrev pub unlisted_code : CountRefusal → ℤ
 unlisted_code Pins = wrong_state
 unlisted_code Busy = busy
 
 -- 0 for versions that there is room for, -2 if there is none
-abbrev pub versions_code : ℕ → Result (List ℕ) Uncounted → ℤ
+abbrev pub versions_code : ℕ → Result (List ℕ) CountRefusal → ℤ
 versions_code room (Ok versions) = if nat_lt room (length versions) then short_room else pos 0
 versions_code room (Err fault) = unlisted_code fault
 
 -- versions that there is room for stand first; all else stays
-abbrev pub versions_room : List ℕ → Result (List ℕ) Uncounted → List ℕ
+abbrev pub versions_room : List ℕ → Result (List ℕ) CountRefusal → List ℕ
 versions_room room (Ok versions) = room_after room (Some versions)
 versions_room room (Err fault) = room
 
 -- how many versions they are
-abbrev pub versions_count : ℕ → Result (List ℕ) Uncounted → ℕ
+abbrev pub versions_count : ℕ → Result (List ℕ) CountRefusal → ℕ
 versions_count count (Ok versions) = length versions
 versions_count count (Err fault) = count
 
@@ -89,7 +89,7 @@ abbrev pub PinnedVersionsTold : Option State → List ℕ → ℕ → ℤ → Li
 PinnedVersionsTold None room count code room' count' hand =
     (code ≡ closed) × (room' ≡ room) × (count' ≡ count) × (hand ≡ None)
 PinnedVersionsTold (Some s) room count code room' count' hand =
-    (r : Result (List ℕ) Uncounted) × (t : State) × (hand ≡ Some t) × ListsPinned s r t
+    (r : Result (List ℕ) CountRefusal) × (t : State) × (hand ≡ Some t) × ListsPinned s r t
     × (code ≡ versions_code (length room) r) × (room' ≡ versions_room room r)
     × (count' ≡ versions_count count r)
 

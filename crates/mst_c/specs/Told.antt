@@ -8,10 +8,10 @@ use Rattle.mst_node.specs.Trail.{proof_text}
 use Rattle.mst_versions.specs.declared.faults.WriteFault.TheVariants.{Busy, VersionsSpent, NoRoom}
 use Rattle.mst_c.specs.Codes.{absent, short_room, bad_key, bad_value, closed, wrong_state, memory, busy, versions_spent, no_free_rows, rows_pinned}
 use Rattle.mst_c.specs.declared.pass_box.State.{State}
-use Rattle.mst_c.specs.declared.pass_box.Unwritten.{Unwritten}
-use Rattle.mst_c.specs.declared.pass_box.Unwritten.TheVariants.{Pins, Store}
-use Rattle.mst_c.specs.declared.pass_box.Uncounted.{Uncounted}
-use Rattle.mst_c.specs.declared.pass_box.Uncounted.TheVariants as uncounted
+use Rattle.mst_c.specs.declared.pass_box.WriteRefusal.{WriteRefusal}
+use Rattle.mst_c.specs.declared.pass_box.WriteRefusal.TheVariants.{Pins, Store}
+use Rattle.mst_c.specs.declared.pass_box.CountRefusal.{CountRefusal}
+use Rattle.mst_c.specs.declared.pass_box.CountRefusal.TheVariants as count_refusal
 use Rattle.mst_c.specs.Holding.{Reads, Forgets, Writes, PinsNow, Unpins, Versions, Counts}
 
 -- the length of a value that there is room for, -2 where there is not, -1 for absence
@@ -25,17 +25,17 @@ room_after room (Some value) =
     if nat_lt (length room) (length value) then room else value ++ drop (length value) room
 room_after room None = room
 
-abbrev pub unwritten_code : Unwritten → ℤ
-unwritten_code Pins = wrong_state
-unwritten_code (Store Busy) = busy
-unwritten_code (Store VersionsSpent) = versions_spent
-unwritten_code (Store NoRoom) = no_free_rows
+abbrev pub write_refusal_code : WriteRefusal → ℤ
+write_refusal_code Pins = wrong_state
+write_refusal_code (Store Busy) = busy
+write_refusal_code (Store VersionsSpent) = versions_spent
+write_refusal_code (Store NoRoom) = no_free_rows
 
-abbrev pub write_code : ℕ → Result (Option (List ℕ)) Unwritten → ℤ
+abbrev pub write_code : ℕ → Result (Option (List ℕ)) WriteRefusal → ℤ
 write_code room (Ok old) = value_code room old
-write_code room (Err fault) = unwritten_code fault
+write_code room (Err fault) = write_refusal_code fault
 
-abbrev pub write_room : List ℕ → Result (Option (List ℕ)) Unwritten → List ℕ
+abbrev pub write_room : List ℕ → Result (Option (List ℕ)) WriteRefusal → List ℕ
 write_room room (Ok old) = room_after room old
 write_room room (Err fault) = room
 
@@ -64,7 +64,7 @@ PutTold None key value room code room' hand = Nothing closed None room code room
 PutTold (Some s) key value room code room' hand =
     (¬ (IsKey key) → Nothing bad_key (Some s) room code room' hand)
     × (IsKey key → ¬ (IsValue value) → Nothing bad_value (Some s) room code room' hand)
-    × (IsKey key → IsValue value → (r : Result (Option (List ℕ)) Unwritten) × (t : State)
+    × (IsKey key → IsValue value → (r : Result (Option (List ℕ)) WriteRefusal) × (t : State)
     × (hand ≡ Some t)
     × Writes (Put key value) s r t × (code ≡ write_code (length room) r)
     × (room' ≡ write_room room r))
@@ -127,7 +127,7 @@ abbrev pub RemoveTold : Option State → List ℕ → List ℕ → ℤ → List 
 RemoveTold None key room code room' hand = Nothing closed None room code room' hand
 RemoveTold (Some s) key room code room' hand =
     (¬ (IsKey key) → Nothing bad_key (Some s) room code room' hand)
-    × (IsKey key → (r : Result (Option (List ℕ)) Unwritten) × (t : State) × (hand ≡ Some t)
+    × (IsKey key → (r : Result (Option (List ℕ)) WriteRefusal) × (t : State) × (hand ≡ Some t)
     × Writes (Remove key) s r t × (code ≡ write_code (length room) r) × (room' ≡ write_room room r))
 
 -- -7 for an empty hand, otherwise the number of the version is written
@@ -142,14 +142,14 @@ LenTold None count code count' hand = (code ≡ closed) × (count' ≡ count) ×
 LenTold (Some s) count code count' hand =
     (t : State) × (hand ≡ Some t) × Reads (λ _ m. length m) s count' t × (code ≡ pos 0)
 
-abbrev pub count_code : Result (Option ℕ) Uncounted → ℤ
+abbrev pub count_code : Result (Option ℕ) CountRefusal → ℤ
 count_code (Ok (Some n)) = pos 0
 count_code (Ok None) = rows_pinned
-count_code (Err uncounted.Pins) = wrong_state
-count_code (Err uncounted.Busy) = busy
+count_code (Err count_refusal.Pins) = wrong_state
+count_code (Err count_refusal.Busy) = busy
 
 -- the rows that were counted, where they were
-abbrev pub count_after : ℕ → Result (Option ℕ) Uncounted → ℕ
+abbrev pub count_after : ℕ → Result (Option ℕ) CountRefusal → ℕ
 count_after number (Ok (Some n)) = n
 count_after number (Ok None) = number
 count_after number (Err fault) = number
@@ -158,7 +158,7 @@ count_after number (Err fault) = number
 abbrev pub RowsTold : Option State → ℕ → ℤ → ℕ → Option State → Type 0
 RowsTold None number code number' hand = (code ≡ closed) × (number' ≡ number) × (hand ≡ None)
 RowsTold (Some s) number code number' hand =
-    (r : Result (Option ℕ) Uncounted) × (t : State) × (hand ≡ Some t) × Counts s r t
+    (r : Result (Option ℕ) CountRefusal) × (t : State) × (hand ≡ Some t) × Counts s r t
     × (code ≡ count_code r) × (number' ≡ count_after number r)
 
 -- what bounds a key: none or the bytes of one; no bytes bind nothing

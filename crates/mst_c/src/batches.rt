@@ -7,7 +7,7 @@ use crate::codes::{
 };
 use crate::hand::{Hand, give, take};
 use crate::packing::{EditFault, Packed};
-use crate::pass_box::Unapplied;
+use crate::pass_box::ApplyRefusal;
 use mst_store::ApplyFault;
 use std::alloc::Global;
 
@@ -35,14 +35,14 @@ pub fn apply_fault_code(fault: ApplyFault) -> i32
 }
 
 /// The code of a batch.
-fn apply_code(applied: Result<(), Unapplied>) -> i32
+fn apply_code(applied: Result<(), ApplyRefusal>) -> i32
     ensures code { result ≡ code_of_applied applied }
 {
     match applied {
         Ok(()) => 0,
-        Err(Unapplied::Pins) => WRONG_STATE,
-        Err(Unapplied::Memory(_)) => MEMORY,
-        Err(Unapplied::Store(fault)) => apply_fault_code(fault),
+        Err(ApplyRefusal::Pins) => WRONG_STATE,
+        Err(ApplyRefusal::Memory(_)) => MEMORY,
+        Err(ApplyRefusal::Store(fault)) => apply_fault_code(fault),
     }
 }
 

@@ -6,7 +6,7 @@ use crate::codes::{
     BUSY, CLOSED, MEMORY, NO_FREE_ROWS, UNKNOWN_FORMAT, VERSIONS_SPENT, WRONG_STATE,
 };
 use crate::hand::{Hand, give, take};
-use crate::pass_box::Unmoved;
+use crate::pass_box::MigrateRefusal;
 use mst_key::Format;
 use mst_store::MigrateFault;
 use std::alloc::Global;
@@ -45,13 +45,13 @@ pub fn migrate_fault_code(fault: MigrateFault) -> i32
 }
 
 /// The code of a migration.
-fn move_code(moved: Result<Format, Unmoved>) -> i32
+fn move_code(moved: Result<Format, MigrateRefusal>) -> i32
     ensures code { result ≡ code_of_move moved }
 {
     match moved {
         Ok(was) => number_of(was),
-        Err(Unmoved::Pins) => WRONG_STATE,
-        Err(Unmoved::Store(fault)) => migrate_fault_code(fault),
+        Err(MigrateRefusal::Pins) => WRONG_STATE,
+        Err(MigrateRefusal::Store(fault)) => migrate_fault_code(fault),
     }
 }
 

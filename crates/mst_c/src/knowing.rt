@@ -5,11 +5,11 @@ ghost use Rattle.mst_c.specs.Knowing.{free_code, free_after, unlisted_code as co
 
 use crate::codes::{ABSENT, BUSY, CLOSED, SHORT_ROOM, WRONG_STATE};
 use crate::hand::{Hand, give, take};
-use crate::pass_box::Uncounted;
+use crate::pass_box::CountRefusal;
 use std::alloc::Global;
 
 /// The code of a count of the free rows. The count is written then, if there is one.
-fn tell_free(free: Result<u32, Uncounted>, count: &mut u32) -> i32
+fn tell_free(free: Result<u32, CountRefusal>, count: &mut u32) -> i32
     ensures code { result ≡ free_code free }
     ensures count { count.new ≡ free_after count.old free }
 {
@@ -18,8 +18,8 @@ fn tell_free(free: Result<u32, Uncounted>, count: &mut u32) -> i32
             *count = free;
             0
         }
-        Err(Uncounted::Pins) => WRONG_STATE,
-        Err(Uncounted::Busy) => BUSY,
+        Err(CountRefusal::Pins) => WRONG_STATE,
+        Err(CountRefusal::Busy) => BUSY,
     }
 }
 
@@ -58,12 +58,12 @@ fn tell_versions(versions: &[u64], room: &mut [u64], count: &mut usize) -> i32
 }
 
 /// The code of what was not listed.
-fn unlisted_code(fault: Uncounted) -> i32
+fn unlisted_code(fault: CountRefusal) -> i32
     ensures code { result ≡ code_of_unlisted fault }
 {
     match fault {
-        Uncounted::Pins => WRONG_STATE,
-        Uncounted::Busy => BUSY,
+        CountRefusal::Pins => WRONG_STATE,
+        CountRefusal::Busy => BUSY,
     }
 }
 

@@ -57,7 +57,7 @@ impl Model for PassBox {
 }
 
 /// Why nothing was written.
-pub enum Unwritten {
+pub enum WriteRefusal {
     /// The pass pins a version.
     Pins,
     /// The store refused it.
@@ -65,7 +65,7 @@ pub enum Unwritten {
 }
 
 /// Why the tree was not turned to a format.
-pub(crate) enum Unmoved {
+pub(crate) enum MigrateRefusal {
     /// The pass pins a version.
     Pins,
     /// The store refused it.
@@ -73,7 +73,7 @@ pub(crate) enum Unmoved {
 }
 
 /// Why no edit was made.
-pub(crate) enum Unapplied {
+pub(crate) enum ApplyRefusal {
     /// The pass pins a version.
     Pins,
     /// A growth of the list of the edits was refused.
@@ -83,7 +83,7 @@ pub(crate) enum Unapplied {
 }
 
 /// Why the rows were not counted.
-pub(crate) enum Uncounted {
+pub(crate) enum CountRefusal {
     /// The pass pins a version.
     Pins,
     /// Another pass has the turn.
@@ -343,7 +343,7 @@ impl PassBox {
     }
 
     /// How many rows the map takes, if the pass is free; none if a pin was found.
-    pub(crate) fn rows(&mut self) -> Result<Option<u32>, Uncounted>
+    pub(crate) fn rows(&mut self) -> Result<Option<u32>, CountRefusal>
         ensures counts { Counts self.old result self.new }
     {
         match replace(&mut self.state, State::Away) {
@@ -353,12 +353,12 @@ impl PassBox {
                 put_back(&mut self.state, State::Free(pass.lay()));
                 match rows {
                     Ok(found) => Ok(found),
-                    Err(Busy) => Err(Uncounted::Busy),
+                    Err(Busy) => Err(CountRefusal::Busy),
                 }
             }
             other => {
                 put_back(&mut self.state, other);
-                Err(Uncounted::Pins)
+                Err(CountRefusal::Pins)
             }
         }
     }

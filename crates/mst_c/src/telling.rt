@@ -1,13 +1,13 @@
 //! The calls as C is told of them.
 ghost use Rattle.std.specs.Prelude.{◌≡◌, ◌≤◌, ◌++◌, length, drop, Some, None, ◌↔◌, IsOk, IfOk};
-ghost use Rattle.mst_c.specs.Told.{value_code, room_after, unwritten_code as code_of_unwritten, done_code as code_of_done, bytes_code, GetTold, PutTold, RootTold, ProveTold, PinTold, UnpinTold, CloseTold, RemoveTold, VersionTold, LenTold, RowsTold, count_code, count_after, NextTold, IsBound, bound_of, pair_code, key_room_after, value_room_after, key_size_after};
+ghost use Rattle.mst_c.specs.Told.{value_code, room_after, write_refusal_code as code_of_refusal, done_code as code_of_done, bytes_code, GetTold, PutTold, RootTold, ProveTold, PinTold, UnpinTold, CloseTold, RemoveTold, VersionTold, LenTold, RowsTold, count_code, count_after, NextTold, IsBound, bound_of, pair_code, key_room_after, value_room_after, key_size_after};
 
 use crate::codes::{
     ABSENT, BAD_KEY, BAD_VALUE, BUSY, CLOSED, MEMORY, NO_FREE_ROWS, ROWS_PINNED, SHORT_ROOM,
     VERSIONS_SPENT, WRONG_STATE,
 };
 use crate::hand::{Hand, give, take};
-use crate::pass_box::{Uncounted, Unwritten};
+use crate::pass_box::{CountRefusal, WriteRefusal};
 use mst_key::{Key, KeySize, Value};
 use mst_store::WriteFault;
 use std::alloc::Global;
@@ -56,19 +56,19 @@ pub fn tell_proof(proof: &[u8], room: &mut [u8], size: &mut usize) -> i32
 }
 
 /// The code of what was not written.
-pub fn unwritten_code(fault: Unwritten) -> i32
-    ensures code { result ≡ code_of_unwritten fault }
+pub fn write_refusal_code(fault: WriteRefusal) -> i32
+    ensures code { result ≡ code_of_refusal fault }
 {
     match fault {
-        Unwritten::Pins => WRONG_STATE,
-        Unwritten::Store(WriteFault::Busy) => BUSY,
-        Unwritten::Store(WriteFault::VersionsSpent) => VERSIONS_SPENT,
-        Unwritten::Store(WriteFault::NoRoom) => NO_FREE_ROWS,
+        WriteRefusal::Pins => WRONG_STATE,
+        WriteRefusal::Store(WriteFault::Busy) => BUSY,
+        WriteRefusal::Store(WriteFault::VersionsSpent) => VERSIONS_SPENT,
+        WriteRefusal::Store(WriteFault::NoRoom) => NO_FREE_ROWS,
     }
 }
 
 /// The code of a count. The count is written then, if there is one.
-fn tell_rows(rows: Result<Option<u32>, Uncounted>, count: &mut u32) -> i32
+fn tell_rows(rows: Result<Option<u32>, CountRefusal>, count: &mut u32) -> i32
     ensures code { result ≡ count_code rows }
     ensures count { count.new ≡ count_after count.old rows }
 {
@@ -78,8 +78,8 @@ fn tell_rows(rows: Result<Option<u32>, Uncounted>, count: &mut u32) -> i32
             0
         }
         Ok(None) => ROWS_PINNED,
-        Err(Uncounted::Pins) => WRONG_STATE,
-        Err(Uncounted::Busy) => BUSY,
+        Err(CountRefusal::Pins) => WRONG_STATE,
+        Err(CountRefusal::Busy) => BUSY,
     }
 }
 
@@ -124,7 +124,7 @@ pub fn try_put(alloc: Global, hand: &mut Hand, key: &[u8], value: &[u8], room: &
     give(hand, taken);
     match wrote {
         Ok(old) => tell(&old, room),
-        Err(fault) => unwritten_code(fault),
+        Err(fault) => write_refusal_code(fault),
     }
 }
 
@@ -217,7 +217,7 @@ pub fn try_remove(alloc: Global, hand: &mut Hand, key: &[u8], room: &mut [u8]) -
     give(hand, taken);
     match wrote {
         Ok(old) => tell(&old, room),
-        Err(fault) => unwritten_code(fault),
+        Err(fault) => write_refusal_code(fault),
     }
 }
 

@@ -7,10 +7,10 @@ use Rattle.mst_blocks.specs.Blocks.{LeavesAll, RefusesPart}
 use Rattle.mst_parts.specs.Origins.{Origin, Begun, IsOf}
 use Rattle.mst_blocks.specs.declared.faults.BlockFault.{BlockFault}
 use Rattle.mst_blocks.specs.Writing.{block_map, RefusesBlock, HasMade}
-use Rattle.mst_c_blocks.specs.declared.begun.Unprepared.{Unprepared}
-use Rattle.mst_c_blocks.specs.declared.begun.Unprepared.TheVariants as unprepared
-use Rattle.mst_c_blocks.specs.declared.begun.Uncommitted.{Uncommitted}
-use Rattle.mst_c_blocks.specs.declared.begun.Uncommitted.TheVariants as uncommitted
+use Rattle.mst_c_blocks.specs.declared.begun.PartRefusal.{PartRefusal}
+use Rattle.mst_c_blocks.specs.declared.begun.PartRefusal.TheVariants as part_refusal
+use Rattle.mst_c_blocks.specs.declared.begun.CommitRefusal.{CommitRefusal}
+use Rattle.mst_c_blocks.specs.declared.begun.CommitRefusal.TheVariants as commit_refusal
 use Rattle.mst_c_blocks.specs.declared.role_box.Role.{Role}
 use Rattle.mst_c_blocks.specs.declared.role_box.Role.TheVariants.{Away, Writer, Reader, Snapshot, Block, Part}
 use Rattle.mst_c_blocks.specs.Making.{MakesBlock}
@@ -45,22 +45,22 @@ Begins edits (Part p) parts now = ⊥
 
 -- what comes of a part: it is prepared, or there was nothing to prepare; or its shard was refused
 -- its edits; or another call has it, or its block was made or taken back
-abbrev pub PreparesPart : Origin → Result (Unit {0}) Unprepared → Type 0
+abbrev pub PreparesPart : Origin → Result (Unit {0}) PartRefusal → Type 0
 PreparesPart o (Ok told) = Unit {0}
-PreparesPart o (Err unprepared.NoPart) = Unit {0}
-PreparesPart o (Err unprepared.Busy) = Unit {0}
-PreparesPart o (Err (unprepared.Refused fault)) =
+PreparesPart o (Err part_refusal.NoPart) = Unit {0}
+PreparesPart o (Err part_refusal.Busy) = Unit {0}
+PreparesPart o (Err (part_refusal.Refused fault)) =
     (0 < length o.edits) × ((q : Known) × RefusesPart fault o.edits o.pass q)
 
 -- what is no part is not prepared
-abbrev pub NoPartOf : Result (Unit {0}) Unprepared → Type 0
+abbrev pub NoPartOf : Result (Unit {0}) PartRefusal → Type 0
 NoPartOf (Ok told) = ⊥
-NoPartOf (Err unprepared.NoPart) = Unit {0}
-NoPartOf (Err unprepared.Busy) = ⊥
-NoPartOf (Err (unprepared.Refused fault)) = ⊥
+NoPartOf (Err part_refusal.NoPart) = Unit {0}
+NoPartOf (Err part_refusal.Busy) = ⊥
+NoPartOf (Err (part_refusal.Refused fault)) = ⊥
 
 -- Whatever comes of it, the part is the same: it has the pass and the edits with which it was begun
-abbrev pub Prepares : Role → Result (Unit {0}) Unprepared → Role → Type 0
+abbrev pub Prepares : Role → Result (Unit {0}) PartRefusal → Role → Type 0
 Prepares Away prepared now = ⊥
 Prepares (Writer w) prepared now = (now ≡ Writer w) × NoPartOf prepared
 Prepares (Reader r) prepared now = (now ≡ Reader r) × NoPartOf prepared
@@ -81,20 +81,20 @@ pub record StopsBlock (fault : BlockFault) (b : Begun) (v : Whole) : Type 0 wher
   pub same : (blocks : Blocks) → HasMade blocks b.writer → HasMade blocks v
 
 -- what is no block that was begun makes none
-abbrev pub NoBlockIn : Result ℕ Uncommitted → Type 0
+abbrev pub NoBlockIn : Result ℕ CommitRefusal → Type 0
 NoBlockIn (Ok n) = ⊥
-NoBlockIn (Err uncommitted.NoBlock) = Unit {0}
-NoBlockIn (Err uncommitted.Busy) = ⊥
-NoBlockIn (Err (uncommitted.Block fault)) = ⊥
+NoBlockIn (Err commit_refusal.NoBlock) = Unit {0}
+NoBlockIn (Err commit_refusal.Busy) = ⊥
+NoBlockIn (Err (commit_refusal.Block fault)) = ⊥
 
 -- or it stays, since a part of it is just being prepared
-abbrev pub Commits : Role → Result ℕ Uncommitted → Role → Type 0
+abbrev pub Commits : Role → Result ℕ CommitRefusal → Role → Type 0
 Commits Away made now = ⊥
 Commits (Block b) (Ok n) now = (v : Whole) × (now ≡ Writer v) × CommitsBlock b n v
-Commits (Block b) (Err (uncommitted.Block fault)) now =
+Commits (Block b) (Err (commit_refusal.Block fault)) now =
     (v : Whole) × (now ≡ Writer v) × StopsBlock fault b v
-Commits (Block b) (Err uncommitted.Busy) now = now ≡ Block b
-Commits (Block b) (Err uncommitted.NoBlock) now = ⊥
+Commits (Block b) (Err commit_refusal.Busy) now = now ≡ Block b
+Commits (Block b) (Err commit_refusal.NoBlock) now = ⊥
 Commits (Writer w) made now = (now ≡ Writer w) × NoBlockIn made
 Commits (Reader r) made now = (now ≡ Reader r) × NoBlockIn made
 Commits (Snapshot s) made now = (now ≡ Snapshot s) × NoBlockIn made

@@ -5,8 +5,8 @@ use Rattle.mst_versions.specs.declared.faults.Busy.{Busy as StoreBusy}
 use Rattle.mst_shards.specs.BlockHistory.{Whole}
 use Rattle.mst_blocks.specs.Counting.{Counts, CountsAt}
 use Rattle.mst_c.specs.Codes.{absent, closed, wrong_state, busy}
-use Rattle.mst_c_blocks.specs.declared.counting.Uncounted.{Uncounted}
-use Rattle.mst_c_blocks.specs.declared.counting.Uncounted.TheVariants.{NoWriter, NoShard, Busy}
+use Rattle.mst_c_blocks.specs.declared.counting.RowsRefusal.{RowsRefusal}
+use Rattle.mst_c_blocks.specs.declared.counting.RowsRefusal.TheVariants.{NoWriter, NoShard, Busy}
 use Rattle.mst_c_blocks.specs.declared.role_box.Role.{Role}
 use Rattle.mst_c_blocks.specs.declared.role_box.Role.TheVariants.{Away, Writer, Reader, Snapshot, Block, Part}
 use Rattle.mst_c_blocks.specs.Holding.{StaysWriter}
@@ -22,7 +22,7 @@ CountsIn shard counted w v =
 
 -- The writer counts the free rows of one of its stores, if there is one of this number and no other
 -- pass has its turn. What is no writer counts none
-abbrev pub CountsRows : ℕ → Role → Result ℕ Uncounted → Role → Type 0
+abbrev pub CountsRows : ℕ → Role → Result ℕ RowsRefusal → Role → Type 0
 CountsRows shard Away counted now = ⊥
 CountsRows shard (Writer w) (Ok free) now =
     (v : Whole) × (now ≡ Writer v) × StaysWriter w v × CountsIn shard (Ok free) w v
@@ -37,14 +37,14 @@ CountsRows shard (Snapshot s) counted now = (counted ≡ Err NoWriter) × (now �
 CountsRows shard (Block b) counted now = (counted ≡ Err NoWriter) × (now ≡ Block b)
 CountsRows shard (Part p) counted now = (counted ≡ Err NoWriter) × (now ≡ Part p)
 
-abbrev pub free_code : Result ℕ Uncounted → ℤ
+abbrev pub free_code : Result ℕ RowsRefusal → ℤ
 free_code (Ok n) = pos 0
 free_code (Err NoWriter) = wrong_state
 free_code (Err NoShard) = absent
 free_code (Err Busy) = busy
 
 -- the free rows, where they were counted
-abbrev pub free_after : ℕ → Result ℕ Uncounted → ℕ
+abbrev pub free_after : ℕ → Result ℕ RowsRefusal → ℕ
 free_after number (Ok n) = n
 free_after number (Err fault) = number
 
@@ -53,5 +53,5 @@ abbrev pub FreeRowsTold : Option Role → ℕ → ℕ → ℤ → ℕ → Option
 FreeRowsTold None shard number code number' hand =
     (code ≡ closed) × (number' ≡ number) × (hand ≡ None)
 FreeRowsTold (Some r) shard number code number' hand =
-    (counted : Result ℕ Uncounted) × (t : Role) × (hand ≡ Some t) × CountsRows shard r counted t
+    (counted : Result ℕ RowsRefusal) × (t : Role) × (hand ≡ Some t) × CountsRows shard r counted t
     × (code ≡ free_code counted) × (number' ≡ free_after number counted)

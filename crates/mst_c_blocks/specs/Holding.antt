@@ -12,10 +12,10 @@ use Rattle.mst_blocks.specs.Blocks.{last_made, LeavesAll}
 use Rattle.mst_blocks.specs.Writing.{last_block, block_map, IsWriter, HasMade}
 use Rattle.mst_c_blocks.specs.declared.role_box.Role.{Role}
 use Rattle.mst_c_blocks.specs.declared.role_box.Role.TheVariants.{Away, Writer, Reader, Snapshot, Block, Part}
-use Rattle.mst_c_blocks.specs.declared.asking.Unread.{Unread}
-use Rattle.mst_c_blocks.specs.declared.asking.Unread.TheVariants.{NoSnapshot, Memory}
-use Rattle.mst_c_blocks.specs.declared.asking.Unfound.{Unfound}
-use Rattle.mst_c_blocks.specs.declared.asking.Unfound.TheVariants.{Overtaken, NoMap}
+use Rattle.mst_c_blocks.specs.declared.asking.ReadRefusal.{ReadRefusal}
+use Rattle.mst_c_blocks.specs.declared.asking.ReadRefusal.TheVariants.{NoSnapshot, Memory}
+use Rattle.mst_c_blocks.specs.declared.asking.GetRefusal.{GetRefusal}
+use Rattle.mst_c_blocks.specs.declared.asking.GetRefusal.TheVariants.{Overtaken, NoMap}
 
 -- how many shards there are; of a block that was begun and of its parts it is not asked
 abbrev pub shards_in : Role → ℕ
@@ -98,7 +98,7 @@ pub record StaysWriter (w v : Whole) : Type 0 where
 -- The value of a key: the writer has it from the map of its last block, or tells that another has
 -- written to the key's shard; a reader's pass of that shard answers, for which it looks once; a
 -- snapshot has it from the map of its block
-abbrev pub Gets : List ℕ → Role → Result (Option (List ℕ)) Unfound → Role → Type 0
+abbrev pub Gets : List ℕ → Role → Result (Option (List ℕ)) GetRefusal → Role → Type 0
 Gets key Away answer now = ⊥
 Gets key (Writer w) (Err NoMap) now = ⊥
 Gets key (Writer w) (Err Overtaken) now = (v : Whole) × (now ≡ Writer v) × StaysWriter w v
@@ -137,7 +137,7 @@ Reads Says (Part p) None now = now ≡ Part p
 Reads Says (Part p) (Some answer) now = ⊥
 
 -- the same of an answer that takes memory, if no growth was refused
-abbrev pub Lists : {R : Type 0} → (Whole → R → Type 0) → Role → Result R Unread → Role → Type 0
+abbrev pub Lists : {R : Type 0} → (Whole → R → Type 0) → Role → Result R ReadRefusal → Role → Type 0
 Lists Says Away answer now = ⊥
 Lists Says (Writer w) (Err NoSnapshot) now = now ≡ Writer w
 Lists Says (Writer w) (Err (Memory refused)) now = ⊥

@@ -10,8 +10,8 @@ use Rattle.mst_c.specs.Codes.{closed, wrong_state, memory}
 use Rattle.mst_c.specs.Batches.{edits_in, fault_code, apply_fault_code}
 use Rattle.mst_c.specs.declared.packing.BadEdit.{BadEdit}
 use Rattle.mst_c_blocks.specs.Codes.{overtaken}
-use Rattle.mst_c_blocks.specs.declared.making.Unmade.{Unmade}
-use Rattle.mst_c_blocks.specs.declared.making.Unmade.TheVariants.{NoWriter, Memory, Block}
+use Rattle.mst_c_blocks.specs.declared.making.BlockRefusal.{BlockRefusal}
+use Rattle.mst_c_blocks.specs.declared.making.BlockRefusal.TheVariants.{NoWriter, Memory, Block}
 use Rattle.mst_c_blocks.specs.declared.role_box.Role.{Role}
 use Rattle.mst_c_blocks.specs.declared.role_box.Role.TheVariants.{Away, Writer, Reader, Snapshot}
 use Rattle.mst_c_blocks.specs.declared.role_box.Role.TheVariants as role
@@ -27,7 +27,7 @@ pub record MakesBlock (edits : List Edit) (number : ℕ) (w v : Whole) : Type 0 
 -- Or the block is refused: nothing is made, and the last block is the one that it was. A growth of
 -- the list of the edits may be refused before; then the writer has done nothing. What is no writer
 -- makes none
-abbrev pub Makes : List Edit → Role → Result ℕ Unmade → Role → Type 0
+abbrev pub Makes : List Edit → Role → Result ℕ BlockRefusal → Role → Type 0
 Makes edits Away made now = ⊥
 Makes edits (Writer w) (Ok n) now = (v : Whole) × (now ≡ Writer v) × MakesBlock edits n w v
 Makes edits (Writer w) (Err (Block fault)) now =
@@ -57,7 +57,7 @@ abbrev pub part_code : PartFault → ℤ
 part_code (Refused why) = apply_fault_code why
 part_code Overtaken = overtaken
 
-abbrev pub made_code : Result ℕ Unmade → ℤ
+abbrev pub made_code : Result ℕ BlockRefusal → ℤ
 made_code (Ok n) = pos 0
 made_code (Err NoWriter) = wrong_state
 made_code (Err (Memory refused)) = memory
@@ -66,13 +66,13 @@ made_code (Err (Block (variant.Shard stop why))) = part_code why
 made_code (Err (Block (variant.Directory why))) = part_code why
 
 -- the number of a block that was made
-abbrev pub made_number : ℕ → Result ℕ Unmade → ℕ
+abbrev pub made_number : ℕ → Result ℕ BlockRefusal → ℕ
 made_number number (Ok n) = n
 made_number number (Err why) = number
 
 -- of a block that was refused the shard that refused its part; the number of the shards, which is
 -- that of none, where it was the directory or a list
-abbrev pub refused_shard : ℕ → ℕ → Result ℕ Unmade → ℕ
+abbrev pub refused_shard : ℕ → ℕ → Result ℕ BlockRefusal → ℕ
 refused_shard shards shard (Ok n) = shard
 refused_shard shards shard (Err NoWriter) = shard
 refused_shard shards shard (Err (Memory refused)) = shards
@@ -87,7 +87,7 @@ SpeltTold (Err bad) r place shard number code place' shard' number' hand =
     (code ≡ fault_code bad.fault) × (place' ≡ bad.place) × (shard' ≡ shard) × (number' ≡ number)
     × (hand ≡ Some r)
 SpeltTold (Ok edits) r place shard number code place' shard' number' hand =
-    (made : Result ℕ Unmade) × (t : Role) × (hand ≡ Some t) × Makes edits r made t
+    (made : Result ℕ BlockRefusal) × (t : Role) × (hand ≡ Some t) × Makes edits r made t
     × (code ≡ made_code made) × (place' ≡ place)
     × (shard' ≡ refused_shard (shards_in r) shard made) × (number' ≡ made_number number made)
 

@@ -6,12 +6,12 @@ use Rattle.mst_c.specs.Codes.{closed, wrong_state, memory, bad_shape, busy}
 use Rattle.mst_c.specs.Batches.{fault_code}
 use Rattle.mst_c.specs.declared.packing.BadEdit.{BadEdit}
 use Rattle.mst_c.specs.Batches.{edits_in}
-use Rattle.mst_c_blocks.specs.declared.begun.Unprepared.{Unprepared}
-use Rattle.mst_c_blocks.specs.declared.begun.Unprepared.TheVariants.{NoPart, Busy, Refused}
-use Rattle.mst_c_blocks.specs.declared.begun.Uncommitted.{Uncommitted}
-use Rattle.mst_c_blocks.specs.declared.begun.Uncommitted.TheVariants as uncommitted
+use Rattle.mst_c_blocks.specs.declared.begun.PartRefusal.{PartRefusal}
+use Rattle.mst_c_blocks.specs.declared.begun.PartRefusal.TheVariants.{NoPart, Busy, Refused}
+use Rattle.mst_c_blocks.specs.declared.begun.CommitRefusal.{CommitRefusal}
+use Rattle.mst_c_blocks.specs.declared.begun.CommitRefusal.TheVariants as commit_refusal
 use Rattle.mst_c_blocks.specs.declared.hand.PaddedBlocksHand.{PaddedBlocksHand}
-use Rattle.mst_c_blocks.specs.declared.making.Unmade.TheVariants as unmade
+use Rattle.mst_c_blocks.specs.declared.making.BlockRefusal.TheVariants as block_refusal
 use Rattle.mst_c_blocks.specs.declared.role_box.Role.{Role}
 use Rattle.mst_c_blocks.specs.declared.role_box.Role.TheVariants.{Part}
 use Rattle.mst_c_blocks.specs.Begun.{shards_to_begin, Begins, Prepares, Commits, Cancels}
@@ -83,7 +83,7 @@ BeginTold (Some r) bytes place parts code place' hand' parts' =
 
 -- ---- preparing
 
-abbrev pub prepare_code : Result (Unit {0}) Unprepared → ℤ
+abbrev pub prepare_code : Result (Unit {0}) PartRefusal → ℤ
 prepare_code (Ok done) = pos 0
 prepare_code (Err NoPart) = wrong_state
 prepare_code (Err Busy) = busy
@@ -93,36 +93,36 @@ prepare_code (Err (Refused fault)) = part_code fault
 abbrev pub PrepareTold : Option Role → ℤ → Option Role → Type 0
 PrepareTold None code hand = (code ≡ closed) × (hand ≡ None)
 PrepareTold (Some r) code hand =
-    (a : Result (Unit {0}) Unprepared) × (t : Role) × (hand ≡ Some t) × Prepares r a t
+    (a : Result (Unit {0}) PartRefusal) × (t : Role) × (hand ≡ Some t) × Prepares r a t
     × (code ≡ prepare_code a)
 
 -- ---- the end
 
-abbrev pub commit_code : Result ℕ Uncommitted → ℤ
+abbrev pub commit_code : Result ℕ CommitRefusal → ℤ
 commit_code (Ok n) = pos 0
-commit_code (Err uncommitted.NoBlock) = wrong_state
-commit_code (Err uncommitted.Busy) = busy
-commit_code (Err (uncommitted.Block fault)) = made_code (Err (unmade.Block fault))
+commit_code (Err commit_refusal.NoBlock) = wrong_state
+commit_code (Err commit_refusal.Busy) = busy
+commit_code (Err (commit_refusal.Block fault)) = made_code (Err (block_refusal.Block fault))
 
 -- the number of a block that was made
-abbrev pub committed_number : ℕ → Result ℕ Uncommitted → ℕ
+abbrev pub committed_number : ℕ → Result ℕ CommitRefusal → ℕ
 committed_number number (Ok n) = n
 committed_number number (Err why) = number
 
 -- of a block that was refused the shard that refused its part, as of one that was not begun
-abbrev pub committed_shard : ℕ → ℕ → Result ℕ Uncommitted → ℕ
+abbrev pub committed_shard : ℕ → ℕ → Result ℕ CommitRefusal → ℕ
 committed_shard shards shard (Ok n) = shard
-committed_shard shards shard (Err uncommitted.NoBlock) = shard
-committed_shard shards shard (Err uncommitted.Busy) = shard
-committed_shard shards shard (Err (uncommitted.Block fault)) =
-    refused_shard shards shard (Err (unmade.Block fault))
+committed_shard shards shard (Err commit_refusal.NoBlock) = shard
+committed_shard shards shard (Err commit_refusal.Busy) = shard
+committed_shard shards shard (Err (commit_refusal.Block fault)) =
+    refused_shard shards shard (Err (block_refusal.Block fault))
 
 -- -7 for an empty hand, otherwise what became of the block
 abbrev pub CommitTold : Option Role → ℕ → ℕ → ℤ → ℕ → ℕ → Option Role → Type 0
 CommitTold None shard number code shard' number' hand =
     (code ≡ closed) × (shard' ≡ shard) × (number' ≡ number) × (hand ≡ None)
 CommitTold (Some r) shard number code shard' number' hand =
-    (a : Result ℕ Uncommitted) × (t : Role) × (hand ≡ Some t) × Commits r a t
+    (a : Result ℕ CommitRefusal) × (t : Role) × (hand ≡ Some t) × Commits r a t
     × (code ≡ commit_code a) × (shard' ≡ committed_shard (shards_in t) shard a)
     × (number' ≡ committed_number number a)
 

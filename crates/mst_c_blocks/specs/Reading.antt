@@ -10,8 +10,8 @@ use Rattle.mst_c.specs.Formats.{format_code}
 use Rattle.mst_c.specs.Ranges.{pairs_bytes, count_of}
 use Rattle.mst_c.specs.Told.{IsBound, bound_of, bytes_code, room_after, size_after, pair_code, key_room_after, value_room_after, key_size_after}
 use Rattle.mst_c_blocks.specs.declared.role_box.Role.{Role}
-use Rattle.mst_c_blocks.specs.declared.asking.Unread.{Unread}
-use Rattle.mst_c_blocks.specs.declared.asking.Unread.TheVariants.{NoSnapshot, Memory}
+use Rattle.mst_c_blocks.specs.declared.asking.ReadRefusal.{ReadRefusal}
+use Rattle.mst_c_blocks.specs.declared.asking.ReadRefusal.TheVariants.{NoSnapshot, Memory}
 use Rattle.mst_c_blocks.specs.Holding.{Reads, Lists}
 use Rattle.mst_c_blocks.specs.Told.{Nothing, number_code, number_after}
 
@@ -19,9 +19,9 @@ use Rattle.mst_c_blocks.specs.Told.{Nothing, number_code, number_after}
 abbrev pub OfMap : {R : Type 0} → (List Pair → R) → Whole → R → Type 0
 OfMap question s answer = answer ≡ question (map_of s.sharding)
 
-abbrev pub unread_code : Unread → ℤ
-unread_code NoSnapshot = wrong_state
-unread_code (Memory refused) = memory
+abbrev pub read_refusal_code : ReadRefusal → ℤ
+read_refusal_code NoSnapshot = wrong_state
+read_refusal_code (Memory refused) = memory
 
 -- ---- the next pair
 
@@ -51,12 +51,12 @@ NextTold (Some r) key keys size values code keys' size' values' hand =
 
 -- ---- ranges
 
-abbrev pub pairs_code : ℕ → Result (List Pair) Unread → ℤ
+abbrev pub pairs_code : ℕ → Result (List Pair) ReadRefusal → ℤ
 pairs_code room (Ok pairs) = bytes_code room (Some (pairs_bytes pairs))
-pairs_code room (Err fault) = unread_code fault
+pairs_code room (Err fault) = read_refusal_code fault
 
 -- the pairs that were found
-abbrev pub pairs_of : Result (List Pair) Unread → Option (List Pair)
+abbrev pub pairs_of : Result (List Pair) ReadRefusal → Option (List Pair)
 pairs_of (Ok pairs) = Some pairs
 pairs_of (Err fault) = None
 
@@ -74,7 +74,7 @@ RangeTold (Some r) from to limit room count size code room' count' size' hand =
     (¬ (IsBound from) → NoRange bad_key r room count size code room' count' size' hand)
     × (IsBound from → ¬ (IsBound to)
     → NoRange bad_key r room count size code room' count' size' hand)
-    × (IsBound from → IsBound to → (a : Result (List Pair) Unread) × (t : Role)
+    × (IsBound from → IsBound to → (a : Result (List Pair) ReadRefusal) × (t : Role)
     × (hand ≡ Some t)
     × Lists (OfMap (λ m. map_range m (bound_of from) (bound_of to) limit)) r a t
     × (code ≡ pairs_code (length room) a)

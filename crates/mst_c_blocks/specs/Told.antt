@@ -4,8 +4,8 @@ use Rattle.mst_key.specs.Bytes.{IsKey}
 use Rattle.mst_c.specs.Codes.{short_room, bad_key, closed, wrong_state}
 use Rattle.mst_c.specs.Told.{value_code, room_after, done_code}
 use Rattle.mst_c_blocks.specs.Codes.{moving, overtaken}
-use Rattle.mst_c_blocks.specs.declared.asking.Unfound.{Unfound}
-use Rattle.mst_c_blocks.specs.declared.asking.Unfound.TheVariants.{Overtaken, NoMap}
+use Rattle.mst_c_blocks.specs.declared.asking.GetRefusal.{GetRefusal}
+use Rattle.mst_c_blocks.specs.declared.asking.GetRefusal.TheVariants.{Overtaken, NoMap}
 use Rattle.mst_c_blocks.specs.declared.role_box.Role.{Role}
 use Rattle.mst_c_blocks.specs.Holding.{shards_in, Numbers, HasRoot, Tries, Releases, Gets}
 
@@ -83,12 +83,12 @@ CloseTold (Some r) code hand = (code ≡ pos 0) × (hand ≡ None)
 
 -- ---- values
 
-abbrev pub get_code : ℕ → Result (Option (List ℕ)) Unfound → ℤ
+abbrev pub get_code : ℕ → Result (Option (List ℕ)) GetRefusal → ℤ
 get_code room (Ok answer) = value_code room answer
 get_code room (Err Overtaken) = overtaken
 get_code room (Err NoMap) = wrong_state
 
-abbrev pub get_room : List ℕ → Result (Option (List ℕ)) Unfound → List ℕ
+abbrev pub get_room : List ℕ → Result (Option (List ℕ)) GetRefusal → List ℕ
 get_room room (Ok answer) = room_after room answer
 get_room room (Err why) = room
 
@@ -98,5 +98,5 @@ abbrev pub GetTold : Option Role → List ℕ → List ℕ → ℤ → List ℕ 
 GetTold None key room code room' hand = Nothing closed None room code room' hand
 GetTold (Some r) key room code room' hand =
     (¬ (IsKey key) → Nothing bad_key (Some r) room code room' hand)
-    × (IsKey key → (a : Result (Option (List ℕ)) Unfound) × (t : Role) × (hand ≡ Some t)
+    × (IsKey key → (a : Result (Option (List ℕ)) GetRefusal) × (t : Role) × (hand ≡ Some t)
     × Gets key r a t × (code ≡ get_code (length room) a) × (room' ≡ get_room room a))

@@ -10,7 +10,7 @@ use mst_key::{Key, Memory, Value};
 use std::alloc::Global;
 
 /// Why an answer was not made.
-pub(crate) enum Unread {
+pub(crate) enum ReadRefusal {
     /// The hand holds no snapshot.
     NoSnapshot,
     /// A growth was refused.
@@ -18,7 +18,7 @@ pub(crate) enum Unread {
 }
 
 /// Why the value of a key was not looked up.
-pub(crate) enum Unfound {
+pub(crate) enum GetRefusal {
     /// Another than the writer has written to the key's shard.
     Overtaken,
     /// The hand holds a block that was begun, or a part of one.
@@ -42,11 +42,14 @@ pub(crate) fn try_of(role: Role) -> (Role, Option<bool>)
 
 /// The value of a key in the writer's last block. There is no answer if another has written to the
 /// key's shard.
-pub(crate) fn last_value(writer: &mut Writer<Global>, key: &Key) -> Result<Option<Value>, Unfound>
+pub(crate) fn last_value(
+    writer: &mut Writer<Global>,
+    key: &Key,
+) -> Result<Option<Value>, GetRefusal>
     ensures gets { Gets key.now (role.Writer writer.old) result (role.Writer writer.new) }
 {
     match writer.get(key) {
         Ok(found) => Ok(found),
-        Err(_) => Err(Unfound::Overtaken),
+        Err(_) => Err(GetRefusal::Overtaken),
     }
 }

@@ -36,7 +36,7 @@ impl Model for BegunBlock {
 }
 
 /// Why a part was not prepared.
-pub(crate) enum Unprepared {
+pub(crate) enum PartRefusal {
     /// It is no part, or its block was made or taken back.
     NoPart,
     /// Another call has the part.
@@ -46,7 +46,7 @@ pub(crate) enum Unprepared {
 }
 
 /// Why a block was not made.
-pub(crate) enum Uncommitted {
+pub(crate) enum CommitRefusal {
     /// The hand does not hold a block that was begun.
     NoBlock,
     /// A part is just being prepared.
@@ -114,7 +114,7 @@ pub(crate) fn begin(
 // ---- preparing
 
 /// Prepares the part, if it is at home.
-fn prepare_share(share: PartShare, alloc: Global) -> (PartShare, Result<(), Unprepared>)
+fn prepare_share(share: PartShare, alloc: Global) -> (PartShare, Result<(), PartRefusal>)
     ensures prepares { Prepares (role.Part (Some share)) result.1 (role.Part (Some result.0)) }
 {
     match share.borrow() {
@@ -123,17 +123,17 @@ fn prepare_share(share: PartShare, alloc: Global) -> (PartShare, Result<(), Unpr
             let refusal = part.refusal();
             let share = lent.give_back(part);
             match refusal {
-                Some(fault) => (share, Err(Unprepared::Refused(fault))),
+                Some(fault) => (share, Err(PartRefusal::Refused(fault))),
                 None => (share, Ok(())),
             }
         }
-        Err((share, Unavailable::Lent)) => (share, Err(Unprepared::Busy)),
-        Err((share, Unavailable::Spent)) => (share, Err(Unprepared::NoPart)),
+        Err((share, Unavailable::Lent)) => (share, Err(PartRefusal::Busy)),
+        Err((share, Unavailable::Spent)) => (share, Err(PartRefusal::NoPart)),
     }
 }
 
 /// Prepares the part, if this is one.
-pub(crate) fn prepare(held: Role, alloc: Global) -> (Role, Result<(), Unprepared>)
+pub(crate) fn prepare(held: Role, alloc: Global) -> (Role, Result<(), PartRefusal>)
     requires there { IsThere held }
     ensures prepares { Prepares held result.1 result.0 }
     ensures there { IsThere result.0 }
@@ -143,14 +143,14 @@ pub(crate) fn prepare(held: Role, alloc: Global) -> (Role, Result<(), Unprepared
             let (share, prepared) = prepare_share(share, alloc);
             (Role::Part(Some(share)), prepared)
         }
-        other => (other, Err(Unprepared::NoPart)),
+        other => (other, Err(PartRefusal::NoPart)),
     }
 }
 
 // ---- the end
 
 /// Makes the block of its parts, if all are at home.
-fn commit_block(begun: BegunBlock, alloc: Global) -> (Role, Result<u64, Uncommitted>)
+fn commit_block(begun: BegunBlock, alloc: Global) -> (Role, Result<u64, CommitRefusal>)
     ensures commits { Commits (role.Block begun) result.1 result.0 }
     ensures there { IsThere result.0 }
 {
@@ -160,25 +160,25 @@ fn commit_block(begun: BegunBlock, alloc: Global) -> (Role, Result<u64, Uncommit
             let (writer, made) = block.commit(alloc, parts);
             match made {
                 Ok(number) => (Role::Writer(writer), Ok(number)),
-                Err(fault) => (Role::Writer(writer), Err(Uncommitted::Block(fault))),
+                Err(fault) => (Role::Writer(writer), Err(CommitRefusal::Block(fault))),
             }
         }
         Err(shares) => (
             Role::Block(BegunBlock { block, shares }),
-            Err(Uncommitted::Busy),
+            Err(CommitRefusal::Busy),
         ),
     }
 }
 
 /// Makes the block, if this is one that was begun.
-pub(crate) fn commit(held: Role, alloc: Global) -> (Role, Result<u64, Uncommitted>)
+pub(crate) fn commit(held: Role, alloc: Global) -> (Role, Result<u64, CommitRefusal>)
     requires there { IsThere held }
     ensures commits { Commits held result.1 result.0 }
     ensures there { IsThere result.0 }
 {
     match held {
         Role::Block(begun) => commit_block(begun, alloc),
-        other => (other, Err(Uncommitted::NoBlock)),
+        other => (other, Err(CommitRefusal::NoBlock)),
     }
 }
 

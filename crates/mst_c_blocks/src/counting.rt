@@ -9,7 +9,7 @@ use mst_c::codes::{ABSENT, BUSY, CLOSED, WRONG_STATE};
 use std::alloc::Global;
 
 /// Why the rows were not counted.
-pub(crate) enum Uncounted {
+pub(crate) enum RowsRefusal {
     /// The hand does not hold the writer.
     NoWriter,
     /// There is no such shard.
@@ -19,29 +19,29 @@ pub(crate) enum Uncounted {
 }
 
 /// How many rows are free in a shard.
-fn free_in_shard(writer: &mut Writer<Global>, shard: usize) -> Result<u32, Uncounted>
+fn free_in_shard(writer: &mut Writer<Global>, shard: usize) -> Result<u32, RowsRefusal>
     requires there { shard < length writer.old.sharding.shards }
     ensures counts { CountsRows shard (role.Writer writer.old) result (role.Writer writer.new) }
 {
     match writer.free_rows(shard) {
         Ok(free) => Ok(free),
-        Err(_busy) => Err(Uncounted::Busy),
+        Err(_busy) => Err(RowsRefusal::Busy),
     }
 }
 
 /// How many rows are free in the directory, which has the number of the shards.
-fn free_in_directory(writer: &mut Writer<Global>) -> Result<u32, Uncounted>
+fn free_in_directory(writer: &mut Writer<Global>) -> Result<u32, RowsRefusal>
     ensures counts { CountsRows (length writer.old.sharding.shards) (role.Writer writer.old) result
         (role.Writer writer.new) }
 {
     match writer.directory_free_rows() {
         Ok(free) => Ok(free),
-        Err(_busy) => Err(Uncounted::Busy),
+        Err(_busy) => Err(RowsRefusal::Busy),
     }
 }
 
 /// How many rows are free in the shard with this number, or in the directory.
-pub(crate) fn free_in(writer: &mut Writer<Global>, shard: usize) -> Result<u32, Uncounted>
+pub(crate) fn free_in(writer: &mut Writer<Global>, shard: usize) -> Result<u32, RowsRefusal>
     ensures counts { CountsRows shard (role.Writer writer.old) result (role.Writer writer.new) }
 {
     let shards = writer.shards();
@@ -50,12 +50,12 @@ pub(crate) fn free_in(writer: &mut Writer<Global>, shard: usize) -> Result<u32, 
     } else if shard == shards {
         free_in_directory(writer)
     } else {
-        Err(Uncounted::NoShard)
+        Err(RowsRefusal::NoShard)
     }
 }
 
 /// The code of a count of free rows. The count is written then, if there is one.
-fn tell_free(counted: Result<u32, Uncounted>, count: &mut u32) -> i32
+fn tell_free(counted: Result<u32, RowsRefusal>, count: &mut u32) -> i32
     ensures code { result ≡ free_code counted }
     ensures count { count.new ≡ free_after count.old counted }
 {
@@ -64,9 +64,9 @@ fn tell_free(counted: Result<u32, Uncounted>, count: &mut u32) -> i32
             *count = free;
             0
         }
-        Err(Uncounted::NoWriter) => WRONG_STATE,
-        Err(Uncounted::NoShard) => ABSENT,
-        Err(Uncounted::Busy) => BUSY,
+        Err(RowsRefusal::NoWriter) => WRONG_STATE,
+        Err(RowsRefusal::NoShard) => ABSENT,
+        Err(RowsRefusal::Busy) => BUSY,
     }
 }
 

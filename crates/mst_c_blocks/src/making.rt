@@ -15,7 +15,7 @@ use mst_key::Memory;
 use std::alloc::Global;
 
 /// Why a block was not made.
-pub(crate) enum Unmade {
+pub(crate) enum BlockRefusal {
     /// The hand does not hold the writer.
     NoWriter,
     /// The growth of the list of the edits was refused.
@@ -29,22 +29,26 @@ fn make_block(
     writer: Writer<Global>,
     alloc: Global,
     packed: &Packed<'_>,
-) -> (Writer<Global>, Result<u64, Unmade>)
+) -> (Writer<Global>, Result<u64, BlockRefusal>)
     ensures makes { Makes packed.now (role.Writer writer) result.1 (role.Writer result.0) }
 {
     let edits = match packed.edits(alloc) {
         Ok(edits) => edits,
-        Err(refused) => return (writer, Err(Unmade::Memory(refused))),
+        Err(refused) => return (writer, Err(BlockRefusal::Memory(refused))),
     };
     let (writer, made) = writer.apply(alloc, edits.as_slice());
     match made {
         Ok(number) => (writer, Ok(number)),
-        Err(fault) => (writer, Err(Unmade::Block(fault))),
+        Err(fault) => (writer, Err(BlockRefusal::Block(fault))),
     }
 }
 
 /// Makes the edits of a buffer as the next block, if this is the writer.
-pub(crate) fn apply(held: Role, alloc: Global, packed: &Packed<'_>) -> (Role, Result<u64, Unmade>)
+pub(crate) fn apply(
+    held: Role,
+    alloc: Global,
+    packed: &Packed<'_>,
+) -> (Role, Result<u64, BlockRefusal>)
     requires there { IsThere held }
     ensures makes { Makes packed.now held result.1 result.0 }
     ensures there { IsThere result.0 }
@@ -54,7 +58,7 @@ pub(crate) fn apply(held: Role, alloc: Global, packed: &Packed<'_>) -> (Role, Re
             let (writer, made) = make_block(writer, alloc, packed);
             (Role::Writer(writer), made)
         }
-        other => (other, Err(Unmade::NoWriter)),
+        other => (other, Err(BlockRefusal::NoWriter)),
     }
 }
 
@@ -71,7 +75,7 @@ pub(crate) fn part_code(fault: PartFault) -> i32
 /// The code of a block of a map with so many shards. Its number is written if it is made. If it is
 /// refused, the number of the shard that refused its part is, or that of the shards.
 pub(crate) fn tell_made(
-    made: Result<u64, Unmade>,
+    made: Result<u64, BlockRefusal>,
     shards: usize,
     shard: &mut usize,
     number: &mut u64,
@@ -85,20 +89,20 @@ pub(crate) fn tell_made(
             *number = block;
             0
         }
-        Err(Unmade::NoWriter) => WRONG_STATE,
-        Err(Unmade::Memory(_)) => {
+        Err(BlockRefusal::NoWriter) => WRONG_STATE,
+        Err(BlockRefusal::Memory(_)) => {
             *shard = shards;
             MEMORY
         }
-        Err(Unmade::Block(BlockFault::Memory(_))) => {
+        Err(BlockRefusal::Block(BlockFault::Memory(_))) => {
             *shard = shards;
             MEMORY
         }
-        Err(Unmade::Block(BlockFault::Shard(stop, fault))) => {
+        Err(BlockRefusal::Block(BlockFault::Shard(stop, fault))) => {
             *shard = stop;
             part_code(fault)
         }
-        Err(Unmade::Block(BlockFault::Directory(fault))) => {
+        Err(BlockRefusal::Block(BlockFault::Directory(fault))) => {
             *shard = shards;
             part_code(fault)
         }

@@ -6,9 +6,9 @@ ghost use Rattle.mst_c_blocks.specs.Opened.{NoneHeld};
 ghost use Rattle.mst_c_blocks.specs.Parts.{WaitsIn, AllWait, AreHanded, BegunBy, SpeltBegin, begin_code as code_of_begin, prepare_code as code_of_prepare, commit_code, committed_shard, committed_number, cancel_code as code_of_cancel, BeginTold, PrepareTold, CommitTold, CancelTold};
 ghost use Rattle.mst_c_blocks.specs.declared.role_box.Role.TheVariants as role;
 
-use crate::begun::{PartShare, Uncommitted, Unprepared};
+use crate::begun::{CommitRefusal, PartRefusal, PartShare};
 use crate::hand::{BlocksHand, BlocksTaken, PaddedBlocksHand, give, take};
-use crate::making::{Unmade, part_code, tell_made};
+use crate::making::{BlockRefusal, part_code, tell_made};
 use crate::opening::close_all;
 use crate::role_box::{Role, hand_out_padded};
 use mst_c::batches::fault_code;
@@ -156,14 +156,14 @@ pub fn begin(
 // ---- preparing
 
 /// The code of what came of a part.
-fn prepare_code(prepared: Result<(), Unprepared>) -> i32
+fn prepare_code(prepared: Result<(), PartRefusal>) -> i32
     ensures code { result ≡ code_of_prepare prepared }
 {
     match prepared {
         Ok(()) => 0,
-        Err(Unprepared::NoPart) => WRONG_STATE,
-        Err(Unprepared::Busy) => BUSY,
-        Err(Unprepared::Refused(fault)) => part_code(fault),
+        Err(PartRefusal::NoPart) => WRONG_STATE,
+        Err(PartRefusal::Busy) => BUSY,
+        Err(PartRefusal::Refused(fault)) => part_code(fault),
     }
 }
 
@@ -184,7 +184,7 @@ pub fn prepare(alloc: Global, hand: &mut BlocksHand) -> i32
 /// The code of a block that was begun, of a map with so many shards. Its number is written if it is
 /// made. If it is refused, the number of the shard that refused its part is, or that of the shards.
 fn tell_committed(
-    made: Result<u64, Uncommitted>,
+    made: Result<u64, CommitRefusal>,
     shards: usize,
     shard: &mut usize,
     number: &mut u64,
@@ -195,10 +195,10 @@ fn tell_committed(
 {
     match made {
         Ok(block) => tell_made(Ok(block), shards, shard, number),
-        Err(Uncommitted::NoBlock) => WRONG_STATE,
-        Err(Uncommitted::Busy) => BUSY,
-        Err(Uncommitted::Block(fault)) => {
-            tell_made(Err(Unmade::Block(fault)), shards, shard, number)
+        Err(CommitRefusal::NoBlock) => WRONG_STATE,
+        Err(CommitRefusal::Busy) => BUSY,
+        Err(CommitRefusal::Block(fault)) => {
+            tell_made(Err(BlockRefusal::Block(fault)), shards, shard, number)
         }
     }
 }

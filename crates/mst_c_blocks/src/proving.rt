@@ -4,7 +4,7 @@ ghost use Rattle.mst_c_blocks.specs.Proving.{ProveTold, DirectoryTold};
 ghost use Rattle.mst_c_blocks.specs.Told.{root_code, root_room, RootTold};
 
 use crate::hand::{BlocksHand, give, take};
-use crate::reading::unread_code;
+use crate::reading::read_refusal_code;
 use mst_c::codes::{BAD_KEY, CLOSED, SHORT_ROOM, WRONG_STATE};
 use mst_c::ranging::tell_pairs;
 use mst_c::telling::{ROOT_LENGTH, tell_proof, write_first};
@@ -62,7 +62,7 @@ pub fn prove(
     give(hand, taken);
     match found {
         Ok(proof) => tell_proof(proof.as_slice(), room, size),
-        Err(fault) => unread_code(fault),
+        Err(fault) => read_refusal_code(fault),
     }
 }
 
@@ -84,6 +84,6 @@ pub fn directory(
     give(hand, taken);
     match found {
         Ok(pairs) => tell_pairs(pairs.as_slice(), room, count, size),
-        Err(fault) => unread_code(fault),
+        Err(fault) => read_refusal_code(fault),
     }
 }

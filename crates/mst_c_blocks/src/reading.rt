@@ -1,9 +1,9 @@
 //! What only a snapshot reads, as C is told of it.
 ghost use Rattle.std.specs.Prelude.{◌≡◌, ◌<◌, Some, length};
 ghost use Rattle.mst_c.specs.Told.{key_room_after, value_room_after, key_size_after};
-ghost use Rattle.mst_c_blocks.specs.Reading.{unread_code as code_of_unread, next_code, next_of, one_format_code, NextTold, RangeTold, LenTold, FormatTold};
+ghost use Rattle.mst_c_blocks.specs.Reading.{read_refusal_code as code_of_refusal, next_code, next_of, one_format_code, NextTold, RangeTold, LenTold, FormatTold};
 
-use crate::asking::Unread;
+use crate::asking::ReadRefusal;
 use crate::hand::{BlocksHand, give, take};
 use crate::telling::tell_number;
 use mst_c::codes::{BAD_KEY, CLOSED, MEMORY, WRONG_STATE};
@@ -14,12 +14,12 @@ use mst_key::{Format, Key, Value};
 use std::alloc::Global;
 
 /// The code of an answer that was not made.
-pub(crate) fn unread_code(fault: Unread) -> i32
-    ensures code { result ≡ code_of_unread fault }
+pub(crate) fn read_refusal_code(fault: ReadRefusal) -> i32
+    ensures code { result ≡ code_of_refusal fault }
 {
     match fault {
-        Unread::NoSnapshot => WRONG_STATE,
-        Unread::Memory(_) => MEMORY,
+        ReadRefusal::NoSnapshot => WRONG_STATE,
+        ReadRefusal::Memory(_) => MEMORY,
     }
 }
 
@@ -97,7 +97,7 @@ pub fn range(
     give(hand, taken);
     match found {
         Ok(pairs) => tell_pairs(pairs.as_slice(), room, count, size),
-        Err(fault) => unread_code(fault),
+        Err(fault) => read_refusal_code(fault),
     }
 }
 

@@ -12,13 +12,13 @@ ghost use Rattle.mst_c_blocks.specs.Proving.{HasProof, HasDirectory};
 ghost use Rattle.mst_c_blocks.specs.Reading.{OfMap, HasFormat};
 ghost use Rattle.mst_c_blocks.specs.States.{IsThere, PinsNone};
 
-use crate::asking::{Unfound, Unread, last_value, try_of};
+use crate::asking::{GetRefusal, ReadRefusal, last_value, try_of};
 use crate::begun::{
-    BegunBlock, PartShare, Uncommitted, Unprepared, begin, cancel, commit, prepare,
+    BegunBlock, CommitRefusal, PartRefusal, PartShare, begin, cancel, commit, prepare,
 };
-use crate::counting::{Uncounted, free_in};
+use crate::counting::{RowsRefusal, free_in};
 use crate::hand::{BlocksHand, BlocksTaken, PaddedBlocksHand, give};
-use crate::making::{Unmade, apply};
+use crate::making::{BlockRefusal, apply};
 use mst_blocks::Writer;
 use mst_c::packing::Packed;
 use mst_key::{Format, Key, Value};
@@ -140,7 +140,7 @@ impl RoleBox {
     }
 
     /// Makes the edits of a buffer as the next block, if this is the writer.
-    pub(crate) fn apply(&mut self, alloc: Global, packed: &Packed<'_>) -> Result<u64, Unmade>
+    pub(crate) fn apply(&mut self, alloc: Global, packed: &Packed<'_>) -> Result<u64, BlockRefusal>
         ensures makes { Makes packed.now self.old result self.new }
     {
         let (role, made) = apply(replace(&mut self.role, Role::Away), alloc, packed);
@@ -185,7 +185,7 @@ impl RoleBox {
     }
 
     /// Prepares the part, if this is one.
-    pub(crate) fn prepare(&mut self, alloc: Global) -> Result<(), Unprepared>
+    pub(crate) fn prepare(&mut self, alloc: Global) -> Result<(), PartRefusal>
         ensures prepares { Prepares self.old result self.new }
     {
         let (role, prepared) = prepare(replace(&mut self.role, Role::Away), alloc);
@@ -194,7 +194,7 @@ impl RoleBox {
     }
 
     /// Makes the block, if this is one that was begun.
-    pub(crate) fn commit(&mut self, alloc: Global) -> Result<u64, Uncommitted>
+    pub(crate) fn commit(&mut self, alloc: Global) -> Result<u64, CommitRefusal>
         ensures commits { Commits self.old result self.new }
     {
         let (role, made) = commit(replace(&mut self.role, Role::Away), alloc);
@@ -238,25 +238,25 @@ impl RoleBox {
     }
 
     /// The value of a key. The writer may have no answer: if another has written.
-    pub(crate) fn get(&mut self, key: &Key) -> Result<Option<Value>, Unfound>
+    pub(crate) fn get(&mut self, key: &Key) -> Result<Option<Value>, GetRefusal>
         ensures gets { Gets key.now self.old result self.new }
     {
         match &mut self.role {
             Role::Writer(writer) => last_value(writer, key),
             Role::Reader(reader) => Ok(reader.get(key)),
             Role::Snapshot(snapshot) => Ok(snapshot.get(key)),
-            _ => Err(Unfound::NoMap),
+            _ => Err(GetRefusal::NoMap),
         }
     }
 
     /// How many rows are free in the shard with this number, or in the directory, if this is the
     /// writer.
-    pub(crate) fn free_rows(&mut self, shard: usize) -> Result<u32, Uncounted>
+    pub(crate) fn free_rows(&mut self, shard: usize) -> Result<u32, RowsRefusal>
         ensures counts { CountsRows shard self.old result self.new }
     {
         match &mut self.role {
             Role::Writer(writer) => free_in(writer, shard),
-            _ => Err(Uncounted::NoWriter),
+            _ => Err(RowsRefusal::NoWriter),
         }
     }
 
@@ -300,7 +300,7 @@ impl RoleBox {
         from: Option<&Key>,
         to: Option<&Key>,
         limit: usize,
-    ) -> Result<Vec<(Key, Value), Global>, Unread>
+    ) -> Result<Vec<(Key, Value), Global>, ReadRefusal>
         ensures ok { IfOk result (λ pairs. Lists
             (OfMap (λ m. map_range m (option_copied from.entry) (option_copied to.entry) limit))
             self.old (Ok pairs.items) self.new) }
@@ -312,14 +312,14 @@ impl RoleBox {
         match &mut self.role {
             Role::Snapshot(snapshot) => match snapshot.range(alloc, from, to, limit) {
                 Ok(pairs) => Ok(pairs),
-                Err(refused) => Err(Unread::Memory(refused)),
+                Err(refused) => Err(ReadRefusal::Memory(refused)),
             },
-            _ => Err(Unread::NoSnapshot),
+            _ => Err(ReadRefusal::NoSnapshot),
         }
     }
 
     /// The proof of the key's answer, of a snapshot.
-    pub(crate) fn prove(&mut self, alloc: Global, key: &Key) -> Result<Vec<u8, Global>, Unread>
+    pub(crate) fn prove(&mut self, alloc: Global, key: &Key) -> Result<Vec<u8, Global>, ReadRefusal>
         ensures ok { IfOk result
             (λ bytes. Lists (HasProof key.now) self.old (Ok bytes.items) self.new) }
         ensures err { IfErr result
@@ -328,15 +328,18 @@ impl RoleBox {
         match &mut self.role {
             Role::Snapshot(snapshot) => match snapshot.prove(alloc, key) {
                 Ok(proof) => Ok(proof),
-                Err(refused) => Err(Unread::Memory(refused)),
+                Err(refused) => Err(ReadRefusal::Memory(refused)),
             },
-            _ => Err(Unread::NoSnapshot),
+            _ => Err(ReadRefusal::NoSnapshot),
         }
     }
 
     /// The directory: of each shard its lower bound with the root digest and the upper bound, of a
     /// snapshot.
-    pub(crate) fn directory(&mut self, alloc: Global) -> Result<Vec<(Key, Value), Global>, Unread>
+    pub(crate) fn directory(
+        &mut self,
+        alloc: Global,
+    ) -> Result<Vec<(Key, Value), Global>, ReadRefusal>
         ensures ok { IfOk result (λ pairs. Lists HasDirectory self.old (Ok pairs.items) self.new) }
         ensures few { IfOk result (λ pairs. length pairs.items ≤ 1024) }
         ensures err { IfErr result (λ fault. Lists HasDirectory self.old (Err fault) self.new) }
@@ -344,9 +347,9 @@ impl RoleBox {
         match &mut self.role {
             Role::Snapshot(snapshot) => match snapshot.directory(alloc) {
                 Ok(pairs) => Ok(pairs),
-                Err(refused) => Err(Unread::Memory(refused)),
+                Err(refused) => Err(ReadRefusal::Memory(refused)),
             },
-            _ => Err(Unread::NoSnapshot),
+            _ => Err(ReadRefusal::NoSnapshot),
         }
     }
 }

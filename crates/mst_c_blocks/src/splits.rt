@@ -6,11 +6,9 @@ ghost use Rattle.mst_key.specs.Map.{key_cmp};
 ghost use Rattle.mst_c_blocks.specs.Splits.{splits_bytes, PacksSplits};
 
 use mst_key::{Key, Memory};
+use mst_shards::MOST_SPLITS;
 use std::alloc::Global;
 use std::cmp::Ordering;
-
-/// The most splits of a sharded map.
-const MOST_SPLITS: usize = 1023;
 
 /// The split that stands first, and the bytes after it. There is none if its length is that of no
 /// key, or if it is cut short.

@@ -2,7 +2,7 @@
 ghost use Rattle.std.specs.Prelude.{◌≡◌, ◌≤◌, length, None};
 ghost use Rattle.mst_c_blocks.specs.Told.{shards_code, number_code, number_after, try_code as code_of_try, get_code, get_room, ShardsTold, NumberTold, TryTold, ReleaseTold, CloseTold, GetTold};
 
-use crate::asking::Unfound;
+use crate::asking::GetRefusal;
 use crate::codes::{MOVING, OVERTAKEN};
 use crate::hand::{BlocksHand, give, take};
 use mst_c::codes::{BAD_KEY, CLOSED, WRONG_STATE};
@@ -110,14 +110,14 @@ pub fn close(alloc: Global, hand: &mut BlocksHand) -> i32
 
 /// The code of a value. It stands first in the room then, if it fits. The writer has none if
 /// another has written.
-fn tell_value(found: Result<Option<Value>, Unfound>, room: &mut [u8]) -> i32
+fn tell_value(found: Result<Option<Value>, GetRefusal>, room: &mut [u8]) -> i32
     ensures code { result ≡ get_code (length room.old) found }
     ensures room { room.new ≡ get_room room.old found }
 {
     match found {
         Ok(value) => tell(&value, room),
-        Err(Unfound::Overtaken) => OVERTAKEN,
-        Err(Unfound::NoMap) => WRONG_STATE,
+        Err(GetRefusal::Overtaken) => OVERTAKEN,
+        Err(GetRefusal::NoMap) => WRONG_STATE,
     }
 }
 

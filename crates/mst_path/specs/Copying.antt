@@ -7,7 +7,7 @@ use Rattle.mst_arena.specs.Lists.{In, times}
 use Rattle.mst_path.specs.Takes.{KeepsBut}
 use Rattle.mst_path.specs.Moves.{IsAlive, IsNew, Moves}
 use Rattle.mst_path.specs.Made.{AreMade}
-use Rattle.mst_path.specs.Runs.{Run, own, gaps_used, AreCopies}
+use Rattle.mst_path.specs.Runs.{RunStands, own, gaps_used, AreCopies}
 use Rattle.mst_path.specs.Writing.{PlacedEntry, entries_used, ahead, IsWritten}
 use Rattle.mst_path.specs.declared.node_writer.NodeWriter.{NodeWriter}
 
@@ -28,7 +28,7 @@ pub record Copying {A : Type 0} (format : Format) (w : NodeWriter A) (content : 
   pub behind : ℕ
   pub es : List PlacedEntry
   pub ws : List PlacedEntry
-  pub run : Run format content s link count behind es
+  pub run : RunStands format content s link count behind es
   pub going : Going format w content s ws
   pub once : (r : ℕ) → times r (entries_used ws) + times r (own es) + times r (gaps_used es) ≤ 1
 

@@ -4,7 +4,7 @@ use Rattle.std.specs.Prelude.{◌≡◌, ℕ, ◌+◌, List, [], ◌∷◌, ◌+
 use Rattle.mst_arena.specs.Content.{Content}
 use Rattle.mst_arena.specs.declared.row.HeadLinks.{HeadLinks}
 use Rattle.mst_arena.specs.Standing.{Placed, link_of, tree_of, HasRows}
-use Rattle.mst_path.specs.declared.making.Run.{Run}
+use Rattle.mst_path.specs.declared.making.EntryRun.{EntryRun}
 use Rattle.mst_path.specs.declared.cut.Cut.{Cut}
 use Rattle.mst_path.specs.declared.cut.Cut.TheVariants.{Gap, Found}
 use Rattle.mst_change.specs.Gap.{IsGap, IsAt}
@@ -24,13 +24,13 @@ gap_before [] tail = tail
 gap_before (e ∷ es) tail = e.child
 
 -- the run has these entries, up to the link after them
-pub record IsRunOf (run : Run) (behind : ℕ) (es : List PlacedEntry) : Type 0 where
+pub record IsRunOf (run : EntryRun) (behind : ℕ) (es : List PlacedEntry) : Type 0 where
   pub counted : length es ≡ run.count
   pub begins : link_from behind es ≡ run.first
 
 -- the key falls into the gap between two parts of the entries, in which the tree at the link stands
 pub record CutGap (format : Format) (k : List ℕ) (es : List PlacedEntry) (tail : Placed)
-    (front : Run) (child : ℕ) (back : Run) : Type 0 where
+    (front : EntryRun) (child : ℕ) (back : EntryRun) : Type 0 where
   pub before : List PlacedEntry
   pub behind : List PlacedEntry
   pub whole : es ≡ before ++ behind
@@ -42,7 +42,7 @@ pub record CutGap (format : Format) (k : List ℕ) (es : List PlacedEntry) (tail
 
 -- the key's entry stands in the row between two parts of the entries, after the tree at the link
 pub record CutFound (format : Format) (k : List ℕ) (es : List PlacedEntry) (tail : Placed)
-    (front : Run) (row child : ℕ) (back : Run) : Type 0 where
+    (front : EntryRun) (row child : ℕ) (back : EntryRun) : Type 0 where
   pub before : List PlacedEntry
   pub here : PlacedEntry
   pub behind : List PlacedEntry

@@ -12,7 +12,7 @@ use Rattle.mst_path.specs.declared.frames.Frame.{Frame}
 use Rattle.mst_change.specs.Parts.{with_first, node_of}
 use Rattle.mst_change.specs.Cost.{side_rows}
 use Rattle.mst_path.specs.Moves.{IsAlive, IsOld}
-use Rattle.mst_path.specs.Runs.{Run, own, gaps_used}
+use Rattle.mst_path.specs.Runs.{RunStands, own, gaps_used}
 use Rattle.mst_path.specs.Making.{BackRun, cells_of, entries_to, others}
 use Rattle.mst_path.specs.Writing.{PlacedEntry, ahead}
 
@@ -31,7 +31,7 @@ pub record Framed (format : Format) (content : Content) (s : State) (frame : Fra
     : Type 0 where
   pub front : List PlacedEntry
   pub behind : ℕ
-  pub front_run : Run format content s frame.front.first frame.front.count behind front
+  pub front_run : RunStands format content s frame.front.first frame.front.count behind front
   pub back : List PlacedEntry
   pub tail : Placed
   pub back_run : BackRun format content s frame.back.first frame.back.count frame.tail back tail

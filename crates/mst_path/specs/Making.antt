@@ -12,7 +12,7 @@ use Rattle.mst_arena.specs.Standing.{Placed, none, tree_of, link_of, used, HasRo
 use Rattle.mst_path.specs.declared.making.NodeParts.{NodeParts}
 use Rattle.mst_path.specs.Takes.{KeepsBut}
 use Rattle.mst_path.specs.Moves.{IsOld, Moves, IsNew}
-use Rattle.mst_path.specs.Runs.{Piece, OldPiece, Run, own_rows, own, gaps_used, EachGap}
+use Rattle.mst_path.specs.Runs.{Piece, OldPiece, RunStands, own_rows, own, gaps_used, EachGap}
 use Rattle.mst_change.specs.Parts.{with_first}
 use Rattle.mst_path.specs.Writing.{PlacedEntry, link_from, entries_used, ahead, IsRootOf}
 use Rattle.mst_path.specs.Copying.{Going}
@@ -62,7 +62,7 @@ pub record PartsStand (format : Format) (content : Content) (s : State) (parts :
     : Type 0 where
   pub front : List PlacedEntry
   pub behind : ℕ
-  pub front_run : Run format content s parts.front.first parts.front.count behind front
+  pub front_run : RunStands format content s parts.front.first parts.front.count behind front
   pub seam : Placed
   pub seam_at : IsRootOf format seam parts.seam
   pub seam_piece : Piece format content s seam

@@ -45,7 +45,7 @@ EachGap P (e ∷ es) = P e.child × EachGap P es
 
 -- So many entries stand from a link on, up to the link after them: their rows are of the current
 -- version and older ones, and so are the trees before them.
-pub record Run (format : Format) (content : Content) (s : State) (link count behind : ℕ)
+pub record RunStands (format : Format) (content : Content) (s : State) (link count behind : ℕ)
     (es : List PlacedEntry) : Type 0 where
   pub counted : length es ≡ count
   pub begins : link_from behind es ≡ link

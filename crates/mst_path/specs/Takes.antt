@@ -37,7 +37,7 @@ abbrev pub FewRows : List Life → Type 0
 FewRows lives = length lives ≤ most_rows
 
 -- Rows may be taken and written: each has a link, and the free ones are blank.
-pub record IsWritable (lives : List Life) (blank : ℕ → Bool) : Type 0 where
+pub record RowsAreWritable (lives : List Life) (blank : ℕ → Bool) : Type 0 where
   pub few : FewRows lives
   pub free : FreeIsBlank lives blank
 

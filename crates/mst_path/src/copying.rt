@@ -7,7 +7,7 @@ ghost use Rattle.mst_arena.specs.Lives.{free_count};
 ghost use Rattle.mst_arena.specs.Content.{part_at};
 ghost use Rattle.mst_arena.specs.Row.{keyed_links, entry_pair};
 ghost use Rattle.mst_arena.specs.Standing.{Placed, link_of, rows_of, used, HasRows};
-ghost use Rattle.mst_path.specs.Takes.{IsOut, KeepsBut, FewRows, IsWritable, StaysBeside};
+ghost use Rattle.mst_path.specs.Takes.{IsOut, KeepsBut, FewRows, RowsAreWritable, StaysBeside};
 ghost use Rattle.mst_path.specs.Writing.{PlacedEntry, entries_used, IsRootOf, ahead, IsNextBlank, IsWriter, IsWritten};
 ghost use Rattle.mst_path.specs.Moves.{IsOld, Moves};
 ghost use Rattle.mst_path.specs.Copying.{Copying, Copied};
@@ -86,7 +86,7 @@ pub(crate) fn move_run<R: Rows, A: Allocator>(
     requires writer { IsWriter writer.old }
     requires left { count ≤ writer.old.left }
     requires room { writer.old.left ≤ free_count desk.old.lives + 1 }
-    requires ready { IsWritable desk.old.lives (R.blank rows.old) }
+    requires ready { RowsAreWritable desk.old.lives (R.blank rows.old) }
     requires blank { IsNextBlank writer.old.next (R.blank rows.old) }
     ensures writer { IsWriter writer.new }
     ensures copied { (format : Format)

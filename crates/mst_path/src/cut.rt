@@ -5,7 +5,7 @@ ghost use Rattle.mst_arena.specs.Standing.{Placed, link_of};
 ghost use Rattle.mst_path.specs.Writing.{PlacedEntry};
 ghost use Rattle.mst_path.specs.Cutting.{EntriesLie, IsCut};
 
-use crate::making::{Run, no_run};
+use crate::making::{EntryRun, no_run};
 use mst_arena::{HeadLinks, Rows, Sought, Way};
 
 /// The entries of a node, cut at a key.
@@ -14,22 +14,22 @@ pub(crate) enum Cut {
     /// The key falls into the gap between the front and the back.
     Gap {
         /// The entries below the key.
-        front: Run,
+        front: EntryRun,
         /// The link of the tree in the gap.
         child: u32,
         /// The entries above the key.
-        back: Run,
+        back: EntryRun,
     },
     /// The key has an entry between the front and the back.
     Found {
         /// The entries below the key.
-        front: Run,
+        front: EntryRun,
         /// The row of the key's entry.
         row: u32,
         /// The link of the tree in the gap before it.
         child: u32,
         /// The entries above the key.
-        back: Run,
+        back: EntryRun,
     },
 }
 
@@ -49,9 +49,9 @@ pub(crate) fn cut_at<R: Rows>(rows: &mut R, head: &HeadLinks, key: &Sought) -> C
         match rows.way(row, key) {
             Way::Child(child) => {
                 return Cut::Gap {
-                    front: Run { first, count },
+                    front: EntryRun { first, count },
                     child,
-                    back: Run {
+                    back: EntryRun {
                         first: link,
                         count: head.count - count,
                     },
@@ -60,10 +60,10 @@ pub(crate) fn cut_at<R: Rows>(rows: &mut R, head: &HeadLinks, key: &Sought) -> C
             Way::Here => {
                 let entry = rows.entry(row);
                 return Cut::Found {
-                    front: Run { first, count },
+                    front: EntryRun { first, count },
                     row,
                     child: entry.child,
-                    back: Run {
+                    back: EntryRun {
                         first: entry.next,
                         count: head.count - count - 1,
                     },
@@ -74,7 +74,7 @@ pub(crate) fn cut_at<R: Rows>(rows: &mut R, head: &HeadLinks, key: &Sought) -> C
     }
     let count = head.count;
     Cut::Gap {
-        front: Run { first, count },
+        front: EntryRun { first, count },
         child: head.tail,
         back: no_run(),
     }

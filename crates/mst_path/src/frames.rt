@@ -5,14 +5,14 @@ ghost use Rattle.mst_arena.specs.Lives.{free_count};
 ghost use Rattle.mst_arena.specs.Lists.{In, times};
 ghost use Rattle.mst_arena.specs.Standing.{Placed, tree_of, used};
 ghost use Rattle.mst_arena.specs.Limits.{highest_layer};
-ghost use Rattle.mst_path.specs.Takes.{IsWritable, StaysBeside};
+ghost use Rattle.mst_path.specs.Takes.{RowsAreWritable, StaysBeside};
 ghost use Rattle.mst_path.specs.Moves.{IsOld, Moves};
 ghost use Rattle.mst_path.specs.Runs.{Piece};
 ghost use Rattle.mst_path.specs.Writing.{IsRootOf, ahead};
 ghost use Rattle.mst_path.specs.Making.{Grown};
 ghost use Rattle.mst_path.specs.Frames.{Framed, in_entries, in_frame, tree_round, frame_rows};
 
-use crate::making::{NodeParts, Run, make_node};
+use crate::making::{EntryRun, NodeParts, make_node};
 use mst_arena::{Desk, Root, Rows};
 use mst_key::Format;
 use std::alloc::Allocator;
@@ -22,9 +22,9 @@ use std::alloc::Allocator;
 pub(crate) struct Frame {
     pub(crate) layer: u8,
     /// The entries in front of the gap.
-    pub(crate) front: Run,
+    pub(crate) front: EntryRun,
     /// The entries after it, up to the end of their node.
-    pub(crate) back: Run,
+    pub(crate) back: EntryRun,
     /// The link of the tree in the last gap if there are entries at the back, otherwise 0.
     pub(crate) tail: u32,
     /// The row of the head, which goes.
@@ -69,7 +69,7 @@ fn fill<R: Rows, A: Allocator>(
         × Framed format (R.content rows.old) desk.old frame.now (λ x. times x (used p)) }
     requires low { frame.now.layer ≤ highest_layer }
     requires room { frame_rows frame.now ≤ free_count desk.old.lives }
-    requires ready { IsWritable desk.old.lives (R.blank rows.old) }
+    requires ready { RowsAreWritable desk.old.lives (R.blank rows.old) }
     ensures made { (p : Placed) → IsRootOf format p seam.now
         → Piece format (R.content rows.old) desk.old p
         → (f : Framed format (R.content rows.old) desk.old frame.now (λ x. times x (used p)))
@@ -106,7 +106,7 @@ pub(crate) fn close<R: Rows, A: Allocator>(
         × Framed format (R.content rows.old) desk.old frame.now (λ x. times x (used p)) }
     requires low { frame.now.layer ≤ highest_layer }
     requires room { frame_rows frame.now ≤ free_count desk.old.lives }
-    requires ready { IsWritable desk.old.lives (R.blank rows.old) }
+    requires ready { RowsAreWritable desk.old.lives (R.blank rows.old) }
     ensures made { (p : Placed) → IsRootOf format p seam.now
         → Piece format (R.content rows.old) desk.old p
         → (f : Framed format (R.content rows.old) desk.old frame.now (λ x. times x (used p)))

@@ -4,13 +4,13 @@ ghost use Rattle.std.specs.Prelude.{◌≡◌, ◌≤◌, ◌<◌, ◌+◌};
 ghost use Rattle.mst_key.specs.declared.format.Format.{Format};
 ghost use Rattle.mst_arena.specs.Limits.{most_rows};
 ghost use Rattle.mst_arena.specs.Lives.{State, free_count};
-ghost use Rattle.mst_path.specs.Takes.{IsWritable, StaysBeside};
+ghost use Rattle.mst_path.specs.Takes.{RowsAreWritable, StaysBeside};
 ghost use Rattle.mst_path.specs.Making.{Grown};
 ghost use Rattle.mst_path.specs.Joining.{TwoTrees, in_both, both_joined, both_rows, Met, above_right, below_right, beside_right};
 
 use crate::copying::root_at;
 use crate::frames::{Frame, close};
-use crate::making::{Run, no_run};
+use crate::making::{EntryRun, no_run};
 use mst_arena::{Desk, HeadLinks, Root, Rows};
 use mst_key::Format;
 use std::alloc::Allocator;
@@ -36,7 +36,7 @@ pub(crate) fn join<R: Rows, A: Allocator>(
 ) -> Root
     requires trees { (t : TwoTrees format (R.content rows.old) desk.old left right)
         × (both_rows format t ≤ free_count desk.old.lives) }
-    requires ready { IsWritable desk.old.lives (R.blank rows.old) }
+    requires ready { RowsAreWritable desk.old.lives (R.blank rows.old) }
     ensures joined { (t : TwoTrees format (R.content rows.old) desk.old left right)
         → Grown format (R.content rows.old) (R.content rows.new) desk.old desk.new
         (both_joined format t) result
@@ -107,7 +107,7 @@ fn above_right(left: u32, left_head: &HeadLinks, right: u32) -> Meeting
         right,
         frame: Frame {
             layer: left_head.layer,
-            front: Run {
+            front: EntryRun {
                 first: left_head.first,
                 count: left_head.count,
             },
@@ -130,7 +130,7 @@ fn below_right(left: u32, right: u32, right_head: &HeadLinks, child: u32) -> Mee
         frame: Frame {
             layer: right_head.layer,
             front: no_run(),
-            back: Run {
+            back: EntryRun {
                 first: right_head.first,
                 count: right_head.count,
             },
@@ -159,11 +159,11 @@ fn beside_right(
         right: child,
         frame: Frame {
             layer: left_head.layer,
-            front: Run {
+            front: EntryRun {
                 first: left_head.first,
                 count: left_head.count,
             },
-            back: Run {
+            back: EntryRun {
                 first: right_head.first,
                 count: right_head.count,
             },

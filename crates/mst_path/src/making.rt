@@ -8,7 +8,7 @@ ghost use Rattle.mst_arena.specs.Lists.{times};
 ghost use Rattle.mst_arena.specs.Standing.{Placed, tree_of, used};
 ghost use Rattle.mst_arena.specs.Limits.{highest_layer};
 ghost use Rattle.mst_change.specs.Parts.{with_first};
-ghost use Rattle.mst_path.specs.Takes.{IsWritable, StaysBeside};
+ghost use Rattle.mst_path.specs.Takes.{RowsAreWritable, StaysBeside};
 ghost use Rattle.mst_path.specs.Runs.{Piece};
 ghost use Rattle.mst_path.specs.Writing.{IsRootOf, IsNextBlank, IsWriter};
 ghost use Rattle.mst_path.specs.Making.{PartsStand, in_parts, cells_of, entries_to, Grown, Rest, Finished, tail_behind};
@@ -21,17 +21,17 @@ use std::alloc::Allocator;
 
 /// Entries of a node, one after another.
 #[derive(Clone, Copy)]
-pub(crate) struct Run {
+pub(crate) struct EntryRun {
     /// The link of the first of them.
     pub(crate) first: u32,
     pub(crate) count: u32,
 }
 
 /// No entries.
-pub(crate) fn no_run() -> Run
+pub(crate) fn no_run() -> EntryRun
     ensures none { result ≡ record { first = 0; count = 0 } }
 {
-    Run { first: 0, count: 0 }
+    EntryRun { first: 0, count: 0 }
 }
 
 /// The link of the last tree that is kept after so many entries: none if there are no entries.
@@ -46,11 +46,11 @@ pub(crate) fn kept_tail(count: u32, tail: u32) -> u32
 pub(crate) struct NodeParts {
     pub(crate) layer: u8,
     /// The entries in front.
-    pub(crate) front: Run,
+    pub(crate) front: EntryRun,
     /// The tree in the gap after them.
     pub(crate) seam: Root,
     /// The entries at the back, up to the end of their node.
-    pub(crate) back: Run,
+    pub(crate) back: EntryRun,
     /// The link of the tree in the last gap if there are entries at the back, otherwise 0.
     pub(crate) tail: u32,
 }
@@ -68,7 +68,7 @@ pub(crate) fn make_node<R: Rows, A: Allocator>(
     requires some { 0 < parts.now.front.count + parts.now.back.count }
     requires low { parts.now.layer ≤ highest_layer }
     requires room { parts.now.front.count + parts.now.back.count + 1 ≤ free_count desk.old.lives }
-    requires ready { IsWritable desk.old.lives (R.blank rows.old) }
+    requires ready { RowsAreWritable desk.old.lives (R.blank rows.old) }
     ensures made { (p : PartsStand format (R.content rows.old) desk.old parts.now)
         → Grown format (R.content rows.old) (R.content rows.new) desk.old desk.new
         (node format parts.now.layer
@@ -109,7 +109,7 @@ pub(crate) fn make_node_with<R: Rows, A: Allocator>(
         × ((x : ℕ) → in_parts format p x + times x (used c) ≤ 1) }
     requires low { parts.now.layer ≤ highest_layer }
     requires room { parts.now.front.count + parts.now.back.count + 2 ≤ free_count desk.old.lives }
-    requires ready { IsWritable desk.old.lives (R.blank rows.old) }
+    requires ready { RowsAreWritable desk.old.lives (R.blank rows.old) }
     ensures made { (p : PartsStand format (R.content rows.old) desk.old parts.now) (c : Placed)
         → IsRootOf format c child.now → Piece format (R.content rows.old) desk.old c
         → ((x : ℕ) → in_parts format p x + times x (used c) ≤ 1)
@@ -146,7 +146,7 @@ fn finish_node<R: Rows, A: Allocator>(
     requires writer { IsWriter writer }
     requires left { writer.left ≡ parts.now.back.count }
     requires room { writer.left ≤ free_count desk.old.lives + 1 }
-    requires ready { IsWritable desk.old.lives (R.blank rows.old) }
+    requires ready { RowsAreWritable desk.old.lives (R.blank rows.old) }
     requires blank { IsNextBlank writer.next (R.blank rows.old) }
     requires head { IsTrue (R.blank rows.old writer.head) }
     ensures finished { (format : Format) (r : Rest format writer
@@ -174,7 +174,7 @@ fn finish_with_back<R: Rows, A: Allocator>(
     requires writer { IsWriter writer }
     requires left { writer.left ≡ parts.now.back.count }
     requires room { writer.left ≤ free_count desk.old.lives + 1 }
-    requires ready { IsWritable desk.old.lives (R.blank rows.old) }
+    requires ready { RowsAreWritable desk.old.lives (R.blank rows.old) }
     requires blank { IsNextBlank writer.next (R.blank rows.old) }
     requires head { IsTrue (R.blank rows.old writer.head) }
     ensures finished { (format : Format) (r : Rest format writer

@@ -10,7 +10,7 @@ ghost use Rattle.mst_arena.specs.Standing.{tree_of, used};
 ghost use Rattle.mst_arena.specs.Limits.{highest_layer};
 ghost use Rattle.mst_change.specs.Split.{below, above};
 ghost use Rattle.mst_change.specs.Cost.{split_rows};
-ghost use Rattle.mst_path.specs.Takes.{IsWritable, StaysBeside};
+ghost use Rattle.mst_path.specs.Takes.{RowsAreWritable, StaysBeside};
 ghost use Rattle.mst_path.specs.Making.{Grown};
 ghost use Rattle.mst_path.specs.Frames.{Framed, in_frame};
 ghost use Rattle.mst_path.specs.Joining.{MetTrees, in_both, height};
@@ -97,7 +97,7 @@ fn put_between<R: Rows, A: Allocator>(
     requires trees { TwoStand format (R.content rows.old) desk.old lower.now upper.now }
     requires low { layer ≤ highest_layer }
     requires room { 2 ≤ free_count desk.old.lives }
-    requires ready { IsWritable desk.old.lives (R.blank rows.old) }
+    requires ready { RowsAreWritable desk.old.lives (R.blank rows.old) }
     ensures made { (t : TwoStand format (R.content rows.old) desk.old lower.now upper.now)
         → Grown format (R.content rows.old) (R.content rows.new) desk.old desk.new
         (node format layer
@@ -129,7 +129,7 @@ fn put_on_top<R: Rows, A: Allocator>(
     requires tree { (t : ToSplit format (R.content rows.old) desk.old link key.now)
         × (2 + split_rows key.now (tree_of format t.tree.placed) ≤ free_count desk.old.lives) }
     requires low { layer ≤ highest_layer }
-    requires ready { IsWritable desk.old.lives (R.blank rows.old) }
+    requires ready { RowsAreWritable desk.old.lives (R.blank rows.old) }
     ensures made { (t : ToSplit format (R.content rows.old) desk.old link key.now)
         → Grown format (R.content rows.old) (R.content rows.new) desk.old desk.new
         (node format layer
@@ -159,7 +159,7 @@ fn close_with<R: Rows, A: Allocator>(
         × Framed format (R.content rows.old) desk.old frame.now (in_two format t) }
     requires low { frame.now.layer ≤ highest_layer }
     requires room { with_rows frame.now ≤ free_count desk.old.lives }
-    requires ready { IsWritable desk.old.lives (R.blank rows.old) }
+    requires ready { RowsAreWritable desk.old.lives (R.blank rows.old) }
     ensures made { (t : TwoStand format (R.content rows.old) desk.old lower.now upper.now)
         (f : Framed format (R.content rows.old) desk.old frame.now (in_two format t))
         → Grown format (R.content rows.old) (R.content rows.new) desk.old desk.new
@@ -206,7 +206,7 @@ fn put_level<R: Rows, A: Allocator>(
         × (split_rows key.now (tree_of format t.tree.placed) + with_rows frame.now
         ≤ free_count desk.old.lives) }
     requires low { frame.now.layer ≤ highest_layer }
-    requires ready { IsWritable desk.old.lives (R.blank rows.old) }
+    requires ready { RowsAreWritable desk.old.lives (R.blank rows.old) }
     ensures made { (t : ToSplit format (R.content rows.old) desk.old child key.now)
         (f : Framed format (R.content rows.old) desk.old frame.now (λ x. times x
         (used t.tree.placed)))
@@ -234,7 +234,7 @@ fn put_value<R: Rows, A: Allocator>(
         × Framed format (R.content rows.old) desk.old meeting.now.frame (in_both format t) }
     requires room { with_rows meeting.now.frame ≤ free_count desk.old.lives }
     requires low { meeting.now.frame.layer ≤ highest_layer }
-    requires ready { IsWritable desk.old.lives (R.blank rows.old) }
+    requires ready { RowsAreWritable desk.old.lives (R.blank rows.old) }
     ensures made { (t : MetTrees format (R.content rows.old) desk.old meeting.now)
         (f : Framed format (R.content rows.old) desk.old meeting.now.frame (in_both format t))
         → Grown format (R.content rows.old) (R.content rows.new) desk.old desk.new
@@ -272,7 +272,7 @@ pub(crate) fn put_at<R: Rows, A: Allocator>(
         × (pair_rows format t layer key.now value.now ≤ free_count desk.old.lives) }
     requires layer { layer ≡ layer_in format key.now }
     requires low { layer ≤ highest_layer }
-    requires ready { IsWritable desk.old.lives (R.blank rows.old) }
+    requires ready { RowsAreWritable desk.old.lives (R.blank rows.old) }
     ensures put { (t : RisingTree format (R.content rows.old) desk.old link)
         → Grown format (R.content rows.old) (R.content rows.new) desk.old desk.new
         (with_pair format t layer key.now value.now) result (in_rising format t)

@@ -9,7 +9,7 @@ ghost use Rattle.mst_arena.specs.Standing.{Placed, link_of, HasRows};
 ghost use Rattle.mst_path.specs.Cutting.{IsRunOf, gap_before};
 ghost use Rattle.mst_path.specs.Runs.{own_rows};
 ghost use Rattle.mst_path.specs.Writing.{PlacedEntry};
-ghost use Rattle.mst_path.specs.Takes.{FewRows, IsWritable, StaysBeside};
+ghost use Rattle.mst_path.specs.Takes.{FewRows, RowsAreWritable, StaysBeside};
 ghost use Rattle.mst_path.specs.Making.{Grown};
 ghost use Rattle.mst_path.specs.Frames.{Framed, in_frame, tree_round, frame_rows};
 ghost use Rattle.mst_path.specs.Joining.{MetTrees, in_both, both_joined, both_rows};
@@ -20,7 +20,7 @@ use crate::copying::root_at;
 use crate::cut::{Cut, cut_at};
 use crate::frames::{Frame, close};
 use crate::joining::{Meeting, join, join_cost};
-use crate::making::{Run, kept_tail};
+use crate::making::{EntryRun, kept_tail};
 use mst_arena::{Desk, Root, Rows, Sought};
 use mst_key::Format;
 use std::alloc::Allocator;
@@ -36,7 +36,7 @@ pub(crate) enum TopStep {
 
 /// The link of the tree in front of these entries, the last ones of their node; its last tree if
 /// there are none.
-fn first_tree<R: Rows>(rows: &mut R, back: Run, tail: u32) -> u32
+fn first_tree<R: Rows>(rows: &mut R, back: EntryRun, tail: u32) -> u32
     requires run { (es : List PlacedEntry) × IsRunOf back 0 es
         × HasRows (R.content rows.old) (own_rows 0 es) }
     ensures tree { (es : List PlacedEntry) (p : Placed) → IsRunOf back 0 es
@@ -110,7 +110,7 @@ fn join_round<R: Rows, A: Allocator>(
         × Framed format (R.content rows.old) desk.old meeting.now.frame (in_both format t)
         × (both_rows format t + frame_rows meeting.now.frame ≤ free_count desk.old.lives) }
     requires low { meeting.now.frame.layer ≤ highest_layer }
-    requires ready { IsWritable desk.old.lives (R.blank rows.old) }
+    requires ready { RowsAreWritable desk.old.lives (R.blank rows.old) }
     ensures made { (t : MetTrees format (R.content rows.old) desk.old meeting.now)
         (f : Framed format (R.content rows.old) desk.old meeting.now.frame (in_both format t))
         → Grown format (R.content rows.old) (R.content rows.new) desk.old desk.new
@@ -134,7 +134,7 @@ pub(crate) fn remove_at<R: Rows, A: Allocator>(
 ) -> Root
     requires tree { (t : SearchTree format (R.content rows.old) desk.old link)
         × (without_rows format t key.now ≤ free_count desk.old.lives) }
-    requires ready { IsWritable desk.old.lives (R.blank rows.old) }
+    requires ready { RowsAreWritable desk.old.lives (R.blank rows.old) }
     ensures removed { (t : SearchTree format (R.content rows.old) desk.old link)
         → Grown format (R.content rows.old) (R.content rows.new) desk.old desk.new
         (without format t key.now) result (in_tree format t) (without_rows format t key.now) }

@@ -8,14 +8,14 @@ ghost use Rattle.mst_arena.specs.Limits.{highest_layer};
 ghost use Rattle.mst_change.specs.Split.{below, above};
 ghost use Rattle.mst_change.specs.Parts.{is_empty};
 ghost use Rattle.mst_change.specs.Cost.{side_rows, split_rows};
-ghost use Rattle.mst_path.specs.Takes.{IsWritable, StaysBeside};
+ghost use Rattle.mst_path.specs.Takes.{RowsAreWritable, StaysBeside};
 ghost use Rattle.mst_path.specs.Writing.{IsRootOf};
 ghost use Rattle.mst_path.specs.Making.{PartsStand, in_parts, Grown, Split, tail_behind};
 ghost use Rattle.mst_path.specs.Splitting.{ToSplit, BothStand, side_of, in_both};
 
 use crate::copying::root_at;
 use crate::cut::{Cut, cut_at};
-use crate::making::{NodeParts, Run, kept_tail, make_node, no_run};
+use crate::making::{EntryRun, NodeParts, kept_tail, make_node, no_run};
 use mst_arena::{Desk, HeadLinks, Root, Rows, Sought};
 use mst_key::Format;
 use mst_node::empty_digest;
@@ -32,7 +32,7 @@ pub(crate) fn nothing() -> Root
 }
 
 /// Whether there are no entries and no tree beside them.
-fn is_none(run: &Run, beside: &Root) -> bool
+fn is_none(run: &EntryRun, beside: &Root) -> bool
     ensures none { result ≡ ((run.now.count == 0) && (beside.now.link == 0)) }
 {
     run.count == 0 && beside.link == 0
@@ -49,7 +49,7 @@ pub(crate) fn side<R: Rows, A: Allocator>(
     requires low { parts.now.layer ≤ highest_layer }
     requires room { side_rows (parts.now.front.count + parts.now.back.count) false
         ≤ free_count desk.old.lives }
-    requires ready { IsWritable desk.old.lives (R.blank rows.old) }
+    requires ready { RowsAreWritable desk.old.lives (R.blank rows.old) }
     ensures made { (p : PartsStand format (R.content rows.old) desk.old parts.now)
         → Grown format (R.content rows.old) (R.content rows.new) desk.old desk.new
         (side_of format p) result
@@ -75,7 +75,7 @@ pub(crate) fn both_sides<R: Rows, A: Allocator>(
     requires low { (left.now.layer ≤ highest_layer) × (right.now.layer ≤ highest_layer) }
     requires room { side_rows (left.now.front.count + left.now.back.count) false + side_rows
         (right.now.front.count + right.now.back.count) false ≤ free_count desk.old.lives }
-    requires ready { IsWritable desk.old.lives (R.blank rows.old) }
+    requires ready { RowsAreWritable desk.old.lives (R.blank rows.old) }
     ensures made { (b : BothStand format (R.content rows.old) desk.old row left.now right.now)
         → Split format (R.content rows.old) (R.content rows.new) desk.old desk.new
         (side_of format b.lower)
@@ -91,7 +91,7 @@ pub(crate) fn both_sides<R: Rows, A: Allocator>(
 }
 
 /// The part of a node in front of a gap, with a tree after it.
-fn front_part(layer: u8, front: Run, seam: Root) -> NodeParts
+fn front_part(layer: u8, front: EntryRun, seam: Root) -> NodeParts
     ensures part { result ≡ record {
       layer = layer;
       front = front;
@@ -110,7 +110,7 @@ fn front_part(layer: u8, front: Run, seam: Root) -> NodeParts
 }
 
 /// The part of a node after a gap, with a tree in front of it.
-fn back_part(head: &HeadLinks, back: Run, seam: Root) -> NodeParts
+fn back_part(head: &HeadLinks, back: EntryRun, seam: Root) -> NodeParts
     ensures part { result ≡ record {
       layer = head.now.layer;
       front = record { first = 0; count = 0 };
@@ -140,7 +140,7 @@ pub(crate) fn split<R: Rows, A: Allocator>(
 ) -> (Root, Root)
     requires tree { (t : ToSplit format (R.content rows.old) desk.old link key.now)
         × (split_rows key.now (tree_of format t.tree.placed) ≤ free_count desk.old.lives) }
-    requires ready { IsWritable desk.old.lives (R.blank rows.old) }
+    requires ready { RowsAreWritable desk.old.lives (R.blank rows.old) }
     ensures split { (t : ToSplit format (R.content rows.old) desk.old link key.now)
         → Split format (R.content rows.old) (R.content rows.new) desk.old desk.new
         (below key.now (tree_of format t.tree.placed))

@@ -7,7 +7,7 @@ ghost use Rattle.mst_node.specs.Text.{highest_count};
 ghost use Rattle.mst_node.specs.Shape.{tree_of, tree_of_child};
 ghost use Rattle.mst_arena.specs.Lives.{free_count};
 ghost use Rattle.mst_arena.specs.Standing.{Stands, numbers};
-ghost use Rattle.mst_path.specs.Takes.{Takes, KeepsBut, FreeIsBlank, IsWritable, StaysBeside};
+ghost use Rattle.mst_path.specs.Takes.{Takes, KeepsBut, FreeIsBlank, RowsAreWritable, StaysBeside};
 ghost use Rattle.mst_path.specs.Planting.{rows_needed, node_count, tree_at, IsTreeOf, Planted};
 
 use crate::faults::NoRoom;
@@ -54,7 +54,7 @@ fn plant_child<R: Rows, A: Allocator, B: Allocator>(
 ) -> Root
     requires tree { IsMst format (tree_of_child format child.now) }
     requires room { rows_needed (tree_of_child format child.now) ≤ free_count desk.old.lives }
-    requires ready { IsWritable desk.old.lives (R.blank rows.old) }
+    requires ready { RowsAreWritable desk.old.lives (R.blank rows.old) }
     ensures planted { Planted format desk.old desk.new (R.content rows.old) (R.content rows.new)
         (tree_of_child format child.now) result }
     ensures beside { StaysBeside R.blank R.kept rows.old rows.new }
@@ -78,7 +78,7 @@ fn plant_node<R: Rows, A: Allocator, B: Allocator>(
 ) -> Root
     requires tree { IsMst format (tree_of format node.now) }
     requires room { rows_needed (tree_of format node.now) ≤ free_count desk.old.lives }
-    requires ready { IsWritable desk.old.lives (R.blank rows.old) }
+    requires ready { RowsAreWritable desk.old.lives (R.blank rows.old) }
     ensures planted { Planted format desk.old desk.new (R.content rows.old) (R.content rows.new)
         (tree_of format node.now) result }
     ensures beside { StaysBeside R.blank R.kept rows.old rows.new }

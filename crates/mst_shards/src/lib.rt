@@ -22,7 +22,7 @@ pub use edits::{copied, places_of};
 pub use entries::{high_key, listing, low_key};
 pub use faults::ShardsFault;
 pub use moving::{lay_all, lay_at, lay_pin_at, lift_all, lift_at, lift_pin_at, unpin_laid};
-pub use opening::{are_splits, open_all};
+pub use opening::{MOST_SPLITS, are_splits, open_all};
 pub use place::place_of;
 pub use rooms::list_with_room;
 pub use sharded::{AllSeats, Sharded};

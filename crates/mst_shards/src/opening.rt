@@ -14,7 +14,7 @@ use std::alloc::Allocator;
 use std::cmp::Ordering;
 
 /// The most splits of a sharded map.
-const MOST_SPLITS: usize = 1023;
+pub const MOST_SPLITS: usize = 1023;
 
 // Whether splits rise strictly, from above a key.
 fn rise(low: &Key, splits: &[Key]) -> bool

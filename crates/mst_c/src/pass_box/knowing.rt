@@ -3,13 +3,13 @@
 ghost use Rattle.std.specs.Prelude.{Ok, Err, IfOk, IfErr};
 ghost use Rattle.mst_c.specs.Knowing.{CountsFree, ListsPinned, Knows};
 
-use crate::pass_box::{PassBox, State, Uncounted, put_back};
+use crate::pass_box::{CountRefusal, PassBox, State, put_back};
 use mst_store::{Busy, VersionList};
 use std::mem::replace;
 
 impl PassBox {
     /// How many rows are free to the next write, if the pass is free.
-    pub(crate) fn free_rows(&mut self) -> Result<u32, Uncounted>
+    pub(crate) fn free_rows(&mut self) -> Result<u32, CountRefusal>
         ensures counts { CountsFree self.old result self.new }
     {
         match replace(&mut self.state, State::Away) {
@@ -19,18 +19,18 @@ impl PassBox {
                 put_back(&mut self.state, State::Free(pass.lay()));
                 match free {
                     Ok(free) => Ok(free),
-                    Err(Busy) => Err(Uncounted::Busy),
+                    Err(Busy) => Err(CountRefusal::Busy),
                 }
             }
             other => {
                 put_back(&mut self.state, other);
-                Err(Uncounted::Pins)
+                Err(CountRefusal::Pins)
             }
         }
     }
 
     /// The versions that are found pinned, if the pass is free.
-    pub(crate) fn pinned_versions(&mut self) -> Result<VersionList, Uncounted>
+    pub(crate) fn pinned_versions(&mut self) -> Result<VersionList, CountRefusal>
         ensures ok { IfOk result
             (λ versions. ListsPinned self.old (Ok versions.items) self.new) }
         ensures err { IfErr result (λ fault. ListsPinned self.old (Err fault) self.new) }
@@ -42,12 +42,12 @@ impl PassBox {
                 put_back(&mut self.state, State::Free(pass.lay()));
                 match found {
                     Ok(versions) => Ok(versions),
-                    Err(Busy) => Err(Uncounted::Busy),
+                    Err(Busy) => Err(CountRefusal::Busy),
                 }
             }
             other => {
                 put_back(&mut self.state, other);
-                Err(Uncounted::Pins)
+                Err(CountRefusal::Pins)
             }
         }
     }

@@ -6,29 +6,37 @@ ghost use Rattle.mst_c.specs.Formats.{Moves};
 ghost use Rattle.mst_c.specs.Holding.{Writes};
 
 use crate::packing::Packed;
-use crate::pass_box::{PassBox, State, Unapplied, Unmoved, Unwritten, put_back};
+use crate::pass_box::{ApplyRefusal, MigrateRefusal, PassBox, State, WriteRefusal, put_back};
 use mst_key::{Format, Key, Value};
 use mst_store::Pass;
 use std::alloc::Global;
 use std::mem::replace;
 
 /// Makes the edits of a buffer as one change.
-fn apply(pass: &mut Pass<'_, Global>, alloc: Global, packed: &Packed<'_>) -> Result<(), Unapplied>
+fn apply(
+    pass: &mut Pass<'_, Global>,
+    alloc: Global,
+    packed: &Packed<'_>,
+) -> Result<(), ApplyRefusal>
     ensures applies { Applies packed.now (state.Free pass.old) result (state.Free pass.new) }
 {
     let edits = match packed.edits(alloc) {
         Ok(edits) => edits,
-        Err(refused) => return Err(Unapplied::Memory(refused)),
+        Err(refused) => return Err(ApplyRefusal::Memory(refused)),
     };
     match pass.try_apply(alloc, edits.as_slice()) {
         Ok(()) => Ok(()),
-        Err(fault) => Err(Unapplied::Store(fault)),
+        Err(fault) => Err(ApplyRefusal::Store(fault)),
     }
 }
 
 impl PassBox {
     /// Gives the key the value, if the pass is free.
-    pub(crate) fn try_put(&mut self, key: &Key, value: &Value) -> Result<Option<Value>, Unwritten>
+    pub(crate) fn try_put(
+        &mut self,
+        key: &Key,
+        value: &Value,
+    ) -> Result<Option<Value>, WriteRefusal>
         ensures writes { Writes (Put key.now value.now) self.old result self.new }
     {
         match replace(&mut self.state, State::Away) {
@@ -38,18 +46,18 @@ impl PassBox {
                 put_back(&mut self.state, State::Free(pass.lay()));
                 match put {
                     Ok(old) => Ok(old),
-                    Err(fault) => Err(Unwritten::Store(fault)),
+                    Err(fault) => Err(WriteRefusal::Store(fault)),
                 }
             }
             other => {
                 put_back(&mut self.state, other);
-                Err(Unwritten::Pins)
+                Err(WriteRefusal::Pins)
             }
         }
     }
 
     /// Takes the key out of the map, if the pass is free.
-    pub(crate) fn try_remove(&mut self, key: &Key) -> Result<Option<Value>, Unwritten>
+    pub(crate) fn try_remove(&mut self, key: &Key) -> Result<Option<Value>, WriteRefusal>
         ensures writes { Writes (Remove key.now) self.old result self.new }
     {
         match replace(&mut self.state, State::Away) {
@@ -59,18 +67,22 @@ impl PassBox {
                 put_back(&mut self.state, State::Free(pass.lay()));
                 match removed {
                     Ok(old) => Ok(old),
-                    Err(fault) => Err(Unwritten::Store(fault)),
+                    Err(fault) => Err(WriteRefusal::Store(fault)),
                 }
             }
             other => {
                 put_back(&mut self.state, other);
-                Err(Unwritten::Pins)
+                Err(WriteRefusal::Pins)
             }
         }
     }
 
     /// Turns the tree to a format, if the pass is free.
-    pub(crate) fn try_migrate(&mut self, alloc: Global, to: Format) -> Result<Format, Unmoved>
+    pub(crate) fn try_migrate(
+        &mut self,
+        alloc: Global,
+        to: Format,
+    ) -> Result<Format, MigrateRefusal>
         ensures moves { Moves to self.old result self.new }
     {
         match replace(&mut self.state, State::Away) {
@@ -80,18 +92,22 @@ impl PassBox {
                 put_back(&mut self.state, State::Free(pass.lay()));
                 match moved {
                     Ok(was) => Ok(was),
-                    Err(fault) => Err(Unmoved::Store(fault)),
+                    Err(fault) => Err(MigrateRefusal::Store(fault)),
                 }
             }
             other => {
                 put_back(&mut self.state, other);
-                Err(Unmoved::Pins)
+                Err(MigrateRefusal::Pins)
             }
         }
     }
 
     /// Makes the edits of a buffer as one change, if the pass is free.
-    pub(crate) fn try_apply(&mut self, alloc: Global, packed: &Packed<'_>) -> Result<(), Unapplied>
+    pub(crate) fn try_apply(
+        &mut self,
+        alloc: Global,
+        packed: &Packed<'_>,
+    ) -> Result<(), ApplyRefusal>
         ensures applies { Applies packed.now self.old result self.new }
     {
         match replace(&mut self.state, State::Away) {
@@ -103,7 +119,7 @@ impl PassBox {
             }
             other => {
                 put_back(&mut self.state, other);
-                Err(Unapplied::Pins)
+                Err(ApplyRefusal::Pins)
             }
         }
     }

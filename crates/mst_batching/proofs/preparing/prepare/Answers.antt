@@ -2,8 +2,8 @@ use Rattle.std.proofs.Common.{◌≡◌, ap, subst, rules}
 use Rattle.mst_key.specs.declared.history.Change.TheVariants.{Batch}
 use Rattle.mst_key.specs.History.{done}
 use Rattle.mst_words.specs.Access.{Seated, IsSameSeat}
-use Rattle.mst_batch.specs.declared.faults.NotApplied.{NotApplied}
-use Rattle.mst_batch.specs.declared.faults.NotApplied.TheVariants as applied
+use Rattle.mst_batch.specs.declared.faults.BatchRefusal.{BatchRefusal}
+use Rattle.mst_batch.specs.declared.faults.BatchRefusal.TheVariants as batch_refusal
 use Rattle.mst_batching.specs.Applying.{LacksEdits}
 use Rattle.mst_batching.proofs.Batched.{batch_memory}
 use Rattle.mst_versions.specs.Writes.{Made}
@@ -28,8 +28,8 @@ returns-in-Err-NoRoom-clause-refused g c =
     let t = c.in-Ok.turn in
     let why = c.in-Err-NoRoom.ensures in
     let back = c.give_back-in-Err-NoRoom in
-    let is : c.in-Err-NoRoom.field-0 ≡ applied.NoRoom = search rules in
-    let lacks = subst (λ (why : NotApplied). LacksEdits why c.args.edits.now t
+    let is : c.in-Err-NoRoom.field-0 ≡ batch_refusal.NoRoom = search rules in
+    let lacks = subst (λ (why : BatchRefusal). LacksEdits why c.args.edits.now t
     c.begin_write.new.seat.me) is why.lacks in
     let same : IsSameSeat c.args.seat.now back.new.seat = search rules in
     refused c.args.seat.now c.begin_write.new.seat.me t c.in-Ok.ensures.begun
@@ -116,7 +116,7 @@ returns-in-Err-Memory-clause-refused g c =
     let why = c.in-Err-Memory.ensures in
     let back = c.give_back in
     let same : IsSameSeat c.args.seat.now back.new.seat = search rules in
-    let several = subst (λ (why : NotApplied). LacksEdits why c.args.edits.now t
+    let several = subst (λ (why : BatchRefusal). LacksEdits why c.args.edits.now t
     c.begin_write.new.seat.me) c.in-Err-Memory.field-0-is why.lacks in
     batch_memory c.args.seat.now c.begin_write.new.seat.me t c.in-Ok.ensures.begun
     c.args.parameters.number

@@ -2,7 +2,7 @@ use Rattle.std.proofs.Common.{rules, ◌≡◌, List, refl, sym, subst, to_z, of
 use Rattle.std.specs.Prelude.{length, Option, Some, Result, Err}
 use Rattle.mst_key.specs.Map.{Pair}
 use Rattle.mst_c_blocks.specs.declared.role_box.Role.{Role}
-use Rattle.mst_c_blocks.specs.declared.asking.Unread.{Unread}
+use Rattle.mst_c_blocks.specs.declared.asking.ReadRefusal.{ReadRefusal}
 use Rattle.mst_c_blocks.specs.Holding.{Lists}
 use Rattle.mst_c_blocks.specs.Proving.{HasDirectory, DirectoryTold}
 use Rattle.mst_c_blocks.specs.Reading.{pairs_code}
@@ -13,16 +13,16 @@ pub returns-in-Err : goal.returns-in-Err
 returns-in-Err c =
     let r : Role = c.in-Some.taken.held.value in
     let t : Role = c.directory-found.new.self in let args = c.args in
-    let a : Result (List Pair) Unread = Err c.in-Err.fault in
+    let a : Result (List Pair) ReadRefusal = Err c.in-Err.fault in
     let held : args.hand.now.held ≡ Some r = search rules in
     let after : c.give.new.hand.held ≡ Some t = search rules in
     let lists : Lists HasDirectory r a t = search rules in
-    let code : to_z w32 (of_z w32 c.unread_code.result)
+    let code : to_z w32 (of_z w32 c.read_refusal_code.result)
     ≡ pairs_code (length args.room.now) a = search rules in
     record {
       told =
           subst (λ (h : Option Role). DirectoryTold h args.room.now args.count.now
-          args.size.now (to_z w32 (of_z w32 c.unread_code.result)) args.room.now
+          args.size.now (to_z w32 (of_z w32 c.read_refusal_code.result)) args.room.now
           args.count.now args.size.now c.give.new.hand.held)
           (sym held) (a, t, after, lists, code, refl, refl, refl);
     }

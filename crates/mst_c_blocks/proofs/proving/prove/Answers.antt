@@ -3,7 +3,7 @@ use Rattle.std.specs.Prelude.{length, Option, Some, Result, Ok, Err}
 use Rattle.mst_key.specs.Bytes.{IsKey}
 use Rattle.mst_c.specs.Told.{room_after, size_after}
 use Rattle.mst_c_blocks.specs.declared.role_box.Role.{Role}
-use Rattle.mst_c_blocks.specs.declared.asking.Unread.{Unread}
+use Rattle.mst_c_blocks.specs.declared.asking.ReadRefusal.{ReadRefusal}
 use Rattle.mst_c_blocks.specs.Holding.{Lists}
 use Rattle.mst_c_blocks.specs.Proving.{HasProof, proof_of, proof_code, ProveTold}
 use Rattle.mst_c_blocks.proofs.proving.prove.Goals as goal
@@ -13,7 +13,7 @@ pub returns-in-Ok-found : goal.returns-in-Ok-found
 returns-in-Ok-found c =
     let r : Role = c.in-Some.taken.held.value in
     let t : Role = c.prove-found.new.self in
-    let a : Result (List ℕ) Unread = Ok c.in-Ok-found.proof.items in
+    let a : Result (List ℕ) ReadRefusal = Ok c.in-Ok-found.proof.items in
     let held : c.args.hand.now.held ≡ Some r = search rules in
     let after : c.give-2.new.hand.held ≡ Some t = search rules in
     let key : IsKey c.args.key.now = search rules in
@@ -38,17 +38,18 @@ pub returns-in-Err : goal.returns-in-Err
 returns-in-Err c =
     let r : Role = c.in-Some.taken.held.value in
     let t : Role = c.prove-found.new.self in
-    let a : Result (List ℕ) Unread = Err c.in-Err.fault in
+    let a : Result (List ℕ) ReadRefusal = Err c.in-Err.fault in
     let held : c.args.hand.now.held ≡ Some r = search rules in
     let after : c.give-2.new.hand.held ≡ Some t = search rules in
     let key : IsKey c.args.key.now = search rules in
     let lists : Lists (HasProof c.args.key.now) r a t = search rules in
-    let code : to_z w32 (of_z w32 c.unread_code.result) ≡ proof_code (length c.args.room.now) a =
+    let code : to_z w32 (of_z w32 c.read_refusal_code.result) ≡ proof_code (length c.args.room.now)
+    a =
     search rules in
     record {
       told =
           subst (λ (h : Option Role). ProveTold h c.args.key.now c.args.room.now
-          c.args.size.now (to_z w32 (of_z w32 c.unread_code.result)) c.args.room.now
+          c.args.size.now (to_z w32 (of_z w32 c.read_refusal_code.result)) c.args.room.now
           c.args.size.now c.give-2.new.hand.held)
           (sym held) (
             (λ no. absurd (no key)),

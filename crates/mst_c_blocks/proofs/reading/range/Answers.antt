@@ -4,7 +4,7 @@ use Rattle.mst_key.specs.Map.{Pair, map_range}
 use Rattle.mst_c.specs.Ranges.{pairs_bytes, count_of}
 use Rattle.mst_c.specs.Told.{IsBound, bound_of, room_after, size_after}
 use Rattle.mst_c_blocks.specs.declared.role_box.Role.{Role}
-use Rattle.mst_c_blocks.specs.declared.asking.Unread.{Unread}
+use Rattle.mst_c_blocks.specs.declared.asking.ReadRefusal.{ReadRefusal}
 use Rattle.mst_c_blocks.specs.Holding.{Lists}
 use Rattle.mst_c_blocks.specs.Reading.{OfMap, pairs_of, pairs_code, RangeTold}
 use Rattle.mst_c_blocks.proofs.reading.range.Goals as goal
@@ -33,7 +33,7 @@ pub returns-in-Ok-found : goal.returns-in-Ok-found
 returns-in-Ok-found c =
     let r : Role = c.in-Some.taken.held.value in
     let t : Role = c.range-found.new.self in let args = c.args in
-    let a : Result (List Pair) Unread = Ok c.in-Ok-found.pairs.items in
+    let a : Result (List Pair) ReadRefusal = Ok c.in-Ok-found.pairs.items in
     let held : args.hand.now.held ≡ Some r = search rules in
     let after : c.give-2.new.hand.held ≡ Some t = search rules in
     let low : IsBound args.from.now = search rules in
@@ -65,7 +65,7 @@ pub returns-in-Err : goal.returns-in-Err
 returns-in-Err c =
     let r : Role = c.in-Some.taken.held.value in
     let t : Role = c.range-found.new.self in let args = c.args in
-    let a : Result (List Pair) Unread = Err c.in-Err.fault in
+    let a : Result (List Pair) ReadRefusal = Err c.in-Err.fault in
     let held : args.hand.now.held ≡ Some r = search rules in
     let after : c.give-2.new.hand.held ≡ Some t = search rules in
     let low : IsBound args.from.now = search rules in
@@ -73,12 +73,14 @@ returns-in-Err c =
     let lists :
     Lists (OfMap (λ m. map_range m (bound_of args.from.now) (bound_of args.to.now) args.limit))
     r a t = search rules in
-    let code : to_z w32 (of_z w32 c.unread_code.result) ≡ pairs_code (length args.room.now) a =
+    let code : to_z w32 (of_z w32 c.read_refusal_code.result) ≡ pairs_code (length args.room.now)
+    a =
     search rules in
     record {
       told =
           subst (λ (h : Option Role). RangeTold h args.from.now args.to.now args.limit
-          args.room.now args.count.now args.size.now (to_z w32 (of_z w32 c.unread_code.result))
+          args.room.now args.count.now args.size.now
+          (to_z w32 (of_z w32 c.read_refusal_code.result))
           args.room.now args.count.now args.size.now c.give-2.new.hand.held)
           (sym held) (
             (λ no. absurd (no low)),

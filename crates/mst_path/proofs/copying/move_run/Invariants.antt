@@ -1,7 +1,7 @@
 use Rattle.mst_key.specs.declared.format.Format.{Format}
 use Rattle.std.proofs.Common.{◌≡◌, ◌≤◌, ◌+◌}
 use Rattle.mst_arena.specs.Lives.{free_count}
-use Rattle.mst_path.specs.Takes.{IsWritable, StaysBeside}
+use Rattle.mst_path.specs.Takes.{RowsAreWritable, StaysBeside}
 use Rattle.mst_path.specs.Writing.{IsNextBlank, IsWriter}
 use Rattle.mst_path.specs.Copying.{Copying}
 use Rattle.mst_path.proofs.lemmas.rows.CopyRuns.{Progress}
@@ -14,7 +14,7 @@ invariant-loop g l = record {
   node : (l.writer.layer ≡ l.fn.writer.layer) × (l.writer.count ≡ l.fn.writer.count)
       × (l.writer.head ≡ l.fn.writer.head);
   room : l.writer.left ≤ free_count l.desk.lives + 1;
-  ready : IsWritable l.desk.lives (g.R.Rows.blank l.rows);
+  ready : RowsAreWritable l.desk.lives (g.R.Rows.blank l.rows);
   beside : StaysBeside g.R.Rows.blank g.R.Rows.kept l.fn.rows l.rows;
   next : IsNextBlank l.writer.next (g.R.Rows.blank l.rows);
   progress : (format : Format)

@@ -6,7 +6,7 @@ use Rattle.mst_arena.specs.Ways.{entry_way, way_at}
 use Rattle.mst_arena.specs.declared.row.KeyedLinks.{KeyedLinks}
 use Rattle.mst_arena.specs.declared.sought.Way.TheVariants.{Here}
 use Rattle.mst_arena.proofs.WayLemmas.{way_is, to_child, is_here, to_next}
-use Rattle.mst_path.specs.declared.making.Run.{Run}
+use Rattle.mst_path.specs.declared.making.EntryRun.{EntryRun}
 use Rattle.mst_path.specs.Cutting.{EntriesLie, CutGap}
 use Rattle.mst_path.specs.Writing.{PlacedEntry}
 use Rattle.mst_path.proofs.lemmas.rows.CopyRows.{links_there}
@@ -111,7 +111,7 @@ loop-count-preserved g c =
 
 pub returns-clause-cut : goal.returns-clause-cut
 returns-clause-cut g c format es tail lie tail_is =
-    subst (λ (back : Run). CutGap format c.args.key.now es tail
+    subst (λ (back : EntryRun). CutGap format c.args.key.now es tail
     (record { first = c.args.head.now.first; count = c.args.head.now.count })
     c.args.head.now.tail back) (sym c.no_run.ensures.none)
     (cut_end format _ _ _ es lie _ _ _ refl (c.loop-count.invariant.onward format es lie) tail

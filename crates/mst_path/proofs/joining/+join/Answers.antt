@@ -3,7 +3,7 @@ use Rattle.mst_arena.specs.Content.{Content}
 use Rattle.mst_arena.specs.Lives.{free_count}
 use Rattle.mst_arena.specs.Lists.{times}
 use Rattle.mst_arena.specs.Standing.{used}
-use Rattle.mst_path.specs.Takes.{IsWritable}
+use Rattle.mst_path.specs.Takes.{RowsAreWritable}
 use Rattle.mst_path.specs.Making.{Grown}
 use Rattle.mst_path.specs.Frames.{Framed, in_frame, tree_round, frame_rows}
 use Rattle.mst_path.specs.Joining.{TwoTrees, in_both, both_joined, both_rows, height_at, Met}
@@ -58,7 +58,7 @@ join-seam-requires g t c κs within =
             subst (λ (x : Content). (y : TwoTrees c.args.format x c.args.desk.now m.left m.right)
                 × (both_rows c.args.format y ≤ free_count c.args.desk.now.lives)) (sym same)
                 (met.inner, omega (arith, c.requires.trees.1, met.rows)),
-            subst (IsWritable c.args.desk.now.lives)
+            subst (RowsAreWritable c.args.desk.now.lives)
                 (sym (ap g.R.Rows.blank c.meet-meeting.ensures.same)) c.requires.ready,
           ),
         ),

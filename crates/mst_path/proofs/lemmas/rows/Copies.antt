@@ -12,7 +12,7 @@ use Rattle.mst_arena.proofs.ListLemmas.{times-append}
 use Rattle.mst_path.specs.Takes.{IsOut, KeepsBut}
 use Rattle.mst_path.specs.Moves.{IsAlive, IsOld, Moves, IsNew}
 use Rattle.mst_path.specs.Made.{AreMade}
-use Rattle.mst_path.specs.Runs.{Run, own, gaps_used, AreCopies}
+use Rattle.mst_path.specs.Runs.{RunStands, own, gaps_used, AreCopies}
 use Rattle.mst_path.specs.Writing.{PlacedEntry, link_from, entries_used, ahead, IsWritten}
 use Rattle.mst_path.specs.Copying.{Going, Copied}
 use Rattle.mst_path.specs.declared.node_writer.NodeWriter.{NodeWriter}
@@ -30,7 +30,7 @@ copy_in r e = record { at = r; child = e.child; key = e.key; value = e.value }
 module _ {A : Type 0} (format : Format) (w w' : NodeWriter A) (c c' : Content) (s s' : State)
     (e : PlacedEntry)
     (rest ws : List PlacedEntry) (behind link count r : ℕ)
-    (run : Run format c s link count behind (e ∷ rest)) (going : Going format w c s ws)
+    (run : RunStands format c s link count behind (e ∷ rest)) (going : Going format w c s ws)
     (once : (x : ℕ) → times x (entries_used ws) + times x (own (e ∷ rest)) + times x
     (gaps_used (e ∷ rest)) ≤ 1) (is : w.next ≡ Some r)
     (moves : Moves s s' (ahead w'.next) (e.at ∷ [])) (keeps : KeepsBut (ahead w.next) c c') where
@@ -158,7 +158,8 @@ module _ {A : Type 0} (format : Format) (w w' : NodeWriter A) (c c' : Content) (
       out_first x (y ∷ xs) ys out = (out.0, out_first x xs ys out.1)
 
   -- what is left to be copied
-  pub rest_runs : (n : ℕ) → n + 1 ≡ count → Run format c' s' (link_from behind rest) n behind rest
+  pub rest_runs : (n : ℕ) → n + 1 ≡ count → RunStands format c' s' (link_from behind rest) n behind
+      rest
   rest_runs n less =
       let own_kept : (x : ℕ) → In x (own rest) → c' x ≡ c x =
       λ x i. kept_at c c' (ahead w.next) x keeps (old_out x (run.old x (omega (arith, i)))) in

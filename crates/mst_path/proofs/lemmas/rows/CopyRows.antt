@@ -17,7 +17,7 @@ use Rattle.mst_arena.specs.declared.life.Life.TheVariants.{Born}
 use Rattle.mst_arena.specs.Standing.{Placed, none as no_tree, head as tree_head, used, link_of, HasRows}
 use Rattle.mst_arena.proofs.ListLemmas.{times-append}
 use Rattle.mst_arena.proofs.Stands.{placed_frame}
-use Rattle.mst_path.specs.Takes.{IsOut, KeepsBut, FreeIsBlank, FewRows, IsWritable}
+use Rattle.mst_path.specs.Takes.{IsOut, KeepsBut, FreeIsBlank, FewRows, RowsAreWritable}
 use Rattle.mst_path.specs.Moves.{IsAlive, IsOld, Moves, IsNew}
 use Rattle.mst_path.specs.Runs.{OldPiece, own_rows, own, gaps_used, EachGap}
 use Rattle.mst_path.specs.Writing.{PlacedEntry, entries_used, ahead, IsAhead}
@@ -125,7 +125,7 @@ module _ (s s' : State) (t k : List ℕ) (m : Moves s s' t k) (blank : ℕ → B
 
 -- rows may still be taken and written
 pub still_writable : (s s' : State) (t k : List ℕ) (blank blank' : ℕ → Bool) → Moves s s' t k
-    → blank' ≡ blank → IsWritable s.lives blank → IsWritable s'.lives blank'
+    → blank' ≡ blank → RowsAreWritable s.lives blank → RowsAreWritable s'.lives blank'
 still_writable s s' t k blank blank' m same ready = record {
   few = omega (arith, ready.few, m.rows);
   free = subst (FreeIsBlank s'.lives) (sym same) (blank_free s s' t k m blank ready.free);

@@ -9,7 +9,7 @@ use Rattle.mst_arena.specs.declared.row.Row.TheVariants.{Entry}
 use Rattle.mst_arena.specs.Standing.{link_of}
 use Rattle.mst_path.specs.Takes.{KeepsBut}
 use Rattle.mst_path.specs.Moves.{IsOld, Moves}
-use Rattle.mst_path.specs.Runs.{Run, own, gaps_used}
+use Rattle.mst_path.specs.Runs.{RunStands, own, gaps_used}
 use Rattle.mst_path.specs.Writing.{PlacedEntry, link_from, entries_used, ahead, IsWritten}
 use Rattle.mst_path.specs.Copying.{Copying, Copied}
 use Rattle.mst_path.specs.declared.node_writer.NodeWriter.{NodeWriter}
@@ -29,7 +29,7 @@ module _ {A : Type 0} (format : Format) {w0 : NodeWriter A} {c0 : Content} {s0 :
     pub left : ℕ
     pub adds : i + left ≡ count
     pub copied : Copied format w0 w c0 c s0 s k.ws first
-    pub run : Run format c s link left k.behind rest
+    pub run : RunStands format c s link left k.behind rest
     pub once : (x : ℕ) → times x (entries_used (k.ws ++ copied.copies)) + times x (own rest) + times
         x (gaps_used rest) ≤ 1
 
@@ -77,8 +77,8 @@ module _ {A : Type 0} (format : Format) {w0 : NodeWriter A} {c0 : Content} {s0 :
   module _ {i : ℕ} {w : NodeWriter A} {c : Content} {s : State} {link : ℕ}
       {p : Progress i w c s link}
       (n : Next i w c s link p) where
-    pub next_run : Run format c s link p.left k.behind (n.entry ∷ n.more)
-    next_run = subst (Run format c s link p.left k.behind) n.is p.run
+    pub next_run : RunStands format c s link p.left k.behind (n.entry ∷ n.more)
+    next_run = subst (RunStands format c s link p.left k.behind) n.is p.run
 
     pub link_is : link ≡ n.entry.at + 1
     link_is = sym next_run.begins

@@ -7,7 +7,7 @@ use Rattle.mst_arena.specs.Lives.{State}
 use Rattle.mst_arena.specs.Lists.{times}
 use Rattle.mst_arena.specs.declared.row.Root.{Root}
 use Rattle.mst_arena.specs.Standing.{Placed, none, tree_of, used}
-use Rattle.mst_path.specs.declared.making.Run.{Run as Entries_at}
+use Rattle.mst_path.specs.declared.making.EntryRun.{EntryRun}
 use Rattle.mst_path.specs.Making.{PartsStand, Grown, Split}
 use Rattle.mst_path.specs.Moves.{IsAlive}
 use Rattle.mst_path.specs.PutPath.{TwoStand, in_two}
@@ -15,14 +15,14 @@ use Rattle.mst_path.proofs.lemmas.steps.Steps.{step_split, step_grown, step_then
 
 -- parts without entries, with a tree in the seam
 abbrev pub bare_parts : (format : Format) (c : Content) (s : State) (left right : Root)
-    (t : TwoStand format c s left right) (l : ℕ) (a b : Entries_at)
+    (t : TwoStand format c s left right) (l : ℕ) (a b : EntryRun)
     → a ≡ record { first = 0; count = 0 } → b ≡ record { first = 0; count = 0 }
     → PartsStand format c s (record { layer = l; front = a; seam = right; back = b; tail = 0 })
 bare_parts format c s left right t l a b a_is b_is = record {
   front = [];
   behind = a.first;
   front_run = record {
-    counted = sym (ap (λ (e : Entries_at). e.count) a_is);
+    counted = sym (ap (λ (e : EntryRun). e.count) a_is);
     begins = refl;
     rows =
         tt;
@@ -35,8 +35,8 @@ bare_parts format c s left right t l a b a_is b_is = record {
   back = [];
   tail = none;
   back_run = record {
-    counted = sym (ap (λ (e : Entries_at). e.count) b_is);
-    begins = sym (ap (λ (e : Entries_at). e.first) b_is);
+    counted = sym (ap (λ (e : EntryRun). e.count) b_is);
+    begins = sym (ap (λ (e : EntryRun). e.first) b_is);
     rows = tt;
     old = λ x i. absurd (omega arith);
     gaps = tt;

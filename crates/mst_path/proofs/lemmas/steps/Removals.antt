@@ -11,13 +11,13 @@ use Rattle.mst_arena.specs.Row.{head_links}
 use Rattle.mst_arena.specs.declared.row.HeadLinks.{HeadLinks}
 use Rattle.mst_arena.specs.Standing.{tree_of, link_of, used}
 use Rattle.mst_arena.proofs.ListLemmas.{times-append}
-use Rattle.mst_path.specs.declared.making.Run.{Run as RunOf}
+use Rattle.mst_path.specs.declared.making.EntryRun.{EntryRun}
 use Rattle.mst_change.specs.Parts.{first_child, with_first, node_of}
 use Rattle.mst_change.specs.Join.{join}
 use Rattle.mst_change.specs.Remove.{tree_remove}
 use Rattle.mst_change.specs.Cost.{side_rows, join_rows, remove_rows}
 use Rattle.mst_path.specs.Moves.{IsOld}
-use Rattle.mst_path.specs.Runs.{OldPiece, Run, own, gaps_used, EachGap}
+use Rattle.mst_path.specs.Runs.{OldPiece, RunStands, own, gaps_used, EachGap}
 use Rattle.mst_path.specs.Making.{BackRun, cell_of, cells_of, entries_to, others, tail_behind}
 use Rattle.mst_path.specs.Cutting.{gap_before, CutGap, CutFound}
 use Rattle.mst_path.specs.RemovePath.{SearchTree, in_tree, without, without_rows}
@@ -45,7 +45,7 @@ module _ (format : Format) (c : Content) (s : State) (link : ℕ) (t : SearchTre
     all = entries_to format top.entries top.tail
 
     -- what is left of the node round these runs
-    abbrev frame_of : RunOf → RunOf → ℕ → Option ℕ → Frame
+    abbrev frame_of : EntryRun → EntryRun → ℕ → Option ℕ → Frame
     frame_of front back tail_link other = record {
       layer = h.layer;
       front = front;
@@ -55,11 +55,11 @@ module _ (format : Format) (c : Content) (s : State) (link : ℕ) (t : SearchTre
       other = other;
     }
 
-    module _ (front back : RunOf) (child tail_link : ℕ)
+    module _ (front back : EntryRun) (child tail_link : ℕ)
         (cut : CutGap format k top.entries top.tail front child back)
         (tail_is : tail_link ≡ tail_behind back.count h.tail) where
-      gap_run : Run format c s h.first h.count 0 (cut.before ++ cut.behind)
-      gap_run = subst (Run format c s h.first h.count 0) cut.whole top.run
+      gap_run : RunStands format c s h.first h.count 0 (cut.before ++ cut.behind)
+      gap_run = subst (RunStands format c s h.first h.count 0) cut.whole top.run
 
       pub gap_behind : Behind format c s h.layer back.first back.count h.tail cut.behind top.tail
       gap_behind = behind format c s h.layer back.first back.count h.tail cut.behind top.tail
@@ -146,12 +146,12 @@ module _ (format : Format) (c : Content) (s : State) (link : ℕ) (t : SearchTre
         low = low_layer format c s t.placed (link - 1) h top t.search;
       }
 
-    module _ (front back : RunOf) (row child right tail_link : ℕ)
+    module _ (front back : EntryRun) (row child right tail_link : ℕ)
         (cut : CutFound format k top.entries top.tail front row child back)
         (right_is : link_of (gap_before cut.behind top.tail) ≡ right)
         (tail_is : tail_link ≡ tail_behind back.count h.tail) where
-      held_run : Run format c s h.first h.count 0 (cut.before ++ cut.here ∷ cut.behind)
-      held_run = subst (Run format c s h.first h.count 0) cut.whole top.run
+      held_run : RunStands format c s h.first h.count 0 (cut.before ++ cut.here ∷ cut.behind)
+      held_run = subst (RunStands format c s h.first h.count 0) cut.whole top.run
 
       held_search : IsMstEntries format h.layer
           (entry (tree_of format cut.here.child) k cut.here.value

@@ -11,7 +11,7 @@ use Rattle.mst_arena.specs.Lives.{State, free_count}
 use Rattle.mst_arena.specs.Lists.{times}
 use Rattle.mst_arena.specs.declared.row.Root.{Root}
 use Rattle.mst_arena.specs.Standing.{Placed, none, tree_of, used}
-use Rattle.mst_path.specs.declared.making.Run.{Run as Entries_at}
+use Rattle.mst_path.specs.declared.making.EntryRun.{EntryRun}
 use Rattle.mst_path.specs.declared.frames.Frame.{Frame}
 use Rattle.mst_change.specs.Parts.{with_first, node_of, is_empty}
 use Rattle.mst_change.specs.Split.{below, above}
@@ -75,7 +75,7 @@ module _ (format : Format) {c : Content} {s : State} {link : ℕ} {k : List ℕ}
     pub head_alone : (x : ℕ) → times x (spare frame) ≡ times x (frame.head ∷ [])
     head_alone x = ap (λ other. times x (frame.head ∷ ahead other)) alone
 
-    module _ {none_l none_r : Entries_at} (none_l_is : none_l ≡ record { first = 0; count = 0 })
+    module _ {none_l none_r : EntryRun} (none_l_is : none_l ≡ record { first = 0; count = 0 })
         (none_r_is : none_r ≡ record { first = 0; count = 0 }) where
       abbrev pub both : BothStand format c1 s1 frame.head
           (record {
@@ -108,8 +108,8 @@ module _ (format : Format) {c : Content} {s : State} {link : ℕ} {k : List ℕ}
           back = [];
           tail = none;
           back_run = record {
-            counted = sym (ap (λ (e : Entries_at). e.count) none_l_is);
-            begins = sym (ap (λ (e : Entries_at). e.first) none_l_is);
+            counted = sym (ap (λ (e : EntryRun). e.count) none_l_is);
+            begins = sym (ap (λ (e : EntryRun). e.first) none_l_is);
             rows = tt;
             old = λ x i. absurd (omega arith);
             gaps = tt;
@@ -123,7 +123,7 @@ module _ (format : Format) {c : Content} {s : State} {link : ℕ} {k : List ℕ}
           front = [];
           behind = none_r.first;
           front_run = record {
-            counted = sym (ap (λ (e : Entries_at). e.count) none_r_is);
+            counted = sym (ap (λ (e : EntryRun). e.count) none_r_is);
             begins = refl;
             rows = tt;
             old = λ x i. absurd (omega arith);
@@ -162,12 +162,12 @@ module _ (format : Format) {c : Content} {s : State} {link : ℕ} {k : List ℕ}
             let a : side_rows (frame.front.count + none_l.count) false ≡ side_rows
             frame.front.count (is_empty (above k whole_tree)) =
             ap (λ m. side_rows m false)
-            (omega (arith, ap (λ (e : Entries_at). e.count) none_l_is))
+            (omega (arith, ap (λ (e : EntryRun). e.count) none_l_is))
             ∙ ap (side_rows frame.front.count) (sym (all_below ∙ not_below)) in
             let b : side_rows (none_r.count + frame.back.count) false ≡ side_rows
             frame.back.count (is_empty (below k whole_tree)) =
             ap (λ m. side_rows m false)
-            (omega (arith, ap (λ (e : Entries_at). e.count) none_r_is))
+            (omega (arith, ap (λ (e : EntryRun). e.count) none_r_is))
             ∙ ap (side_rows frame.back.count) (sym (all_above ∙ not_above)) in
             omega (arith, a, b, rows_are format c s link k t child frame o)
 

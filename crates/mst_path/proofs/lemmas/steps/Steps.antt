@@ -12,7 +12,7 @@ use Rattle.mst_arena.proofs.ListLemmas.{times-append}
 use Rattle.mst_arena.proofs.Stands.{placed_frame}
 use Rattle.mst_path.specs.Takes.{KeepsBut}
 use Rattle.mst_path.specs.Moves.{IsAlive, IsOld, Moves}
-use Rattle.mst_path.specs.Runs.{Piece, OldPiece, Run, own, gaps_used, EachGap}
+use Rattle.mst_path.specs.Runs.{Piece, OldPiece, RunStands, own, gaps_used, EachGap}
 use Rattle.mst_path.specs.Writing.{PlacedEntry}
 use Rattle.mst_path.specs.Making.{others, BackRun, PartsStand, in_parts, Grown, Split}
 use Rattle.mst_path.specs.declared.making.NodeParts.{NodeParts}
@@ -138,7 +138,7 @@ module _ (format : Format) (c c' : Content) (s s' : State) (given spent : ℕ �
 
   pub run_after : (link count behind : ℕ) (es : List PlacedEntry)
       → ((x : ℕ) → times x (own es) + times x (gaps_used es) + given x ≤ 1)
-      → Run format c s link count behind es → Run format c' s' link count behind es
+      → RunStands format c s link count behind es → RunStands format c' s' link count behind es
   run_after link count behind es apart run = record {
     counted = run.counted;
     begins = run.begins;

@@ -8,7 +8,7 @@ use Rattle.mst_arena.specs.Standing.{Placed, used}
 use Rattle.mst_arena.proofs.Stands.{placed_frame}
 use Rattle.mst_path.specs.Takes.{KeepsBut}
 use Rattle.mst_path.specs.Moves.{IsAlive, Moves}
-use Rattle.mst_path.specs.Runs.{Piece, OldPiece, Run, own, gaps_used}
+use Rattle.mst_path.specs.Runs.{Piece, OldPiece, RunStands, own, gaps_used}
 use Rattle.mst_path.specs.Writing.{PlacedEntry}
 use Rattle.mst_path.specs.Making.{others, BackRun}
 use Rattle.mst_path.proofs.lemmas.rows.Moving.{old_stays}
@@ -43,7 +43,7 @@ module _ (format : Format) (c c' : Content) (s s' : State) (t k ks : List ℕ) (
 
   pub run_later : (link count behind : ℕ) (es : List PlacedEntry)
       → ((x : ℕ) → In x (own es) → times x k ≡ 0) → ((x : ℕ) → In x (gaps_used es) → times x k ≡ 0)
-      → Run format c s link count behind es → Run format c' s' link count behind es
+      → RunStands format c s link count behind es → RunStands format c' s' link count behind es
   run_later link count behind es out gaps_out run = record {
     counted = run.counted;
     begins = run.begins;

@@ -14,7 +14,7 @@ use Rattle.mst_arena.specs.declared.row.Row.{Row}
 use Rattle.mst_arena.specs.declared.row.Row.TheVariants.{Entry}
 use Rattle.mst_arena.specs.declared.row.HeadLinks.{HeadLinks}
 use Rattle.mst_arena.specs.Standing.{Placed, tree_of, link_of}
-use Rattle.mst_path.specs.declared.making.Run.{Run as RunOf}
+use Rattle.mst_path.specs.declared.making.EntryRun.{EntryRun}
 use Rattle.mst_path.specs.declared.cut.Cut.{Cut}
 use Rattle.mst_change.specs.Parts.{first_child}
 use Rattle.mst_change.specs.Gap.{CellsBelow, FallsFirst, IsGap, IsAt}
@@ -127,7 +127,7 @@ module _ (format : Format) (c : Content) (s : State) (link : ℕ) (t : SearchTre
           (top format c s link t k h some read).tail))
       all_rise = subst IsAscending (ap pairs (top format c s link t k h some read).tree) rise
 
-      pub finds_below : (front back : RunOf) (child : ℕ) → CutGap format k
+      pub finds_below : (front back : EntryRun) (child : ℕ) → CutGap format k
           (top format c s link t k h some read).entries (top format c s link t k h some read).tail
           front child back → FindsBelow format c s link t k child
       finds_below front back child cut =
@@ -152,13 +152,13 @@ module _ (format : Format) (c : Content) (s : State) (link : ℕ) (t : SearchTre
                 );
           }
 
-      pub finds_here : (front back : RunOf) (row child : ℕ) → CutFound format k
+      pub finds_here : (front back : EntryRun) (row child : ℕ) → CutFound format k
           (top format c s link t k h some read).entries (top format c s link t k h some read).tail
           front row child back → FindsHere format c s link t k row
       finds_here front back row child cut =
           let o = top format c s link t k h some read in
           let run =
-          subst (λ (es : List PlacedEntry). Rattle.mst_path.specs.Runs.Run format c s h.first
+          subst (λ (es : List PlacedEntry). Rattle.mst_path.specs.Runs.RunStands format c s h.first
           h.count 0 es) cut.whole o.run in
           let rows = back_rows c cut.before (cut.here ∷ cut.behind) run.rows in
           let there : c row ≡ Some

@@ -21,7 +21,7 @@ use Rattle.mst_change.specs.Parts.{cells, last_child, first_child, with_first}
 use Rattle.mst_change.specs.Join.{join}
 use Rattle.mst_change.specs.Cost.{join_rows}
 use Rattle.mst_path.specs.Moves.{IsOld}
-use Rattle.mst_path.specs.Runs.{OldPiece, Run, gaps_used}
+use Rattle.mst_path.specs.Runs.{OldPiece, RunStands, gaps_used}
 use Rattle.mst_path.specs.Making.{BackRun, cell_of, cells_of, entries_to, others}
 use Rattle.mst_path.specs.Joining.{TwoTrees, height, height_at, Met, above_right, below_right, beside_right}
 use Rattle.mst_path.specs.Writing.{PlacedEntry, link_from}
@@ -74,8 +74,8 @@ module _ (format : Format) (c : Content) (s : State) (p : Placed) (row : ℕ) (h
   first_low = height_under h.layer (tree_of format first.entry.child)
       (subst (IsUnder h.layer) first_is (first_mst entries format h.layer node_search.2).0)
 
-  first_run : Run format c s h.first h.count 0 (first.entry ∷ first.more)
-  first_run = subst (Run format c s h.first h.count 0) first.is o.run
+  first_run : RunStands format c s h.first h.count 0 (first.entry ∷ first.more)
+  first_run = subst (RunStands format c s h.first h.count 0) first.is o.run
 
   pub first_piece : OldPiece format c s first.entry.child
   first_piece = first_run.gaps.0

@@ -12,7 +12,7 @@ use Rattle.mst_arena.specs.Standing.{Placed, none as no_tree, link_of, used}
 use Rattle.mst_change.specs.Parts.{node_of}
 use Rattle.mst_change.specs.Cost.{side_rows}
 use Rattle.mst_path.specs.Moves.{IsAlive}
-use Rattle.mst_path.specs.Runs.{OldPiece, Run, EachGap}
+use Rattle.mst_path.specs.Runs.{OldPiece, RunStands, EachGap}
 use Rattle.mst_path.specs.Making.{BackRun, HasTail, others}
 use Rattle.mst_path.specs.Joining.{height}
 use Rattle.mst_path.specs.Writing.{PlacedEntry}
@@ -54,7 +54,7 @@ has_tail [] tail some = absurd (omega (arith, some))
 has_tail (e ∷ es) tail some = tt
 
 pub back_of_run : (format : Format) (c : Content) (s : State) (link count : ℕ)
-    (es : List PlacedEntry) → Run format c s link count 0 es → 0 < length es → (tail_link : ℕ)
+    (es : List PlacedEntry) → RunStands format c s link count 0 es → 0 < length es → (tail_link : ℕ)
     (tail : Placed) → link_of tail ≡ tail_link → OldPiece format c s tail → BackRun format c s link
     count tail_link es tail
 back_of_run format c s link count es run some tail_link tail at piece = record {
@@ -80,7 +80,7 @@ no_back format c s = record {
   tail_none = refl;
 }
 
-pub no_front : (format : Format) (c : Content) (s : State) → Run format c s 0 0 0 []
+pub no_front : (format : Format) (c : Content) (s : State) → RunStands format c s 0 0 0 []
 no_front format c s =
     record {
       counted = refl;

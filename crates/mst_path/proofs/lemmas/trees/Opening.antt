@@ -16,7 +16,7 @@ use Rattle.mst_arena.proofs.ListLemmas.{times-append}
 use Rattle.mst_arena.proofs.Stands.{all-front, all-back}
 use Rattle.mst_change.specs.Parts.{cells, last_child}
 use Rattle.mst_path.specs.Moves.{IsOld}
-use Rattle.mst_path.specs.Runs.{OldPiece, Run, own_rows, own, gaps_used, EachGap}
+use Rattle.mst_path.specs.Runs.{OldPiece, RunStands, own_rows, own, gaps_used, EachGap}
 use Rattle.mst_path.specs.Making.{cell_of, cells_of, entries_to}
 use Rattle.mst_path.specs.Writing.{PlacedEntry, link_from}
 use Rattle.mst_path.proofs.lemmas.rows.CopyRows.{at_self}
@@ -96,7 +96,7 @@ pub record Opened (format : Format) (c : Content) (s : State) (p : Placed) (row 
     (h : HeadLinks) : Type 0 where
   pub entries : List PlacedEntry
   pub tail : Placed
-  pub run : Run format c s h.first h.count 0 entries
+  pub run : RunStands format c s h.first h.count 0 entries
   pub tail_at : link_of tail ≡ h.tail
   pub tail_piece : OldPiece format c s tail
   pub head_old : IsOld s row

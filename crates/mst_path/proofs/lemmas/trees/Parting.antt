@@ -12,7 +12,7 @@ use Rattle.mst_arena.specs.declared.row.Row.TheVariants.{Entry}
 use Rattle.mst_arena.proofs.ListLemmas.{times-append}
 use Rattle.mst_change.specs.Parts.{first_child, with_first}
 use Rattle.mst_path.specs.Moves.{IsOld}
-use Rattle.mst_path.specs.Runs.{OldPiece, Run, own_rows, own, gaps_used, EachGap}
+use Rattle.mst_path.specs.Runs.{OldPiece, RunStands, own_rows, own, gaps_used, EachGap}
 use Rattle.mst_path.specs.Making.{BackRun, cells_of, entries_to, others, tail_behind}
 use Rattle.mst_path.specs.Cutting.{gap_before}
 use Rattle.mst_path.specs.Joining.{height}
@@ -64,9 +64,9 @@ gaps_both x (e ∷ xs) ys =
     )
 
 module _ (format : Format) (c : Content) (s : State) (link count : ℕ) (xs ys : List PlacedEntry)
-    (run : Run format c s link count 0 (xs ++ ys)) where
+    (run : RunStands format c s link count 0 (xs ++ ys)) where
   pub front_run : (first n behind : ℕ) → length xs ≡ n → link_from behind xs ≡ first
-      → behind ≡ link_from 0 ys → Run format c s first n behind xs
+      → behind ≡ link_from 0 ys → RunStands format c s first n behind xs
   front_run first n behind counted begins is = record {
     counted = counted;
     begins = begins;

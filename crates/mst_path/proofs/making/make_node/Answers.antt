@@ -1,7 +1,7 @@
 use Rattle.std.proofs.Common.{◌≡◌, ◌∷◌, [], length, refl, ◌∙◌, arith}
 use Rattle.std.proofs.lemmas.List.Sums.{count_by-le-length}
 use Rattle.mst_arena.specs.Lives.{is_free}
-use Rattle.mst_path.specs.Takes.{IsWritable}
+use Rattle.mst_path.specs.Takes.{RowsAreWritable}
 use Rattle.mst_path.specs.Writing.{ahead}
 use Rattle.mst_path.specs.Copying.{Copied}
 use Rattle.mst_path.specs.Making.{PartsStand}
@@ -26,7 +26,7 @@ module _ (g : Over) (c : goal.After-begin-writer g) where
       c.begin-writer.ensures.writer.reserved).1
       (omega (arith, c.begin-writer.ensures.node, c.requires.some))
 
-  ready : IsWritable c.begin-writer.new.desk.lives (g.R.Rows.blank c.args.rows.now)
+  ready : RowsAreWritable c.begin-writer.new.desk.lives (g.R.Rows.blank c.args.rows.now)
   ready = still_writable c.args.desk.now c.begin-writer.new.desk
       (c.begin-writer.result.head ∷ ahead c.begin-writer.result.next) [] _ _ begun.moves refl
       c.requires.ready

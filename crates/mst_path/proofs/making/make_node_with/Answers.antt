@@ -3,7 +3,7 @@ use Rattle.std.proofs.lemmas.List.Sums.{count_by-le-length}
 use Rattle.mst_arena.specs.Lives.{is_free, free_count}
 use Rattle.mst_arena.specs.Lists.{times}
 use Rattle.mst_arena.specs.Standing.{Placed, used}
-use Rattle.mst_path.specs.Takes.{IsWritable}
+use Rattle.mst_path.specs.Takes.{RowsAreWritable}
 use Rattle.mst_path.specs.Moves.{Moves}
 use Rattle.mst_path.specs.Runs.{Piece}
 use Rattle.mst_path.specs.Writing.{ahead, IsRootOf, IsWritten}
@@ -32,7 +32,7 @@ module _ (g : Over) (c : goal.After-begin-writer g) where
       (ahead_length c.begin-writer.result.next c.begin-writer.result.left
       c.begin-writer.ensures.writer.reserved).1 (omega (arith, c.begin-writer.ensures.node))
 
-  ready : IsWritable c.begin-writer.new.desk.lives (g.R.Rows.blank c.args.rows.now)
+  ready : RowsAreWritable c.begin-writer.new.desk.lives (g.R.Rows.blank c.args.rows.now)
   ready = still_writable c.args.desk.now c.begin-writer.new.desk
       (c.begin-writer.result.head ∷ ahead c.begin-writer.result.next) [] _ _ begun.moves refl
       c.requires.ready
@@ -97,8 +97,8 @@ module _ (g : Over) (c : goal.After-move_run g)
         c.move_run.ensures.node.2,
       )
 
-  still_ready : IsWritable c.begin-writer.new.desk.lives (g.R.Rows.blank c.args.rows.now)
-      → IsWritable c.move_run.new.desk.lives (g.R.Rows.blank c.move_run.new.rows)
+  still_ready : RowsAreWritable c.begin-writer.new.desk.lives (g.R.Rows.blank c.args.rows.now)
+      → RowsAreWritable c.move_run.new.desk.lives (g.R.Rows.blank c.move_run.new.rows)
   still_ready = still_writable c.begin-writer.new.desk c.move_run.new.desk copied.taken _ _ _
       copied.moves c.move_run.ensures.beside.0
 

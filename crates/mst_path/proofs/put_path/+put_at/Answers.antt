@@ -6,7 +6,7 @@ use Rattle.mst_arena.specs.Standing.{tree_of, used}
 use Rattle.mst_node.specs.Tree.{node, entry, last}
 use Rattle.mst_change.specs.Split.{below, above}
 use Rattle.mst_change.specs.Cost.{split_rows}
-use Rattle.mst_path.specs.Takes.{IsWritable}
+use Rattle.mst_path.specs.Takes.{RowsAreWritable}
 use Rattle.mst_path.specs.Making.{Grown}
 use Rattle.mst_path.specs.Frames.{Framed, in_frame, tree_round, frame_rows}
 use Rattle.mst_path.specs.Joining.{TwoTrees, in_both, height, height_at}
@@ -117,7 +117,7 @@ module _ (g : Over) (n : ℕ) (c : goal.After-put_at-seam g n)
   room enough =
       room_after c.args.format grown d.framed (omega (arith, enough, d.rows c.args.value.now))
 
-  ready : IsWritable c.put_at-seam.new.desk.lives (g.R.Rows.blank c.put_at-seam.new.rows)
+  ready : RowsAreWritable c.put_at-seam.new.desk.lives (g.R.Rows.blank c.put_at-seam.new.rows)
   ready = still_writable c.args.desk.now c.put_at-seam.new.desk grown.taken grown.killed _ _
       grown.moves (c.put_at-seam.ensures.beside.0 ∙ ap g.R.Rows.blank c.put_step.ensures.same)
       c.requires.ready
@@ -146,7 +146,7 @@ put_at-seam-requires g t c κs within =
               c.requires.layer,
               (
                 c.requires.low,
-                subst (IsWritable c.args.desk.now.lives)
+                subst (RowsAreWritable c.args.desk.now.lives)
                     (sym (ap g.R.Rows.blank c.put_step.ensures.same)) c.requires.ready,
               ),
             ),

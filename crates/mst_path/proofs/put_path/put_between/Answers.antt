@@ -1,5 +1,5 @@
 use Rattle.std.proofs.Common.{◌≡◌, ◌+◌, refl, ap, arith}
-use Rattle.mst_path.specs.declared.making.Run.{Run as Entries_at}
+use Rattle.mst_path.specs.declared.making.EntryRun.{EntryRun}
 use Rattle.mst_path.specs.Making.{PartsStand}
 use Rattle.mst_path.specs.PutPath.{TwoStand}
 use Rattle.mst_path.proofs.lemmas.steps.NewEntry.{bare_parts, grown_as}
@@ -28,8 +28,8 @@ module _ (g : Over) (c : goal.After-no_run-2 g)
   none =
       omega (
         arith,
-        ap (λ (e : Entries_at). e.count) c.no_run.ensures.none,
-        ap (λ (e : Entries_at). e.count) c.no_run-2.ensures.none,
+        ap (λ (e : EntryRun). e.count) c.no_run.ensures.none,
+        ap (λ (e : EntryRun). e.count) c.no_run-2.ensures.none,
       )
 
 pub make_node_with-requires-clause-parts : goal.make_node_with-requires-clause-parts

@@ -2,7 +2,7 @@ use Rattle.mst_key.specs.declared.format.Format.{Format}
 use Rattle.std.proofs.Common.{◌≡◌, ◌+◌, ◌∙◌, sym, ap, subst}
 use Rattle.mst_arena.specs.Content.{Content}
 use Rattle.mst_arena.specs.Standing.{Placed, tree_of, link_of, rows_of, HasRows}
-use Rattle.mst_path.specs.Takes.{IsWritable}
+use Rattle.mst_path.specs.Takes.{RowsAreWritable}
 use Rattle.mst_path.specs.Writing.{IsRootOf}
 use Rattle.mst_path.specs.Making.{Grown}
 use Rattle.mst_path.specs.Frames.{Framed, in_frame}
@@ -58,7 +58,7 @@ close_with-requires-clause-frame g c =
     (sym (same_rows g at)) (both g at c.requires.met.0, c.requires.met.1)
 
 pub close_with-requires-clause-ready : goal.close_with-requires-clause-ready
-close_with-requires-clause-ready g c = subst (IsWritable c.args.desk.now.lives)
+close_with-requires-clause-ready g c = subst (RowsAreWritable c.args.desk.now.lives)
     (sym (ap g.R.Rows.blank (c.root_at-upper.ensures.same ∙ c.root_at-lower.ensures.same)))
     c.requires.ready
 

@@ -3,7 +3,7 @@ use Rattle.mst_arena.specs.Content.{Content}
 use Rattle.mst_arena.specs.Lives.{free_count}
 use Rattle.mst_arena.specs.Lists.{times}
 use Rattle.mst_arena.specs.Standing.{used}
-use Rattle.mst_path.specs.Takes.{IsWritable}
+use Rattle.mst_path.specs.Takes.{RowsAreWritable}
 use Rattle.mst_path.specs.Making.{Grown}
 use Rattle.mst_path.specs.Frames.{Framed, in_frame, tree_round, frame_rows}
 use Rattle.mst_path.specs.Joining.{TwoTrees, in_both, both_joined, both_rows, height_at}
@@ -60,7 +60,7 @@ module _ (g : Over) (n : ℕ) (c : goal.After-remove_at-seam g n)
       → frame_rows c.in-Down.frame ≤ free_count c.remove_at-seam.new.desk.lives
   room enough = room_after c.args.format grown d.framed (omega (arith, enough, rows_below d))
 
-  ready : IsWritable c.remove_at-seam.new.desk.lives (g.R.Rows.blank c.remove_at-seam.new.rows)
+  ready : RowsAreWritable c.remove_at-seam.new.desk.lives (g.R.Rows.blank c.remove_at-seam.new.rows)
   ready = still_writable c.args.desk.now c.remove_at-seam.new.desk grown.taken grown.killed _ _
       grown.moves (c.remove_at-seam.ensures.beside.0 ∙ ap g.R.Rows.blank c.top_step.ensures.same)
       c.requires.ready
@@ -84,7 +84,7 @@ remove_at-seam-requires g t c κs within =
             subst (λ (x : Content). (y : SearchTree c.args.format x c.args.desk.now c.in-Down.child)
                 × (without_rows c.args.format y c.args.key.now ≤ free_count c.args.desk.now.lives))
                 (sym same) (d.inner, omega (arith, c.requires.tree.1, rows_below d)),
-            subst (IsWritable c.args.desk.now.lives)
+            subst (RowsAreWritable c.args.desk.now.lives)
                 (sym (ap g.R.Rows.blank c.top_step.ensures.same)) c.requires.ready,
           ),
         ),

@@ -6,11 +6,11 @@ use Rattle.mst_arena.specs.Lists.{times}
 use Rattle.mst_arena.specs.declared.row.HeadLinks.{HeadLinks}
 use Rattle.mst_arena.specs.Standing.{tree_of, used, rows_of, HasRows}
 use Rattle.mst_path.specs.declared.frames.Frame.{Frame}
-use Rattle.mst_path.specs.declared.making.Run.{Run as Entries_at}
+use Rattle.mst_path.specs.declared.making.EntryRun.{EntryRun}
 use Rattle.mst_change.specs.Split.{below, above}
 use Rattle.mst_change.specs.Parts.{is_empty}
 use Rattle.mst_change.specs.Cost.{split_rows}
-use Rattle.mst_path.specs.Takes.{IsWritable}
+use Rattle.mst_path.specs.Takes.{RowsAreWritable}
 use Rattle.mst_path.specs.Making.{Split, tail_behind}
 use Rattle.mst_path.specs.Cutting.{EntriesLie}
 use Rattle.mst_path.specs.Joining.{height_at}
@@ -31,7 +31,7 @@ returns-then-link-eq0-clause-split g n c t = split_none c.args.format _ _ _ _ _ 
     (c.nothing.ensures.root c.args.format) (c.nothing-then-link-eq0.ensures.root c.args.format) t
 
 -- what is left of the node with this head round a gap
-abbrev frame_of : HeadLinks → ℕ → Entries_at → Entries_at → Frame
+abbrev frame_of : HeadLinks → ℕ → EntryRun → EntryRun → Frame
 frame_of h link front back = record {
   layer = h.layer;
   front = front;
@@ -117,7 +117,7 @@ split-requires g n c κs within =
                     split_room c.args.format C s c.args.link c.args.key.now t c.in-Gap.child _ o,
                   ),
                 ),
-            subst (IsWritable s.lives)
+            subst (RowsAreWritable s.lives)
                 (sym (ap g.R.Rows.blank (c.cut_at.ensures.same ∙ c.head-head.ensures.same)))
                 c.requires.ready,
           ),
