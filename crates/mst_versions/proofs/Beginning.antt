@@ -187,7 +187,7 @@ module _ (before taken : SeatState) (p : Takes (stored before.0.format) before t
         slot = refl;
         known = p.wide;
         few = h.knows.few;
-        short = let s = p.short in omega (arith, s);
+        short = p.short;
         current = refl;
         rows_is = length-map p.desk.lives (swept_life a.live.items) ∙ p.is_desk.rows_is;
         records = p.is_desk.records;

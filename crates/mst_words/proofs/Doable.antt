@@ -1,5 +1,5 @@
 -- From each ruled table a seat can do each deed that it may, and can publish what is ready.
-use Rattle.std.proofs.Common.{◌≡◌, ℕ, ◌*◌, ◌<◌, Option, List, length, get_or, refl}
+use Rattle.std.proofs.Common.{◌≡◌, ℕ, ◌*◌, ◌^◌, ◌<◌, Option, List, length, get_or, refl}
 use mathlib.Core.Option.{none}
 use Rattle.atomic_table.specs.Table.{Me, step, carried_after, stepped}
 use Rattle.mst_key.specs.declared.history.Event.{Event}
@@ -24,7 +24,7 @@ Mine = Me (Option lives.State) View
 module _ (z : Shape) (s : Table) (a : IsRuled z s) (id : ℕ) (me : Mine)
     (at : SeatAt s.views id me.0) where
   abbrev Small : ℕ → Type 0
-  Small i = get_or s.words i 0 < 18446744073709551616
+  Small i = get_or s.words i 0 < 2 ^ 64
 
   pub can : (deed : Deed) (i : ℕ) → MayDo deed i me → Small i → (t : Table) × IsRuled z t
       × (d : Does deed s t) × (d.makes.id ≡ id) × (d.makes.before ≡ me)

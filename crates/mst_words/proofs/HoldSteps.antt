@@ -1,5 +1,5 @@
 -- Publication, transfer and ask keep the rule.
-use Rattle.std.proofs.Common.{◌≡◌, ℕ, ◌+◌, ◌*◌, ◌%◌, ◌<◌, ◌≤◌, ◌≢◌, inl, inr, true, Some, None, List, [], ◌∷◌, ◌++◌, length, set, get_or, sym, refl, ap, ◌∙◌, subst, arith, bit_xor, length-set, get_or-set_same}
+use Rattle.std.proofs.Common.{◌≡◌, ℕ, ◌+◌, ◌*◌, ◌%◌, ◌^◌, ◌<◌, ◌≤◌, ◌≢◌, inl, inr, true, Some, None, List, [], ◌∷◌, ◌++◌, length, set, get_or, sym, refl, ap, ◌∙◌, subst, arith, bit_xor, length-set, get_or-set_same}
 use mathlib.Core.Logic.{dite}
 use mathlib.Core.Option.{some, none}
 use native.Mathlib.Decide.{ℕ_discrete}
@@ -14,6 +14,7 @@ use Rattle.mst_words.specs.declared.view.View.{View}
 use Rattle.mst_key.specs.declared.history.Event.{Event}
 use Rattle.mst_words.specs.declared.view.DeskState.{DeskState}
 use Rattle.mst_key.specs.History.{History}
+use Rattle.mst_arena.specs.Lives.{last_version}
 use Rattle.mst_arena.specs.Lists.{In}
 use Rattle.mst_words.specs.Pins.{done, pin_bit, Blamed}
 use Rattle.mst_words.specs.Records.{Meaning, IsFramed, IsLive, Agrees, Standing}
@@ -72,7 +73,7 @@ module _ {S : Type 0} (T : Meaning S) (framed : IsFramed T) (R N : ℕ) where
       (live_not_drained N q.cur q.due q.beside s.views v known r l)) in
       let rows = rows_publish T framed R N q.cur s.words q.log q.desk q.place q.used s.views id v
       q.rows at into ws e d u w upper (length-set s.words 1 b) ready.desk_at
-      (subst (λ (l : History). length l + 1 < 9223372036854775808) h.2 ready.room) mine.3 new agree
+      (subst (λ (l : History). length l < last_version) h.2 ready.room) mine.3 new agree
       refl refl refl refl refl in (
         w,
         keeps,
@@ -207,7 +208,7 @@ module _ {S : Type 0} (T : Meaning S) (framed : IsFramed T) (R N : ℕ) where
 
   -- a DONE that is not 0 has a bit, and a seat pins by it
   some_seat : (s : St T framed R N) (q : Parts T R N s) (r : ℕ) → r < N + 2 → r ≢ q.cur
-      → q.due ≢ Some r → done s.words r ≢ 0 → done s.words r < 18446744073709551616 → (i : ℕ)
+      → q.due ≢ Some r → done s.words r ≢ 0 → done s.words r < 2 ^ 64 → (i : ℕ)
       × (u : View) × (get_elem? s.views i ≡ some u) × (u.pin ≡ Some r)
   some_seat s q r inside not_cur not_due some_there small = let b =
       bit_at-trailing_zeros w64 (done s.words r) (let n = some_there in omega arith) small in

@@ -157,7 +157,7 @@ module _ {S : Type 0} (T : Meaning S) (framed : IsFramed T) (R N : ℕ) where
         rows = record {
           now = refl;
           desk_at = current;
-          short = lit< tt;
+          short = omega arith;
           live =
               λ r l. ⊎_elim (λ (is : r ≡ 0). subst (λ (z : ℕ). Standing T R N ws [] d z [] [])
               (sym is)

@@ -9,6 +9,7 @@ use Rattle.mst_words.specs.declared.view.View.{View}
 use Rattle.mst_key.specs.declared.history.Event.{Event}
 use Rattle.mst_words.specs.declared.view.DeskState.{DeskState}
 use Rattle.mst_key.specs.History.{History}
+use Rattle.mst_arena.specs.Lives.{last_version}
 use Rattle.mst_arena.specs.Lists.{In}
 use Rattle.mst_words.specs.Records.{Meaning, IsFramed, field, row, IsLive, Agrees, Standing, Reads, Rows}
 use Rattle.mst_words.proofs.Places.{place_above}
@@ -181,7 +182,7 @@ module _ {S : Type 0} (T : Meaning S) (framed : IsFramed T) (R N : ℕ) where
     pub rows_publish : (into : ℕ) (ws' : List ℕ) (e : Event) (desk' : DeskState) (u : List ℕ)
         (w : View) → ((k : ℕ) → first_record ≤ k → get_or ws' k 0 ≡ get_or ws k 0)
         → length ws' ≡ length ws → desk'.current ≡ into
-        → length log + 1 < 9223372036854775808
+        → length log < last_version
         → ((i : ℕ) (x : View) → get_elem? vs i ≡ some x → x.pin ≢ Some into)
         → Standing T R N ws' (log ++ e ∷ []) desk' into (log ++ e ∷ []) u
         → ((r : ℕ) → IsLive cur vs r → Agrees T desk desk' r)
@@ -196,7 +197,8 @@ module _ {S : Type 0} (T : Meaning S) (framed : IsFramed T) (R N : ℕ) where
           record {
             now = there into longer place into refl;
             desk_at = desk_at;
-            short = subst (λ (n : ℕ). n < 9223372036854775808) (sym (length_more log)) room;
+            short =
+                subst (λ (n : ℕ). n ≤ last_version) (sym (length_more log)) (omega (arith, room));
             live = λ r l. dite (ℕ_discrete r into)
                 (λ is. subst
                 (λ (z : ℕ). Standing T R N ws' longer desk' z (then_for into longer place z)

@@ -1,7 +1,7 @@
 -- A worked table of two passes and four rows, made by steps: pass 1 pins the empty version 0, and
 -- pass 2 then publishes a remove in record 1, whose words were there from the start, and moves the
 -- pin to record 0.
-use Rattle.std.proofs.Common.{◌≡◌, ℕ, zero, suc, ◌+◌, ◌*◌, ◌<◌, true, Option, Some, None, List, [], ◌∷◌, ◌++◌, length, set, get_or, replicate, sym, refl, ap, ◌∙◌, subst, ⊎_elim, arith, lit<, bit_xor}
+use Rattle.std.proofs.Common.{◌≡◌, ℕ, zero, suc, ◌+◌, ◌*◌, ◌^◌, ◌<◌, true, Option, Some, None, List, [], ◌∷◌, ◌++◌, length, set, get_or, replicate, sym, refl, ap, ◌∙◌, subst, ⊎_elim, arith, lit<, bit_xor}
 use Rattle.std.proofs.lemmas.Option.{same_Some}
 use mathlib.Core.Option.{none, some, some-injective, some-ne-none}
 use lib.ListN.{get_elem?}
@@ -211,7 +211,7 @@ turn_taken = record {
 next : (ws : List ℕ) (vs : List View) → Ready ws vs → (id i : ℕ) (me : Mine) (f : ℕ → ℕ)
     (told : ℕ → ℕ → Mine → Type 0)
     → ((slots : ℕ) → Allows (Ruled T 4 2) slots id me i f (told slots)) → SeatAt vs id me.0
-    → get_or ws i 0 < 18446744073709551616 → (w : View)
+    → get_or ws i 0 < 2 ^ 64 → (w : View)
     → ((slots : ℕ) (m : Mine) → told slots (get_or ws i 0) m → m.0 ≡ w)
     → Ready (set ws i (f (get_or ws i 0))) (set vs id w)
 next ws vs h id i me f told allows here small w is = let t =

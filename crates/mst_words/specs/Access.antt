@@ -3,10 +3,12 @@ use Rattle.std.specs.Prelude.{◌≡◌, ◌≢◌, ◌<◌, length, take, map, 
 use Rattle.std.specs.List.{list_any, range_with_len}
 use Rattle.atomic_table.specs.Seated.{TableId}
 use Rattle.atomic_table.specs.Table.{Me}
+use Rattle.atomic_table.specs.declared.shared.Seat.{Seat}
 use Rattle.mst_arena.specs.Content.{Content}
 use Rattle.mst_arena.specs.Lives as lives
+use Rattle.mst_arena.specs.Words.{length_radix, first_key_word, first_value_word}
 use Rattle.mst_words.specs.declared.view.View.{View}
-use Rattle.mst_words.specs.Layout.{first_row, row_word, table_words}
+use Rattle.mst_words.specs.Layout.{row_words, child_word, next_word, first_row, row_word, table_words}
 use Rattle.mst_words.specs.Records.{row, known_row}
 use Rattle.mst_words.specs.Stored.{rows_in, version_of}
 
@@ -49,6 +51,19 @@ beside s =
 abbrev pub IsSameSeat : Seated → Seated → Type 0
 IsSameSeat p q = (q.table ≡ p.table) × (q.id ≡ p.id)
 
+-- the same token of the same table: what a seat knows and holds there may have changed
+abbrev pub IsSameToken : {S V : Type 0} → Seat S V → Seat S V → Type 0
+IsSameToken p q = (q.table_id ≡ p.table_id) × (q.id ≡ p.id)
+
+-- the same token, and nothing has changed that its seat knows and holds
+abbrev pub IsUnchangedToken : {S V : Type 0} → Seat S V → Seat S V → Type 0
+IsUnchangedToken p q = (q.table_id ≡ p.table_id) × (q.id ≡ p.id) × (q.me ≡ p.me)
+
+-- the same token, and nothing has changed that its seat knows and holds but the words
+abbrev pub IsSameButWords : {S : Type 0} → Seat S View → Seat S View → Type 0
+IsSameButWords p q = (q.table_id ≡ p.table_id) × (q.id ≡ p.id)
+    × (q.me ≡ (record p.me.0 { known_words = q.me.0.known_words }, p.me.1))
+
 -- the holder of the turn may read every row, and a pinned pass the rows that stand for its version
 abbrev pub may_read : View → ℕ → Bool
 may_read v x = nat_lt x v.rows && (v.turn || (is_some v.pin && list_any (eqb x) v.pinned_rows))
@@ -87,12 +102,18 @@ pub record PartStored (rows x at n : ℕ) (word : ℕ → ℕ) (old new : List �
   pub others : (i : ℕ) → ((k : ℕ) → k < n → i ≢ row_word rows x (at + k))
       → slice_index new i ≡ slice_index old i
 
--- if these are the lengths of a key of 16 bytes and a value of 32, the words behind both are 0
+-- the lengths of a key of 16 bytes and a value of 32, as an entry's word has them
+abbrev pub common_lengths : ℕ
+common_lengths = 16 + length_radix * 32
+
+-- if these are the common lengths, the words behind key and value are 0
 pub record IsPadded (lengths : ℕ) (word : ℕ → ℕ) : Type 0 where
-  pub key : lengths ≡ 16 + 256 * 32 → (k : ℕ) → k < 2 → word (6 + k) ≡ 0
-  pub value : lengths ≡ 16 + 256 * 32 → (k : ℕ) → k < 4 → word (12 + k) ≡ 0
+  pub key : lengths ≡ common_lengths → (k : ℕ) → k < 2
+      → word (first_key_word + 2 + k) ≡ 0
+  pub value : lengths ≡ common_lengths → (k : ℕ) → k < 4
+      → word (first_value_word + 4 + k) ≡ 0
 
 -- the words of an entry with another child and another next
 abbrev pub relinked_list : (ℕ → ℕ) → ℕ → ℕ → List ℕ
 relinked_list word child next =
-    slice_set (slice_set (map word (range_with_len 0 16)) 1 child) 2 next
+    slice_set (slice_set (map word (range_with_len 0 row_words)) child_word child) next_word next

@@ -10,7 +10,7 @@ use Rattle.mst_pin.specs.WordParts.{masks}
 use Rattle.mst_words.specs.declared.view.View.{View}
 use Rattle.mst_words.specs.declared.view.Shape.{Shape}
 use Rattle.mst_words.specs.declared.view.DeskState.{DeskState}
-use Rattle.mst_words.specs.Layout.{record_words, row_words, current_word, record_word, row_word, table_words}
+use Rattle.mst_words.specs.Layout.{record_words, version_word, row_words, current_word, record_word, row_word, table_words}
 use Rattle.mst_words.specs.World.{SeatAt, having_dealt, newcomer}
 use Rattle.mst_words.specs.Records.{field, row}
 use Rattle.mst_words.specs.Rule.{Ruled, IsSeen}
@@ -57,7 +57,7 @@ pub record Tells (z : Shape) (s : Table) (log : History) : Type 0 where
   pub named : slice_index s.words current_word ≡ current * masks + mask
   pub small : mask < masks
   pub there : current < z.passes + 2
-  pub version : field s.words current 0 ≡ length log
+  pub version : field s.words current version_word ≡ length log
   pub stands : StandsOn (row z.rows s.words) (field s.words current) (contents_after z.format log)
       used
   pub inside : (x : ℕ) → In x used → x < z.rows

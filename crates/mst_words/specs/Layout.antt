@@ -16,9 +16,29 @@ most_records = 34
 abbrev pub record_words : ℕ
 record_words = 7
 
+-- the word of a record that has the number of its version
+abbrev pub version_word : ℕ
+version_word = 0
+
+-- the first of the four words of a record's root digest
+abbrev pub first_root_digest_word : ℕ
+first_root_digest_word = 2
+
+-- the word of a record that has the number of its format
+abbrev pub format_word : ℕ
+format_word = 6
+
 -- how many words a row has
 abbrev pub row_words : ℕ
 row_words = 16
+
+-- the word of an entry that has the link of the tree before it
+abbrev pub child_word : ℕ
+child_word = 1
+
+-- the word of an entry that has the link of the entry after it
+abbrev pub next_word : ℕ
+next_word = 2
 
 -- the place of the turn
 abbrev pub turn_word : ℕ

@@ -4,9 +4,10 @@ use Rattle.std.specs.Prelude.{◌≡◌, ◌⊎◌, ◌↔◌, ℕ, ◌+◌, ◌
 use Rattle.mst_key.specs.History.{History, IsPrefix}
 use Rattle.mst_key.specs.declared.format.Format.{Format}
 use Rattle.mst_arena.specs.Lists.{In}
+use Rattle.mst_arena.specs.Lives.{last_version}
 use Rattle.mst_words.specs.declared.view.View.{View}
 use Rattle.mst_words.specs.declared.view.DeskState.{DeskState}
-use Rattle.mst_words.specs.Layout.{record_words, row_words, first_record, record_word, row_word}
+use Rattle.mst_words.specs.Layout.{record_words, version_word, row_words, first_record, record_word, row_word}
 use Rattle.mst_words.specs.World.{SeatAt}
 
 -- a word of a record: its version number, the link of its root, the four words of its digest, and
@@ -78,7 +79,7 @@ module _ {S : Type 0} (T : Meaning S) where
         (r : ℕ) (place : History) (used : List ℕ) : Type 0 where
       pub numbered : r < n + 2
       pub begins : IsPrefix place log
-      pub version : field ws r 0 ≡ length place
+      pub version : field ws r version_word ≡ length place
       pub filed : T.version desk r ≡ length place
       pub stands : T.Stands (row R ws) (field ws r) (T.after place) used
       pub aged : T.Aged (row R ws) (field ws r) desk place used
@@ -101,7 +102,7 @@ module _ {S : Type 0} (T : Meaning S) where
         (place : ℕ → History) (used : ℕ → List ℕ) (views : List View) : Type 0 where
       pub now : place cur ≡ log
       pub desk_at : desk.current ≡ cur
-      pub short : length log < 9223372036854775808
+      pub short : length log ≤ last_version
       pub live : (r : ℕ) → IsLive cur views r → Standing ws log desk r (place r) (used r)
       pub reads : (i : ℕ) (v : View) → SeatAt views i v → (r : ℕ) → v.pin ≡ Some r
           → Reads ws r (place r) (used r) v

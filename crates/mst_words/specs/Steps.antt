@@ -8,10 +8,11 @@ use Rattle.mst_key.specs.declared.history.Change.TheVariants.{Remove}
 use Rattle.mst_key.specs.declared.history.Event.{Event}
 use Rattle.mst_key.specs.History.{History, events_of, IsPrefix}
 use Rattle.mst_arena.specs.Lists.{In}
+use Rattle.mst_arena.specs.Lives.{last_version}
 use Rattle.mst_pin.specs.WordParts.{masks}
 use Rattle.mst_words.specs.declared.view.View.{View}
 use Rattle.mst_words.specs.declared.view.DeskState.{DeskState}
-use Rattle.mst_words.specs.Layout.{most_records, record_words, row_words, turn_word, current_word, first_record, done_word, record_word, row_word, table_words}
+use Rattle.mst_words.specs.Layout.{most_records, record_words, version_word, row_words, turn_word, current_word, first_record, done_word, record_word, row_word, table_words}
 use Rattle.mst_words.specs.Records.{Meaning, field, row, Standing, Agrees, IsBlank}
 use Rattle.mst_words.specs.Notes.{IsOfPasses}
 
@@ -203,7 +204,7 @@ module _ {S : Type 0} (T : Meaning S) where
     pub later : IsPrefix m.0.seen log
     pub own : events_of m.0.number log ≡ m.0.mine
     pub alone : IsOfPasses m.0.passes log
-    pub short : length log < 9223372036854775808
+    pub short : length log ≤ last_version
     pub wide : length words ≡ table_words m.0.rows
     pub stands : Standing T m.0.rows m.0.passes words log desk desk.current log used
     pub is : m' ≡ (
@@ -273,7 +274,7 @@ module _ {S : Type 0} (T : Meaning S) where
     pub later : IsPrefix m.0.seen log
     pub own : events_of m.0.number log ≡ m.0.mine
     pub alone : IsOfPasses m.0.passes log
-    pub version : field words cur 0 ≡ length log
+    pub version : field words cur version_word ≡ length log
     pub stands : T.Stands (row m.0.rows words) (field words cur) (T.after log) used
     pub inside : (x : ℕ) → In x used → x < m.0.rows
     pub is : m' ≡ (
@@ -301,7 +302,7 @@ module _ {S : Type 0} (T : Meaning S) where
     pub settled : v.due ≡ None
     pub drained : In into v.drained
     pub mine : e.pass ≡ v.number
-    pub room : length v.seen + 1 < 9223372036854775808
+    pub room : length v.seen < last_version
     pub desk_at : d.current ≡ into
     pub stands : Standing T v.rows v.passes v.known_words (v.seen ++ e ∷ []) d into
         (v.seen ++ e ∷ []) used

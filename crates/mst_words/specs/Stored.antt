@@ -14,6 +14,7 @@ use Rattle.mst_arena.specs.Standing as standing
 use Rattle.mst_arena.specs.declared.row.Root.{Root}
 use Rattle.mst_arena.specs.Ages.{HasAges}
 use Rattle.mst_words.specs.declared.view.DeskState.{DeskState}
+use Rattle.mst_words.specs.Layout.{format_word}
 use Rattle.mst_words.specs.Records.{Meaning}
 
 -- the rows that words spell, sixteen words a row
@@ -45,7 +46,7 @@ format_number Two = 2
 abbrev pub StandsOn : (ℕ → ℕ → ℕ) → (ℕ → ℕ) → Contents → List ℕ → Type 0
 StandsOn word field m used =
     (s : standing.Stands m.format (rows_in word) (root_in field) m.pairs)
-    × (standing.numbers s ≡ used) × (field 6 ≡ format_number m.format)
+    × (standing.numbers s ≡ used) × (field format_word ≡ format_number m.format)
 
 -- the desk as the crate of rows knows it
 abbrev pub state_of : DeskState → lives.State

@@ -8,7 +8,7 @@ ghost use Rattle.mst_arena.specs.Row.{keyed_links, entry_pair};
 ghost use Rattle.mst_arena.specs.Words.{lengths_word};
 ghost use Rattle.mst_words.specs.Layout.{row_words};
 ghost use Rattle.mst_words.specs.Records as records;
-ghost use Rattle.mst_words.specs.Access.{IsAt, content_of, may_write, RowStored, relinked_list};
+ghost use Rattle.mst_words.specs.Access.{IsAt, content_of, may_write, RowStored, relinked_list, IsSameButWords};
 
 use crate::board::{Board, Token};
 use crate::layout::LENGTHS_WORD;
@@ -42,11 +42,7 @@ impl<A: Allocator + Copy> Board<A> {
             → (m : List ℕ) → HasTaken hasher.old m
             → HasTaken hasher.new (m ++ child_text child ++ counted pair.0
             ++ held_text format (held_of format pair.1)) }
-        ensures same { (seat.new.table_id ≡ seat.old.table_id) × (seat.new.id ≡ seat.old.id)
-            × (seat.new.me ≡ (
-              record seat.old.me.0 { known_words = seat.new.me.0.known_words },
-              seat.old.me.1,
-            )) }
+        ensures same { IsSameButWords seat.old seat.new }
         ensures stored { RowStored seat.old.me.0.rows to row_words
             (relinked_list (records.known_row seat.old.me.0 from) links.child links.next)
             seat.old.me.0.known_words seat.new.me.0.known_words }
@@ -77,11 +73,7 @@ impl<A: Allocator + Copy> Board<A> {
             → (m : List ℕ) → HasTaken hasher.old m
             → HasTaken hasher.new (m ++ child_text child ++ counted pair.0
             ++ held_text format (held_of format pair.1)) }
-        ensures same { (seat.new.table_id ≡ seat.old.table_id) × (seat.new.id ≡ seat.old.id)
-            × (seat.new.me ≡ (
-              record seat.old.me.0 { known_words = seat.new.me.0.known_words },
-              seat.old.me.1,
-            )) }
+        ensures same { IsSameButWords seat.old seat.new }
         ensures stored { RowStored seat.old.me.0.rows to row_words
             (relinked_list (records.known_row seat.old.me.0 from) links.child links.next)
             seat.old.me.0.known_words seat.new.me.0.known_words }

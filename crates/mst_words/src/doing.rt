@@ -8,6 +8,7 @@ ghost use mathlib.Core.Option.{none};
 ghost use Rattle.atomic_table.specs.Table.{Me, step};
 ghost use Rattle.mst_arena.specs.Lives as lives;
 ghost use Rattle.mst_words.specs.declared.view.View.{View};
+ghost use Rattle.mst_words.specs.Access.{IsSameToken};
 ghost use Rattle.mst_words.specs.Deeds.{told_by, MayDo, word_after};
 
 use crate::board::{Board, Token};
@@ -22,7 +23,7 @@ impl<A: Allocator + Copy> Board<A> {
         requires may { MayDo D.deed word seat.old.me }
         requires leaves { (n : ℕ)
             → word_after D.deed (step self.now.slots word 0 0 none) seat.old.me.0 n ≡ n }
-        ensures same { (seat.new.table_id ≡ seat.old.table_id) × (seat.new.id ≡ seat.old.id) }
+        ensures same { IsSameToken seat.old seat.new }
         ensures tells { told_by D.deed (step self.now.slots word 0 0 none) seat.old.me result
             seat.new.me }
     {
@@ -39,7 +40,7 @@ impl<A: Allocator + Copy> Board<A> {
         requires blind { (n : ℕ) (m : Me (Option lives.State) View)
             → told_by D.deed (step self.now.slots word value 0 none) seat.old.me n m
             → told_by D.deed (step self.now.slots word value 0 none) seat.old.me value m }
-        ensures same { (seat.new.table_id ≡ seat.old.table_id) × (seat.new.id ≡ seat.old.id) }
+        ensures same { IsSameToken seat.old seat.new }
         ensures tells { told_by D.deed (step self.now.slots word value 0 none) seat.old.me value
             seat.new.me }
     {
@@ -54,7 +55,7 @@ impl<A: Allocator + Copy> Board<A> {
         requires turns { (n : ℕ)
             → word_after D.deed (step self.now.slots word bits 0 none) seat.old.me.0 n
             ≡ bit_xor n bits }
-        ensures same { (seat.new.table_id ≡ seat.old.table_id) × (seat.new.id ≡ seat.old.id) }
+        ensures same { IsSameToken seat.old seat.new }
         ensures tells { told_by D.deed (step self.now.slots word bits 0 none) seat.old.me result
             seat.new.me }
     {
@@ -69,7 +70,7 @@ impl<A: Allocator + Copy> Board<A> {
         requires claims { (n : ℕ)
             → word_after D.deed (step self.now.slots word 0 value none) seat.old.me.0 n
             ≡ (if n == 0 then value else n) }
-        ensures same { (seat.new.table_id ≡ seat.old.table_id) × (seat.new.id ≡ seat.old.id) }
+        ensures same { IsSameToken seat.old seat.new }
         ensures tells { told_by D.deed (step self.now.slots word 0 value none) seat.old.me result
             seat.new.me }
     {

@@ -1,5 +1,5 @@
 //! Laws of the rule, each proved as the contract of a function that does nothing.
-ghost use Rattle.std.specs.Prelude.{◌≡◌, ◌<◌, ◌++◌, ℕ, List, [], ◌∷◌, length, slice_index, Option};
+ghost use Rattle.std.specs.Prelude.{◌≡◌, ◌^◌, ◌<◌, ◌++◌, ℕ, List, [], ◌∷◌, length, slice_index, Option};
 ghost use Rattle.atomic_table.specs.Table.{Me, Step};
 ghost use Rattle.mst_arena.specs.Lives.{State};
 ghost use Rattle.mst_words.specs.declared.view.DeskState.{DeskState};
@@ -58,13 +58,13 @@ pub fn path_laws()
     // from each table that is as the rule says a seat can do each deed that it may do
     ensures can { (z : Shape) (s : Table) (a : IsRuled z s) (deed : Deed) (id i : ℕ)
         (me : Me (Option State) View) → SeatAt s.views id me.0 → MayDo deed i me
-        → slice_index s.words i < 18446744073709551616 → (t : Table) × IsRuled z t
+        → slice_index s.words i < 2 ^ 64 → (t : Table) × IsRuled z t
         × (d : Does deed s t) × (d.makes.id ≡ id) × (d.makes.before ≡ me) }
     // and publish a record that is ready
     ensures can_publish { (z : Shape) (s : Table) (a : IsRuled z s) (id into : ℕ)
         (me : Me (Option State) View) (e : Event) (d : DeskState) (used : List ℕ)
         → SeatAt s.views id me.0 → IsReady (stored me.0.format) into e d used me.0
-        → slice_index s.words current_word < 18446744073709551616 → (t : Table) × IsRuled z t
+        → slice_index s.words current_word < 2 ^ 64 → (t : Table) × IsRuled z t
         × (p : MakesCurrent into s t) × (p.publishes.made.id ≡ id)
         × (p.publishes.made.before ≡ me) }
     // a deed adds its events

@@ -30,6 +30,9 @@ pub const FORMAT_WORD: usize = 6;
 /// How many words a row has.
 pub const ROW_WORDS: usize = 16;
 
+/// The first word of an entry's row.
+pub(crate) const ENTRY_TAG: u64 = 1;
+
 /// The word of an entry that has the link of the tree before it.
 pub(crate) const CHILD_WORD: usize = 1;
 

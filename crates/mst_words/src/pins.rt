@@ -1,6 +1,6 @@
 //! The steps of a pass that pins: the pin, the loads of words, and the end of the pin.
 ghost use Rattle.std.specs.Prelude.{◌≡◌, ◌+◌, ◌%◌, ◌^◌, ◌<◌, ◌≤◌, ◌-◌, ℕ, slice_index};
-ghost use Rattle.mst_words.specs.Access.{IsSameSeat};
+ghost use Rattle.mst_words.specs.Access.{IsSameSeat, IsUnchangedToken};
 ghost use Rattle.mst_words.specs.Layout.{most_passes, most_records, table_words};
 ghost use Rattle.mst_words.specs.Stored.{stored};
 ghost use Rattle.mst_words.specs.Steps.{IsFree, IsPinned, PinsNow, Unpins, Forgets, IsReadable, IsMaskWord, Glances};
@@ -82,8 +82,7 @@ impl<A: Allocator + Copy> Board<A> {
         requires own { seat.old.table_id ≡ self.now }
         requires there { word < self.now.words }
         requires readable { IsReadable seat.old.me.0 word }
-        ensures same { (seat.new.table_id ≡ seat.old.table_id) × (seat.new.id ≡ seat.old.id)
-            × (seat.new.me ≡ seat.old.me) }
+        ensures same { IsUnchangedToken seat.old seat.new }
         ensures value { result ≡ slice_index seat.old.me.0.known_words word }
     {
         self.load_by::<Read>(seat, word)

@@ -1,7 +1,7 @@
 //! The steps of the holder of the turn between taking it and giving it back.
 ghost use Rattle.std.specs.Prelude.{◌≡◌, ◌≢◌, ◌+◌, ◌<◌, ℕ, List, true, false, slice_set, IsSome, Some};
 ghost use Rattle.mst_arena.specs.Lists.{In};
-ghost use Rattle.mst_words.specs.Access.{IsSameSeat};
+ghost use Rattle.mst_words.specs.Access.{IsSameSeat, IsSameToken};
 ghost use Rattle.mst_words.specs.Stored.{stored, desk_state};
 ghost use Rattle.mst_words.specs.Layout.{most_records, table_words};
 ghost use Rattle.mst_words.specs.Steps.{IsHolder, IsWritable, IsReady, Publishes, Transfers, Drained, Blocked, NotesCurrent, AsksCurrent};
@@ -109,7 +109,7 @@ impl<A: Allocator + Copy> Board<A> {
         requires there { word < self.now.words }
         requires holder { IsHolder seat.old.me }
         requires writable { IsWritable (stored seat.old.me.0.format) seat.old.me.0 word }
-        ensures same { (seat.new.table_id ≡ seat.old.table_id) × (seat.new.id ≡ seat.old.id) }
+        ensures same { IsSameToken seat.old seat.new }
         ensures written { seat.new.me ≡ (
           record seat.old.me.0 { known_words = slice_set seat.old.me.0.known_words word value },
           seat.old.me.1,

@@ -7,21 +7,28 @@ ghost use Rattle.mst_key.specs.Map.{Pair};
 ghost use Rattle.std.specs.List.{range_with_len};
 ghost use Rattle.mst_words.specs.Layout.{row_words, row_word, table_words};
 ghost use Rattle.mst_words.specs.Records as records;
-ghost use Rattle.mst_words.specs.Access.{IsAt, may_read, content_of, may_write, RowStored, PartStored, IsPadded, relinked_list};
+ghost use Rattle.mst_words.specs.Access.{IsAt, may_read, content_of, may_write, RowStored, PartStored, IsPadded, relinked_list, IsSameToken, IsUnchangedToken, IsSameButWords};
 ghost use Rattle.mst_arena.specs.Content.{part_at};
 ghost use Rattle.mst_arena.specs.Row.{keyed_links, bare_links, entry_pair, entry_value};
-ghost use Rattle.mst_arena.specs.Words.{lengths_word, first_key_word, first_value_word};
+ghost use Rattle.mst_arena.specs.Words.{entry_tag, lengths_word, first_key_word, first_value_word};
 
 use crate::board::{Board, Token};
 use crate::layout::{
-    CHILD_WORD, FIRST_KEY_WORD, FIRST_ROW, FIRST_VALUE_WORD, LENGTHS_WORD, NEXT_WORD, row_word,
+    CHILD_WORD, ENTRY_TAG, FIRST_KEY_WORD, FIRST_ROW, FIRST_VALUE_WORD, LENGTHS_WORD, NEXT_WORD,
+    row_word,
 };
-use mst_arena::{BareLinks, Row};
+use mst_arena::{BareLinks, LENGTH_RADIX, Row};
 use mst_key::{Key, Value};
 use std::alloc::Allocator;
 
+/// The length of most keys.
+pub(crate) const COMMON_KEY_LENGTH: u64 = 16;
+
+/// The length of most values.
+const COMMON_VALUE_LENGTH: u64 = 32;
+
 /// The word of the lengths of a key of 16 bytes and a value of 32.
-pub(crate) const COMMON_LENGTHS: u64 = 16 + 256 * 32;
+pub(crate) const COMMON_LENGTHS: u64 = COMMON_KEY_LENGTH + LENGTH_RADIX * COMMON_VALUE_LENGTH;
 
 impl<A: Allocator + Copy> Board<A> {
     /// How many rows the table has.
@@ -41,8 +48,7 @@ impl<A: Allocator + Copy> Board<A> {
         requires readable { may_read seat.old.me.0 row ≡ true }
         requires there { k < row_words }
         ensures word { result ≡ records.known_row seat.old.me.0 row k }
-        ensures same { (seat.new.table_id ≡ seat.old.table_id) × (seat.new.id ≡ seat.old.id)
-            × (seat.new.me ≡ seat.old.me) }
+        ensures same { IsUnchangedToken seat.old seat.new }
     {
         self.load(seat, row_word(rows, row, k))
     }
@@ -53,8 +59,7 @@ impl<A: Allocator + Copy> Board<A> {
         requires readable { may_read seat.old.me.0 row ≡ true }
         requires there { k < row_words }
         ensures word { result ≡ records.known_row seat.old.me.0 row k }
-        ensures same { (seat.new.table_id ≡ seat.old.table_id) × (seat.new.id ≡ seat.old.id)
-            × (seat.new.me ≡ seat.old.me) }
+        ensures same { IsUnchangedToken seat.old seat.new }
     {
         let rows = self.row_count();
         self.word_of(seat, rows, row, k)
@@ -71,8 +76,7 @@ impl<A: Allocator + Copy> Board<A> {
         requires some_word { 0 < k }
         requires there { k < 5 }
         ensures word { result ≡ records.known_row seat.old.me.0 (link - 1) k }
-        ensures same { (seat.new.table_id ≡ seat.old.table_id) × (seat.new.id ≡ seat.old.id)
-            × (seat.new.me ≡ seat.old.me) }
+        ensures same { IsUnchangedToken seat.old seat.new }
     {
         self.load(seat, link * 4 + k + (FIRST_ROW - 5))
     }
@@ -92,8 +96,7 @@ impl<A: Allocator + Copy> Board<A> {
         requires there { from + N ≤ row_words }
         ensures words { result
             ≡ map (records.known_row seat.old.me.0 row) (range_with_len from N) }
-        ensures same { (seat.new.table_id ≡ seat.old.table_id) × (seat.new.id ≡ seat.old.id)
-            × (seat.new.me ≡ seat.old.me) }
+        ensures same { IsUnchangedToken seat.old seat.new }
     {
         let mut words = [0; N];
         for k in 0..N {
@@ -114,8 +117,7 @@ impl<A: Allocator + Copy> Board<A> {
         requires there { from + N ≤ row_words }
         ensures words { result
             ≡ map (records.known_row seat.old.me.0 row) (range_with_len from N) }
-        ensures same { (seat.new.table_id ≡ seat.old.table_id) × (seat.new.id ≡ seat.old.id)
-            × (seat.new.me ≡ seat.old.me) }
+        ensures same { IsUnchangedToken seat.old seat.new }
     {
         let rows = self.row_count();
         self.words_of::<N>(seat, rows, row, from)
@@ -127,8 +129,7 @@ impl<A: Allocator + Copy> Board<A> {
         requires own { IsAt self.now seat.old.table_id seat.old.me.0.rows }
         requires there { IsSome (part_at keyed_links (content_of seat.old.me.0) row) }
         ensures value { part_at bare_links (content_of seat.old.me.0) row ≡ Some result }
-        ensures same { (seat.new.table_id ≡ seat.old.table_id) × (seat.new.id ≡ seat.old.id)
-            × (seat.new.me ≡ seat.old.me) }
+        ensures same { IsUnchangedToken seat.old seat.new }
     {
         let child = self.word(seat, row, CHILD_WORD);
         let next = self.word(seat, row, NEXT_WORD);
@@ -148,10 +149,9 @@ impl<A: Allocator + Copy> Board<A> {
         requires lengths { lengths ≡ records.known_row seat.old.me.0 row lengths_word }
         ensures words { result
             ≡ map (records.known_row seat.old.me.0 row) (range_with_len first_key_word 4) }
-        ensures same { (seat.new.table_id ≡ seat.old.table_id) × (seat.new.id ≡ seat.old.id)
-            × (seat.new.me ≡ seat.old.me) }
+        ensures same { IsUnchangedToken seat.old seat.new }
     {
-        if lengths % 256 == 16 {
+        if lengths % LENGTH_RADIX == COMMON_KEY_LENGTH {
             let [a, b] = self.words_of::<2>(seat, rows, row, FIRST_KEY_WORD);
             [a, b, 0, 0]
         } else {
@@ -175,10 +175,9 @@ impl<A: Allocator + Copy> Board<A> {
         requires lengths { lengths ≡ records.known_row seat.old.me.0 row lengths_word }
         ensures words { result
             ≡ map (records.known_row seat.old.me.0 row) (range_with_len first_value_word 8) }
-        ensures same { (seat.new.table_id ≡ seat.old.table_id) × (seat.new.id ≡ seat.old.id)
-            × (seat.new.me ≡ seat.old.me) }
+        ensures same { IsUnchangedToken seat.old seat.new }
     {
-        if lengths / 256 == 32 {
+        if lengths / LENGTH_RADIX == COMMON_VALUE_LENGTH {
             let [a, b, c, d] = self.words_of::<4>(seat, rows, row, FIRST_VALUE_WORD);
             [a, b, c, d, 0, 0, 0, 0]
         } else {
@@ -200,8 +199,7 @@ impl<A: Allocator + Copy> Board<A> {
         requires there { IsSome (part_at keyed_links (content_of seat.old.me.0) row) }
         requires lengths { lengths ≡ records.known_row seat.old.me.0 row lengths_word }
         ensures pair { part_at entry_pair (content_of seat.old.me.0) row ≡ Some result }
-        ensures same { (seat.new.table_id ≡ seat.old.table_id) × (seat.new.id ≡ seat.old.id)
-            × (seat.new.me ≡ seat.old.me) }
+        ensures same { IsUnchangedToken seat.old seat.new }
     {
         let key = self.key_words(seat, rows, row, lengths);
         let value = self.value_words(seat, rows, row, lengths);
@@ -218,8 +216,7 @@ impl<A: Allocator + Copy> Board<A> {
         requires own { IsAt self.now seat.old.table_id seat.old.me.0.rows }
         requires there { IsSome (part_at keyed_links (content_of seat.old.me.0) row) }
         ensures pair { part_at entry_pair (content_of seat.old.me.0) row ≡ Some result }
-        ensures same { (seat.new.table_id ≡ seat.old.table_id) × (seat.new.id ≡ seat.old.id)
-            × (seat.new.me ≡ seat.old.me) }
+        ensures same { IsUnchangedToken seat.old seat.new }
     {
         let rows = self.row_count();
         let lengths = self.word(seat, row, LENGTHS_WORD);
@@ -245,8 +242,7 @@ impl<A: Allocator + Copy> Board<A> {
         ensures pushed { (pair : Pair)
             → part_at entry_pair (content_of seat.old.me.0) row ≡ Some pair
             → list.new.items ≡ list.old.items ++ pair ∷ [] }
-        ensures same { (seat.new.table_id ≡ seat.old.table_id) × (seat.new.id ≡ seat.old.id)
-            × (seat.new.me ≡ seat.old.me) }
+        ensures same { IsUnchangedToken seat.old seat.new }
     {
         let rows = self.row_count();
         let lengths = self.word(seat, row, LENGTHS_WORD);
@@ -266,7 +262,7 @@ impl<A: Allocator + Copy> Board<A> {
         requires wide { self.now.words ≡ table_words rows }
         requires blank { IsTrue (may_write seat.old.me.0 row) }
         requires there { k < row_words }
-        ensures same { (seat.new.table_id ≡ seat.old.table_id) × (seat.new.id ≡ seat.old.id) }
+        ensures same { IsSameToken seat.old seat.new }
         ensures stored { seat.new.me ≡ (
           record seat.old.me.0 {
             known_words =
@@ -292,11 +288,7 @@ impl<A: Allocator + Copy> Board<A> {
         requires own { IsAt self.now seat.old.table_id seat.old.me.0.rows }
         requires blank { IsTrue (may_write seat.old.me.0 row) }
         requires there { N ≤ row_words }
-        ensures same { (seat.new.table_id ≡ seat.old.table_id) × (seat.new.id ≡ seat.old.id)
-            × (seat.new.me ≡ (
-              record seat.old.me.0 { known_words = seat.new.me.0.known_words },
-              seat.old.me.1,
-            )) }
+        ensures same { IsSameButWords seat.old seat.new }
         ensures stored { RowStored seat.old.me.0.rows row N words.now
             seat.old.me.0.known_words seat.new.me.0.known_words }
     {
@@ -328,11 +320,7 @@ impl<A: Allocator + Copy> Board<A> {
             → records.known_row seat.old.me.0 from (at + (N + k)) ≡ 0 }
         ensures words { result
             ≡ map (records.known_row seat.old.me.0 from) (range_with_len at N) }
-        ensures same { (seat.new.table_id ≡ seat.old.table_id) × (seat.new.id ≡ seat.old.id)
-            × (seat.new.me ≡ (
-              record seat.old.me.0 { known_words = seat.new.me.0.known_words },
-              seat.old.me.1,
-            )) }
+        ensures same { IsSameButWords seat.old seat.new }
         ensures stored { PartStored seat.old.me.0.rows to at (N + M)
             (records.known_row seat.old.me.0 from)
             seat.old.me.0.known_words seat.new.me.0.known_words }
@@ -368,11 +356,7 @@ impl<A: Allocator + Copy> Board<A> {
             ≡ map (records.known_row seat.old.me.0 from) (range_with_len first_key_word 4) }
         ensures value { result.1
             ≡ map (records.known_row seat.old.me.0 from) (range_with_len first_value_word 8) }
-        ensures same { (seat.new.table_id ≡ seat.old.table_id) × (seat.new.id ≡ seat.old.id)
-            × (seat.new.me ≡ (
-              record seat.old.me.0 { known_words = seat.new.me.0.known_words },
-              seat.old.me.1,
-            )) }
+        ensures same { IsSameButWords seat.old seat.new }
         ensures stored { PartStored seat.old.me.0.rows to first_key_word 12
             (records.known_row seat.old.me.0 from)
             seat.old.me.0.known_words seat.new.me.0.known_words }
@@ -406,23 +390,24 @@ impl<A: Allocator + Copy> Board<A> {
         requires own { IsAt self.now seat.old.table_id seat.old.me.0.rows }
         requires readable { may_read seat.old.me.0 from ≡ true }
         requires blank { IsTrue (may_write seat.old.me.0 to) }
-        requires kind { records.known_row seat.old.me.0 from 0 ≡ 1 }
+        requires kind { records.known_row seat.old.me.0 from 0 ≡ entry_tag }
         requires ends { IsPadded lengths (records.known_row seat.old.me.0 from) }
         requires lengths { lengths ≡ records.known_row seat.old.me.0 from lengths_word }
         ensures key { result.0
             ≡ map (records.known_row seat.old.me.0 from) (range_with_len first_key_word 4) }
         ensures value { result.1
             ≡ map (records.known_row seat.old.me.0 from) (range_with_len first_value_word 8) }
-        ensures same { (seat.new.table_id ≡ seat.old.table_id) × (seat.new.id ≡ seat.old.id)
-            × (seat.new.me ≡ (
-              record seat.old.me.0 { known_words = seat.new.me.0.known_words },
-              seat.old.me.1,
-            )) }
+        ensures same { IsSameButWords seat.old seat.new }
         ensures stored { RowStored seat.old.me.0.rows to row_words
             (relinked_list (records.known_row seat.old.me.0 from) links.child links.next)
             seat.old.me.0.known_words seat.new.me.0.known_words }
     {
-        let front = [1, u64::from(links.child), u64::from(links.next), lengths];
+        let front = [
+            ENTRY_TAG,
+            u64::from(links.child),
+            u64::from(links.next),
+            lengths,
+        ];
         self.store_words(seat, to, &front);
         self.copy_bytes(seat, from, to, lengths)
     }

@@ -12,8 +12,9 @@ ghost use Rattle.mst_words.specs.Access.{may_read, may_write, content_of, beside
 use crate::layout::{
     CHILD_WORD, FIRST_DIGEST_WORD, FIRST_KEY_WORD, LAYER_WORD, LENGTHS_WORD, ROW_WORDS,
 };
+use crate::row_words::COMMON_KEY_LENGTH;
 use crate::seat::PassSeat;
-use mst_arena::{BareLinks, HeadLinks, KeyedLinks, Row, Rows, Sought, Stop, Way};
+use mst_arena::{BareLinks, HeadLinks, KeyedLinks, LENGTH_RADIX, Row, Rows, Sought, Stop, Way};
 use mst_key::{Format, Key, Value};
 use mst_node::TextSink;
 use mst_prefix::TextHasher;
@@ -50,7 +51,7 @@ impl<'a, A: Allocator + Copy> PassSeat<'a, A> {
         ensures same { self.new ≡ self.old }
     {
         let [child, next, lengths] = self.words::<3>(row, CHILD_WORD);
-        if lengths % 256 == 16 {
+        if lengths % LENGTH_RADIX == COMMON_KEY_LENGTH {
             let [a, b] = self.words::<2>(row, FIRST_KEY_WORD);
             [child, next, lengths, a, b, 0, 0]
         } else {

@@ -10,14 +10,14 @@ ghost use Rattle.mst_key.specs.Bytes.{IsKey, IsBytes};
 ghost use Rattle.mst_arena.specs.Content.{part_at};
 ghost use Rattle.mst_arena.specs.Row.{keyed_links};
 ghost use Rattle.mst_arena.specs.Ways.{entry_way, stop_from, words_order};
-ghost use Rattle.mst_arena.specs.Words.{word_from};
+ghost use Rattle.mst_arena.specs.Words.{lengths_word, length_radix, first_key_word, word_from};
 ghost use Rattle.mst_words.specs.Layout.{row_words};
 ghost use Rattle.mst_words.specs.Records as records;
-ghost use Rattle.mst_words.specs.Access.{IsAt, may_read, content_of};
+ghost use Rattle.mst_words.specs.Access.{IsAt, may_read, content_of, IsUnchangedToken};
 
 use crate::board::{Board, Token};
 use crate::layout::{CHILD_WORD, FIRST_KEY_WORD, LENGTHS_WORD, NEXT_WORD};
-use mst_arena::{Sought, Stop, Way};
+use mst_arena::{LENGTH_RADIX, Sought, Stop, Way};
 use std::alloc::Allocator;
 use std::cmp::Ordering;
 
@@ -39,8 +39,7 @@ impl<A: Allocator + Copy> Board<A> {
         requires there { k < row_words }
         ensures order { result ≡ ordering_then before
             (nat_cmp number (records.known_row seat.old.me.0 (link - 1) k)) }
-        ensures same { (seat.new.table_id ≡ seat.old.table_id) × (seat.new.id ≡ seat.old.id)
-            × (seat.new.me ≡ seat.old.me) }
+        ensures same { IsUnchangedToken seat.old seat.new }
     {
         match before {
             Ordering::Less => Ordering::Less,
@@ -57,13 +56,15 @@ impl<A: Allocator + Copy> Board<A> {
         requires narrow { link ≤ 2 ^ 32 }
         requires readable { may_read seat.old.me.0 (link - 1) ≡ true }
         ensures order { result ≡ ordering_then before
-            (nat_cmp len (records.known_row seat.old.me.0 (link - 1) 3 % 256)) }
-        ensures same { (seat.new.table_id ≡ seat.old.table_id) × (seat.new.id ≡ seat.old.id)
-            × (seat.new.me ≡ seat.old.me) }
+            (nat_cmp len (records.known_row seat.old.me.0 (link - 1) lengths_word
+            % length_radix)) }
+        ensures same { IsUnchangedToken seat.old seat.new }
     {
         match before {
             Ordering::Less => Ordering::Less,
-            Ordering::Equal => len.cmp(&(self.linked_word(seat, link, LENGTHS_WORD) % 256)),
+            Ordering::Equal => len.cmp(
+                &(self.linked_word(seat, link, LENGTHS_WORD) % LENGTH_RADIX),
+            ),
             Ordering::Greater => Ordering::Greater,
         }
     }
@@ -76,10 +77,9 @@ impl<A: Allocator + Copy> Board<A> {
         requires narrow { link ≤ 2 ^ 32 }
         requires readable { may_read seat.old.me.0 (link - 1) ≡ true }
         ensures order { nat_cmp (word_from key.now 0)
-            (records.known_row seat.old.me.0 (link - 1) 4) ≡ Equal
+            (records.known_row seat.old.me.0 (link - 1) first_key_word) ≡ Equal
             → result ≡ words_order key.now (records.known_row seat.old.me.0 (link - 1)) }
-        ensures same { (seat.new.table_id ≡ seat.old.table_id) × (seat.new.id ≡ seat.old.id)
-            × (seat.new.me ≡ seat.old.me) }
+        ensures same { IsUnchangedToken seat.old seat.new }
     {
         let [_, second, third, last] = key.words();
         let order = second.cmp(&self.word(seat, (link - 1) as u32, FIRST_KEY_WORD + 1));
@@ -99,8 +99,7 @@ impl<A: Allocator + Copy> Board<A> {
             ≡ words_order key.now (records.known_row seat.old.me.0 (link - 1)) }
         ensures limits { IsKey key.now }
         ensures range { IsBytes key.now }
-        ensures same { (seat.new.table_id ≡ seat.old.table_id) × (seat.new.id ≡ seat.old.id)
-            × (seat.new.me ≡ seat.old.me) }
+        ensures same { IsUnchangedToken seat.old seat.new }
     {
         let [first, ..] = key.words();
         let stored = self.linked_word(seat, link, FIRST_KEY_WORD);
@@ -118,8 +117,7 @@ impl<A: Allocator + Copy> Board<A> {
         requires own { IsAt self.now seat.old.table_id seat.old.me.0.rows }
         requires there { IsSome (part_at keyed_links (content_of seat.old.me.0) row) }
         ensures way { part_at (entry_way key.now) (content_of seat.old.me.0) row ≡ Some result }
-        ensures same { (seat.new.table_id ≡ seat.old.table_id) × (seat.new.id ≡ seat.old.id)
-            × (seat.new.me ≡ seat.old.me) }
+        ensures same { IsUnchangedToken seat.old seat.new }
     {
         match self.order(seat, row as usize + 1, key) {
             Ordering::Less => Way::Child(self.word(seat, row, CHILD_WORD) as u32),
@@ -135,8 +133,7 @@ impl<A: Allocator + Copy> Board<A> {
         requires own { IsAt self.now seat.old.table_id seat.old.me.0.rows }
         requires there { IsSome (stop_from key.now (content_of seat.old.me.0) count first) }
         ensures stop { stop_from key.now (content_of seat.old.me.0) count first ≡ Some result }
-        ensures same { (seat.new.table_id ≡ seat.old.table_id) × (seat.new.id ≡ seat.old.id)
-            × (seat.new.me ≡ seat.old.me) }
+        ensures same { IsUnchangedToken seat.old seat.new }
     {
         let mut link = first as usize;
         for passed in 0..count {

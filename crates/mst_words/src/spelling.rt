@@ -1,9 +1,9 @@
 //! The text of an entry, spelled from the words of its row.
-ghost use Rattle.std.specs.Prelude.{◌≡◌, IsSome};
+ghost use Rattle.std.specs.Prelude.{IsSome};
 ghost use Rattle.mst_key.specs.declared.format.Format.TheVariants.{One};
 ghost use Rattle.mst_arena.specs.Content.{part_at};
 ghost use Rattle.mst_arena.specs.Row.{keyed_links};
-ghost use Rattle.mst_words.specs.Access.{IsAt, content_of};
+ghost use Rattle.mst_words.specs.Access.{IsAt, content_of, IsUnchangedToken};
 ghost use Rattle.mst_words.specs.Spelling.{SpellsEntry, IsEntryInLimits};
 
 use crate::board::{Board, Token};
@@ -29,8 +29,7 @@ impl<A: Allocator + Copy> Board<A> {
         ensures entry { SpellsEntry seat.old.me.0 row One child (S.took sink.old)
             (S.took sink.new) }
         ensures limits { IsEntryInLimits seat.old.me.0 row }
-        ensures same { (seat.new.table_id ≡ seat.old.table_id) × (seat.new.id ≡ seat.old.id)
-            × (seat.new.me ≡ seat.old.me) }
+        ensures same { IsUnchangedToken seat.old seat.new }
     {
         let lengths = self.word(seat, row, LENGTHS_WORD);
         let key = self.words::<4>(seat, row, FIRST_KEY_WORD);
@@ -53,8 +52,7 @@ impl<A: Allocator + Copy> Board<A> {
         ensures entry { SpellsEntry seat.old.me.0 row format child (S.took sink.old)
             (S.took sink.new) }
         ensures limits { IsEntryInLimits seat.old.me.0 row }
-        ensures same { (seat.new.table_id ≡ seat.old.table_id) × (seat.new.id ≡ seat.old.id)
-            × (seat.new.me ≡ seat.old.me) }
+        ensures same { IsUnchangedToken seat.old seat.new }
     {
         let pair = self.pair(seat, row);
         take_entry(sink, format, child, pair.0.bytes(), pair.1.bytes());
@@ -76,8 +74,7 @@ impl<A: Allocator + Copy> Board<A> {
         ensures entry { SpellsEntry seat.old.me.0 row format child (S.took sink.old)
             (S.took sink.new) }
         ensures limits { IsEntryInLimits seat.old.me.0 row }
-        ensures same { (seat.new.table_id ≡ seat.old.table_id) × (seat.new.id ≡ seat.old.id)
-            × (seat.new.me ≡ seat.old.me) }
+        ensures same { IsUnchangedToken seat.old seat.new }
     {
         match format {
             Format::One => self.spell_words(seat, row, child, sink),
@@ -102,8 +99,7 @@ impl<A: Allocator + Copy> Board<A> {
         ensures entry { SpellsEntry seat.old.me.0 row format child (S.took sink.old)
             (S.took sink.new) }
         ensures limits { IsEntryInLimits seat.old.me.0 row }
-        ensures same { (seat.new.table_id ≡ seat.old.table_id) × (seat.new.id ≡ seat.old.id)
-            × (seat.new.me ≡ seat.old.me) }
+        ensures same { IsUnchangedToken seat.old seat.new }
     {
         if format == Format::One && self.word(seat, row, LENGTHS_WORD) == COMMON_LENGTHS {
             let rows = self.row_count();

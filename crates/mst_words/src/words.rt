@@ -4,7 +4,7 @@ ghost use Rattle.mst_node.specs.Text.{digest_of};
 ghost use Rattle.mst_arena.specs.Limits.{most_rows};
 ghost use Rattle.mst_arena.specs.Words.{bytes_in};
 ghost use Rattle.mst_key.specs.declared.format.Format.{Format};
-ghost use Rattle.mst_words.specs.Layout.{record_word, table_words};
+ghost use Rattle.mst_words.specs.Layout.{first_root_digest_word, format_word, record_word, table_words};
 ghost use Rattle.mst_words.specs.Records.{field};
 ghost use Rattle.mst_words.specs.Stored.{format_number};
 
@@ -64,12 +64,13 @@ fn zeros<A: Allocator>(alloc: A, count: usize) -> Result<Vec<u64, A>, Memory>
 pub(crate) fn first_words<A: Allocator>(alloc: A, shape: Shape) -> Result<Vec<u64, A>, Memory>
     requires few { shape.rows ≤ most_rows }
     ensures long { IfOk result (λ v. length v.items ≡ table_words shape.rows) }
-    ensures front { IfOk result (λ v. (i : ℕ) → i < record_word 0 2 → slice_index v.items i ≡ 0) }
+    ensures front { IfOk result (λ v. (i : ℕ) → i < record_word 0 first_root_digest_word
+        → slice_index v.items i ≡ 0) }
     ensures digest { IfOk result
         (λ v. bytes_in
         (field v.items 0 2 ∷ field v.items 0 3 ∷ field v.items 0 4 ∷ field v.items 0 5 ∷ [])
         ≡ digest_of []) }
-    ensures format { IfOk result (λ v. field v.items 0 6 ≡ format_number shape.format) }
+    ensures format { IfOk result (λ v. field v.items 0 format_word ≡ format_number shape.format) }
 {
     let [a, b, c, d] = empty_digest_words();
     let number = format_number(shape.format);
