@@ -1,7 +1,5 @@
 -- What a tree that has lasted says, version by version.
-use Rattle.std.proofs.Common.{◌≡◌, ℕ, zero, suc, ◌≤◌, inl, inr, true, sym, ◌∙◌, ap, subst, arith}
-use Rattle.std.proofs.lemmas.Bool.{cases_lt, and_parts, and_from}
-use Rattle.mst_key.specs.declared.format.Format.{Format}
+use Rattle.mst_arena.proofs.Names.{◌≡◌, ℕ, zero, suc, ◌≤◌, inl, inr, true, sym, ◌∙◌, ap, subst, arith, cases_lt, and_parts, and_from, Format}
 use Rattle.mst_key.specs.History.{History}
 use Rattle.mst_node.specs.Cost.{is_subtree}
 use Rattle.mst_node.specs.Stays.{tree_at, lasts}

@@ -1,13 +1,11 @@
 -- One bit of words, after a write of a word.
-use Rattle.std.proofs.Common.{◌≡◌, ◌≢◌, ℕ, zero, suc, ◌+◌, ◌-◌, ◌*◌, ◌/◌, ◌%◌, ◌^◌, ◌<◌, ◌≤◌, List, [], ◌∷◌, length, refl, sym, ◌∙◌, ap, arith, min, inl, inr, ◌⊎◌}
-use Rattle.std.specs.Prelude.{slice_index, slice_set, bit_and}
+use Rattle.mst_arena.proofs.Names.{◌≡◌, ◌≢◌, ℕ, zero, suc, ◌+◌, ◌-◌, ◌*◌, ◌/◌, ◌%◌, ◌^◌, ◌<◌, ◌≤◌, List, [], ◌∷◌, length, refl, sym, ◌∙◌, ap, arith, inl, inr, ◌⊎◌, slice_index, slice_set, w64, bit_at, trailing_zeros, cases_eq, cases_lt, get_or-set_same, get_or-set_other, bit_at-zero, bit}
+use Rattle.std.proofs.Common.{min}
+use Rattle.std.specs.Prelude.{bit_and}
 use Rattle.std.specs.Int.Count.{trailing_of_zero}
 use Rattle.std.proofs.lemmas.Nat.{and_le_r, trailing_le}
-use Rattle.std.specs.Int.{w64, bit_at, bit_not, trailing_zeros}
-use Rattle.std.proofs.lemmas.Bool.{cases_eq, cases_lt}
-use Rattle.std.proofs.lemmas.List.{get_or-set_same, get_or-set_other}
-use Rattle.std.proofs.lemmas.Nat.Bits.{bit_at-trailing_zeros, bit_at_and, bit_at_not, bit_at_mask_inside, bit_at_mask_below, ones_shl, bit_at-zero, bit_at-lt}
-use Rattle.mst_arena.specs.Bits.{bit}
+use Rattle.std.specs.Int.{bit_not}
+use Rattle.std.proofs.lemmas.Nat.Bits.{bit_at-trailing_zeros, bit_at_and, bit_at_not, bit_at_mask_inside, bit_at_mask_below, ones_shl, bit_at-lt}
 
 -- the bits of the word that was written, and of the others
 pub bit_written : (words : List ℕ) (j x i : ℕ) → j < length words → i / 64 ≡ j

@@ -1,16 +1,9 @@
 -- What a desk keeps follows the changes of its rows.
-use Rattle.std.proofs.Common.{◌≡◌, ◌≢◌, ℕ, zero, suc, ◌+◌, ◌<◌, ◌≤◌, ◌^◌, Bool, true, false, cond, List, [], ◌∷◌, ◌++◌, length, map, Option, Some, None, refl, sym, ◌∙◌, ap, arith, inl, inr, ◌⊎◌, get_or}
-use Rattle.std.specs.Prelude.{slice_get, slice_set, slice_index, option_map, replicate, ◌==◌, ◌&&◌}
-use Rattle.std.specs.List.{list_any, list_all}
-use Rattle.std.proofs.Math.ListN.{length-set}
-use Rattle.std.proofs.lemmas.Bool.{cases_eq, and_parts, and_from}
-use Rattle.std.proofs.lemmas.Bool.Decides.{nat_tests}
-use Rattle.std.proofs.lemmas.List.{append-nil, map-set}
-use Rattle.std.proofs.lemmas.Option.{slice_get-map, slice_get-get_or, get_or_from_slice_get}
-use Rattle.mst_arena.specs.declared.life.Life.{Life}
-use Rattle.mst_arena.specs.declared.life.Life.TheVariants.{Free, Born, Dead}
-use Rattle.mst_arena.specs.Lives.{is_free, reaches_life, swept_life}
-use Rattle.mst_arena.specs.Lists.{bit, is_at, is_dead, times, Lists, AllReached, AllOlder, is_older, StayBut, IsDesk}
+use Rattle.mst_arena.proofs.Names.{◌≡◌, ◌≢◌, ℕ, zero, suc, ◌+◌, ◌<◌, ◌≤◌, ◌^◌, Bool, true, false, cond, List, [], ◌∷◌, ◌++◌, length, map, Option, Some, None, refl, sym, ◌∙◌, ap, arith, inl, inr, ◌⊎◌, get_or, slice_get, slice_set, slice_index, option_map, ◌==◌, ◌&&◌, list_any, length-set, cases_eq, and_parts, and_from, nat_tests, append-nil, map-set, slice_get-map, slice_get-get_or, Life, Free, Born, Dead, is_free, reaches_life, swept_life, is_at, is_dead, times, Lists, AllReached, AllOlder, is_older, StayBut, IsDesk}
+use Rattle.std.specs.Prelude.{replicate}
+use Rattle.std.specs.List.{list_all}
+use Rattle.std.proofs.lemmas.Option.{get_or_from_slice_get}
+use Rattle.mst_arena.specs.Lists.{bit}
 use Rattle.mst_arena.proofs.SetLemmas.{get_set_other}
 use Rattle.mst_arena.proofs.ListLemmas.{times-append, lists_come, lists_stay, lists_room, swept_twice}
 

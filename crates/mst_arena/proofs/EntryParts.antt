@@ -1,13 +1,7 @@
 -- The links of an entry without its key, and its key with its value.
-use Rattle.std.proofs.Common.{◌≡◌, ◌≤◌, ℕ, List, Option, Some, None, IsSome, refl, ◌∙◌, ap, arith}
-use Rattle.std.specs.Prelude.{option_and_then, slice_index}
-use Rattle.mst_arena.specs.declared.row.Row.{Row}
-use Rattle.mst_arena.specs.declared.row.Row.TheVariants.{Entry, Head}
-use Rattle.mst_arena.specs.declared.row.KeyedLinks.{KeyedLinks}
+use Rattle.mst_arena.proofs.Names.{◌≡◌, ◌≤◌, ℕ, List, Option, Some, None, IsSome, refl, ◌∙◌, ap, arith, option_and_then, slice_index, Row, Entry, Head, KeyedLinks, Content, part_at, IsRow, keyed_links, entry_pair, entry_value, part_in}
 use Rattle.mst_arena.specs.declared.row.BareLinks.{BareLinks}
-use Rattle.mst_arena.specs.Content.{Content, part_at}
-use Rattle.mst_arena.specs.Row.{IsRow, keyed_links, bare_links, entry_pair, entry_value}
-use Rattle.mst_arena.specs.Words.{part_in}
+use Rattle.mst_arena.specs.Row.{bare_links}
 use Rattle.mst_arena.proofs.Readers.{EntryIn, entry_with}
 
 -- the words of an entry: its links are small, and stand in words 1 and 2

@@ -1,17 +1,11 @@
 -- The pair of an entry in its words, and its text, laid piece by piece: of each piece as many
 -- bytes as count.
-use Rattle.std.proofs.Common.{◌≡◌, ◌≤◌, ◌+◌, ◌*◌, ◌/◌, ◌%◌, ◌++◌, ◌∷◌, ◌∙◌, [], ℕ, List, Option, Some, length, take, ap, refl, subst, sym, arith}
-use Rattle.std.specs.Prelude.{slice_index, slice_range, option_and_then, IsSome}
+use Rattle.mst_arena.proofs.Names.{◌≡◌, ◌≤◌, ◌+◌, ◌*◌, ◌/◌, ◌%◌, ◌++◌, ◌∷◌, ◌∙◌, [], ℕ, List, Option, Some, length, take, ap, refl, subst, sym, arith, slice_index, slice_range, option_and_then, length-take-le, IsKey, IsValue, Pair, counted, Row, Entry, HasBytes, keyed_links, entry_pair, bytes_in, part_in}
+use Rattle.std.specs.Prelude.{IsSome}
 use Rattle.std.proofs.Math.Seq.{take-append-add}
-use Rattle.std.proofs.lemmas.List.{append_assoc, length-take-le, take-append-le}
+use Rattle.std.proofs.lemmas.List.{append_assoc, take-append-le}
 use Rattle.std.proofs.lemmas.Option.{same_Some}
-use Rattle.mst_key.specs.Bytes.{IsKey, IsValue}
-use Rattle.mst_key.specs.Map.{Pair}
-use Rattle.mst_node.specs.Text.{counted}
-use Rattle.mst_arena.specs.declared.row.Row.{Row}
-use Rattle.mst_arena.specs.declared.row.Row.TheVariants.{Entry}
-use Rattle.mst_arena.specs.Row.{HasBytes, keyed_links, entry_pair}
-use Rattle.mst_arena.specs.Words.{bytes_in, part_in, lengths_word, first_key_word, first_value_word}
+use Rattle.mst_arena.specs.Words.{lengths_word, first_key_word, first_value_word}
 use Rattle.mst_arena.proofs.Readers.{EntryIn, entry_with, entry_pair_of, four_bytes, eight_bytes, front_of}
 use borrow.Rule.Slice.PartMut.{put_mid, post_of}
 

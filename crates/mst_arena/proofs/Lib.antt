@@ -19,3 +19,4 @@ pub mod AgeLaws
 pub mod Stands
 pub mod Reach
 pub mod UndoLemmas
+pub mod Names

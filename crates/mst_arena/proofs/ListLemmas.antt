@@ -1,13 +1,8 @@
 -- Lists that have each row of a kind once.
-use Rattle.std.proofs.Common.{◌≡◌, ℕ, zero, suc, ◌+◌, ◌<◌, ◌≤◌, ◌⊎◌, inl, inr, Bool, true, false, cond, eqb, List, [], ◌∷◌, ◌++◌, length, map, Some, refl, sym, ◌∙◌, ap, arith}
-use Rattle.std.specs.Prelude.{slice_get, slice_set}
-use Rattle.std.specs.List.{list_any, AllByRecursion, IsDistinct}
-use Rattle.std.proofs.lemmas.Bool.Decides.{nat_tests}
+use Rattle.mst_arena.proofs.Names.{◌≡◌, ℕ, zero, suc, ◌+◌, ◌<◌, ◌≤◌, ◌⊎◌, inl, inr, Bool, true, false, cond, eqb, List, [], ◌∷◌, ◌++◌, length, map, Some, refl, sym, ◌∙◌, ap, arith, slice_get, slice_set, list_any, AllByRecursion, nat_tests, Life, Free, Born, Dead, swept_life, reaches_life, In, is_at, times, Lists}
+use Rattle.std.specs.List.{IsDistinct}
 use Rattle.std.proofs.lemmas.Map.Steps.{length-le_from_distinct_below}
-use Rattle.mst_arena.specs.declared.life.Life.{Life}
-use Rattle.mst_arena.specs.declared.life.Life.TheVariants.{Free, Born, Dead}
-use Rattle.mst_arena.specs.Lives.{swept_life, reaches_life}
-use Rattle.mst_arena.specs.Lists.{In, bit, is_at, times, Lists}
+use Rattle.mst_arena.specs.Lists.{bit}
 
 pub suc_test : (k r : ℕ) → eqb (suc k) (suc r) ≡ eqb k r
 suc_test k r = grind (arith, nat_tests)

@@ -1,18 +1,9 @@
 -- The versions that are older than the newest live one: in rising order all but the last. What they
 -- reach stays held until one of them is no longer live.
-use Rattle.std.proofs.Common.{◌≡◌, ℕ, ◌-◌, ◌<◌, ◌≤◌, Bool, true, false, List, [], ◌∷◌, length, take, get_or, refl, sym, ◌∙◌, ap, arith}
-use Rattle.std.specs.Prelude.{nat_lt, ◌&&◌}
-use Rattle.std.specs.List.{list_any, Any}
-use Rattle.std.specs.List.Sorted.{IsPermutation, IsNonDecreasing}
-use Rattle.std.proofs.lemmas.Bool.{and_parts}
-use Rattle.std.proofs.lemmas.Bool.Decides.{nat_tests}
-use Rattle.std.proofs.lemmas.List.{get_or-take, length-take-le}
+use Rattle.mst_arena.proofs.Names.{◌≡◌, ℕ, ◌-◌, ◌<◌, ◌≤◌, Bool, true, false, List, [], ◌∷◌, length, take, get_or, refl, sym, ◌∙◌, ap, arith, nat_lt, ◌&&◌, list_any, IsPermutation, IsNonDecreasing, and_parts, nat_tests, get_or-take, length-take-le, list_any-IsPermutation, Life, reaches_life, is_older, AllReached, AllOlder}
+use Rattle.std.specs.List.{Any}
 use Rattle.std.proofs.lemmas.List.Folds.{Any-from_list_any, list_any_at}
-use Rattle.std.proofs.lemmas.List.Sorted.{list_any-IsPermutation}
 use Rattle.std.proofs.lemmas.Grind.{get_or_default_zero}
-use Rattle.mst_arena.specs.declared.life.Life.{Life}
-use Rattle.mst_arena.specs.Lives.{reaches_life}
-use Rattle.mst_arena.specs.Lists.{is_older, AllReached, AllOlder}
 
 -- if the versions rise, one that is not the newest stands in front of the last
 pub older_in_front : (P : ℕ → Bool) (xs : List ℕ) → IsNonDecreasing xs

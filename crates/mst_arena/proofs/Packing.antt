@@ -1,13 +1,10 @@
 -- Bytes that were packed into words are got back from them.
-use Rattle.std.proofs.Common.{◌≡◌, ℕ, zero, suc, ◌+◌, ◌*◌, ◌/◌, ◌%◌, ◌<◌, ◌≤◌, List, [], ◌∷◌, length, get_or, map, take, refl, ◌∙◌, ap, arith}
-use Rattle.std.specs.Prelude.{slice_index}
-use Rattle.std.specs.Int.{w64, to_be_bytes}
-use Rattle.std.specs.List.{range_with_len}
+use Rattle.mst_arena.proofs.Names.{◌≡◌, ℕ, zero, suc, ◌+◌, ◌*◌, ◌/◌, ◌%◌, ◌<◌, ◌≤◌, List, [], ◌∷◌, length, get_or, map, take, refl, ◌∙◌, ap, arith, slice_index, w64, range_with_len, ext_get_or, length-map-range_with_len, get_or-map-range_with_len, IsBytes, byte_of_words}
+use Rattle.std.specs.Int.{to_be_bytes}
 use Rattle.std.proofs.lemmas.Nat.{be_bytes_8}
-use Rattle.std.proofs.lemmas.List.{ext_get_or, get_or_past}
-use Rattle.std.proofs.lemmas.List.FromFn.{length-map-range_with_len, get_or-map-range_with_len, take-map-range_with_len}
-use Rattle.mst_key.specs.Bytes.{IsBytes}
-use Rattle.mst_arena.specs.Words.{eight_from, word_from, byte_of_words}
+use Rattle.std.proofs.lemmas.List.{get_or_past}
+use Rattle.std.proofs.lemmas.List.FromFn.{take-map-range_with_len}
+use Rattle.mst_arena.specs.Words.{eight_from, word_from}
 
 -- each byte is below 256, and so is what stands for one past the end
 pub byte_lt : (bytes : List ℕ) (i : ℕ) → IsBytes bytes → slice_index bytes i < 256

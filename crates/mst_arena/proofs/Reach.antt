@@ -1,11 +1,5 @@
 -- What the desk's changes do to the versions that reach a row.
-use Rattle.std.proofs.Common.{◌≡◌, ◌≢◌, ℕ, zero, suc, ◌<◌, ◌≤◌, Bool, true, false, cond, List, [], ◌∷◌, map, Some, refl, sym, ◌∙◌, ap, arith}
-use Rattle.std.specs.Prelude.{slice_get, slice_set, nat_le, nat_lt, ◌&&◌, ◌==◌}
-use Rattle.std.specs.List.{list_any}
-use Rattle.std.proofs.lemmas.Bool.Decides.{nat_tests}
-use Rattle.mst_arena.specs.declared.life.Life.{Life}
-use Rattle.mst_arena.specs.declared.life.Life.TheVariants.{Free, Born, Dead}
-use Rattle.mst_arena.specs.Lives.{reaches, reaches_life, swept_life}
+use Rattle.mst_arena.proofs.Names.{◌≡◌, ◌≢◌, ℕ, zero, suc, ◌<◌, ◌≤◌, Bool, true, false, cond, List, [], ◌∷◌, map, Some, refl, sym, ◌∙◌, ap, arith, slice_get, slice_set, nat_le, nat_lt, ◌&&◌, ◌==◌, list_any, nat_tests, Life, Free, Born, Dead, reaches, reaches_life, swept_life}
 
 -- a row whose new life is reached like its old one
 pub same_set : (lives : List Life) (row k : ℕ) (x y : Life) (v : ℕ) → slice_get lives row ≡ Some x

@@ -1,17 +1,9 @@
 -- The parts of the row that sixteen words spell, each from some of the words.
-use Rattle.std.proofs.Common.{◌≡◌, ℕ, ◌+◌, ◌*◌, ◌/◌, ◌%◌, ◌<◌, ◌≤◌, List, [], ◌∷◌, length, take, drop, set, map, refl, sym, ◌∙◌, ap, subst, arith, Some, None, Option}
-use Rattle.std.specs.Prelude.{slice_index, slice_range, option_and_then, IsSome}
-use Rattle.std.specs.List.{range_with_len}
-use Rattle.std.proofs.lemmas.List.{ext_get_or, get_or-take, get_or-drop, length-take-le, length-drop, take_all}
-use Rattle.std.proofs.lemmas.List.FromFn.{length-map-range_with_len, get_or-map-range_with_len}
-use Rattle.mst_key.specs.Bytes.{IsKey, IsValue}
-use Rattle.mst_key.specs.Map.{Pair}
-use Rattle.mst_arena.specs.declared.row.Row.{Row}
-use Rattle.mst_arena.specs.declared.row.Row.TheVariants.{Entry, Head}
+use Rattle.mst_arena.proofs.Names.{◌≡◌, ℕ, ◌+◌, ◌*◌, ◌/◌, ◌%◌, ◌<◌, ◌≤◌, List, [], ◌∷◌, length, take, drop, set, map, refl, sym, ◌∙◌, ap, subst, arith, Some, None, Option, slice_index, slice_range, option_and_then, range_with_len, ext_get_or, get_or-take, length-take-le, take_all, length-map-range_with_len, get_or-map-range_with_len, IsKey, IsValue, Pair, Row, Entry, Head, KeyedLinks, IsRow, HasBytes, keyed_links, entry_pair, entry_value, words_of, byte_of_words, bytes_in, row_in, part_in}
+use Rattle.std.specs.Prelude.{IsSome}
+use Rattle.std.proofs.lemmas.List.{get_or-drop, length-drop}
 use Rattle.mst_arena.specs.declared.row.HeadLinks.{HeadLinks}
-use Rattle.mst_arena.specs.declared.row.KeyedLinks.{KeyedLinks}
-use Rattle.mst_arena.specs.Row.{IsRow, HasBytes, head_links, head_digest, keyed_links, entry_pair, entry_value}
-use Rattle.mst_arena.specs.Words.{words_of, byte_of_words, bytes_in, row_in, part_in}
+use Rattle.mst_arena.specs.Row.{head_links, head_digest}
 use Rattle.mst_arena.specs.Content.{relinked}
 use Rattle.mst_arena.proofs.Packing.{packed, bytes_back, front_back}
 use Rattle.mst_arena.proofs.Spelling.{words_of_row, row_of_words}

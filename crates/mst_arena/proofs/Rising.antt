@@ -1,14 +1,6 @@
 -- Which of some rising versions reach a dead row: the first that is not below its birth decides.
-use Rattle.std.proofs.Common.{◌≡◌, ℕ, zero, suc, ◌<◌, ◌≤◌, Bool, true, false, List, [], ◌∷◌, length, map, get_or, refl, arith}
-use Rattle.std.specs.Prelude.{nat_le, nat_lt, ◌&&◌}
-use Rattle.std.specs.List.{list_any}
-use Rattle.std.specs.List.Sorted.{IsNonDecreasing, IsPartitionPoint}
-use Rattle.std.specs.List.Sorted.{IsPermutation}
-use Rattle.std.proofs.lemmas.Bool.Decides.{nat_tests}
-use Rattle.std.proofs.lemmas.List.Sorted.{list_any-IsPermutation}
-use Rattle.mst_arena.specs.declared.life.Life.{Life}
-use Rattle.mst_arena.specs.declared.life.Life.TheVariants.{Free, Born, Dead}
-use Rattle.mst_arena.specs.Lives.{swept_life, reaches_life}
+use Rattle.mst_arena.proofs.Names.{◌≡◌, ℕ, zero, suc, ◌<◌, ◌≤◌, Bool, true, false, List, [], ◌∷◌, length, map, get_or, refl, arith, nat_le, nat_lt, ◌&&◌, list_any, IsNonDecreasing, IsPermutation, nat_tests, list_any-IsPermutation, Life, Free, Born, Dead, swept_life, reaches_life}
+use Rattle.std.specs.List.Sorted.{IsPartitionPoint}
 use Rattle.mst_arena.specs.Lists.{IsLowest}
 
 -- a version from the birth to before the death

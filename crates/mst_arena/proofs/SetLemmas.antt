@@ -1,13 +1,8 @@
 -- A set of rows, when a row is put into it or taken out of it.
-use Rattle.std.proofs.Common.{◌≡◌, ◌≢◌, ℕ, zero, suc, ◌+◌, ◌-◌, ◌*◌, ◌/◌, ◌%◌, ◌<◌, ◌≤◌, Bool, true, false, eqb, List, [], ◌∷◌, length, refl, sym, ◌∙◌, ap, arith, Some, inl, inr, ◌⊎◌, take, drop, ◌++◌}
-use Rattle.std.specs.Prelude.{slice_get, slice_set, slice_index, replicate}
-use Rattle.std.proofs.Math.ListN.{length-set}
+use Rattle.mst_arena.proofs.Names.{◌≡◌, ◌≢◌, ℕ, zero, suc, ◌+◌, ◌-◌, ◌*◌, ◌/◌, ◌%◌, ◌<◌, ◌≤◌, Bool, true, false, eqb, List, [], ◌∷◌, length, refl, sym, ◌∙◌, ap, arith, Some, inl, inr, ◌⊎◌, take, drop, ◌++◌, slice_get, slice_set, slice_index, length-set, cases_lt, nat_tests, bit_at-zero, bit_at, bit, flags, count_true, BitWritten, Sums}
+use Rattle.std.specs.Prelude.{replicate}
 use Rattle.std.proofs.Math.Seq.{take-append_seam}
-use Rattle.std.proofs.lemmas.Bool.{cases_lt}
-use Rattle.std.proofs.lemmas.Bool.Decides.{nat_tests}
-use Rattle.std.proofs.lemmas.Nat.Bits.{bit_at-zero}
-use Rattle.std.specs.Int.{bit_at}
-use Rattle.mst_arena.specs.Bits.{bit, flags, count_true, BitWritten, Sums, IsSet}
+use Rattle.mst_arena.specs.Bits.{IsSet}
 use Rattle.mst_arena.proofs.FlagLemmas.{count_drop, count_more, count_le, count_none, length-flags, flag_at, flag_within, flags_set, bit_of_flag}
 
 -- a word with a bit set is not 0

@@ -1,16 +1,11 @@
 -- The row that words spell has these words, and each row is spelt by its words.
-use Rattle.std.proofs.Common.{◌≡◌, ◌≢◌, ℕ, zero, suc, ◌+◌, ◌*◌, ◌/◌, ◌%◌, ◌<◌, Bool, true, false, ◌&&◌, cond, eqb, List, [], ◌∷◌, length, get_or, take, map, refl, sym, ◌∙◌, ap, subst, arith, Some, None, Option}
-use Rattle.std.specs.Prelude.{slice_index, slice_range, IsSome}
+use Rattle.mst_arena.proofs.Names.{◌≡◌, ◌≢◌, ℕ, zero, suc, ◌+◌, ◌*◌, ◌/◌, ◌%◌, ◌<◌, Bool, true, false, cond, eqb, List, [], ◌∷◌, length, get_or, take, map, refl, sym, ◌∙◌, ap, subst, arith, Some, None, Option, slice_index, slice_range, range_with_len, nat_tests, IsBytes, Row, Entry, Head, IsRow, HasBytes, words_of, byte_of_words, bytes_in}
+use Rattle.std.proofs.Common.{◌&&◌}
+use Rattle.std.specs.Prelude.{IsSome}
 use Rattle.std.specs.Int.{byte_at}
-use Rattle.std.specs.List.{range_with_len}
 use Rattle.std.specs.Str.{bytes_eq}
-use Rattle.std.proofs.lemmas.Bool.Decides.{nat_tests}
 use Rattle.std.proofs.lemmas.Slice.Eq.{bytes_eq-Decides}
-use Rattle.mst_key.specs.Bytes.{IsBytes}
-use Rattle.mst_arena.specs.declared.row.Row.{Row}
-use Rattle.mst_arena.specs.declared.row.Row.TheVariants.{Entry, Head}
-use Rattle.mst_arena.specs.Row.{IsRow, HasBytes}
-use Rattle.mst_arena.specs.Words.{words_of, byte_of_words, bytes_in, entry_in, head_in, candidate, has_limits, row_in}
+use Rattle.mst_arena.specs.Words.{entry_in, head_in, candidate, has_limits, row_in}
 use Rattle.mst_arena.proofs.Packing.{packed, bytes_back, front_back}
 
 -- ---- the bytes of words are bytes

@@ -1,11 +1,7 @@
 -- What stands at a link is one tree, and it stays while its rows stay.
-use Rattle.std.proofs.Common.{◌≡◌, ◌≢◌, ℕ, List, [], ◌∷◌, ◌++◌, refl, ◌∙◌, ap, arith}
-use Rattle.std.specs.List.{AllByRecursion}
-use Rattle.mst_key.specs.declared.format.Format.{Format}
-use Rattle.mst_arena.specs.Content.{Content, Writes}
-use Rattle.mst_arena.specs.declared.row.Row.{Row}
-use Rattle.mst_arena.specs.declared.row.Row.TheVariants.{Entry}
-use Rattle.mst_arena.specs.Standing.{Placed, none, head, Chain, end, cell, link_of, first_of, tail_of, head_row, rows_of, chain_rows, used, chain_used, HasRows}
+use Rattle.mst_arena.proofs.Names.{◌≡◌, ◌≢◌, ℕ, List, [], ◌∷◌, ◌++◌, refl, ◌∙◌, ap, arith, AllByRecursion, Format, Content, Row, Entry, Placed, none, head, Chain, end, cell, rows_of, used, chain_used}
+use Rattle.mst_arena.specs.Content.{Writes}
+use Rattle.mst_arena.specs.Standing.{link_of, first_of, tail_of, head_row, chain_rows, HasRows}
 
 pub all-append : {A : Type 0} (P : A → Type 0) (xs ys : List A) → AllByRecursion P xs
     → AllByRecursion P ys → AllByRecursion P (xs ++ ys)

@@ -1,15 +1,8 @@
 -- Where a search among the entries of a node ends, entry by entry.
-use Rattle.std.proofs.Common.{◌≡◌, ℕ, zero, suc, ◌+◌, ◌-◌, ◌<◌, ◌≤◌, List, [], Option, Some, None, IsSome, refl, sym, ◌∙◌, ap, subst, arith}
-use Rattle.std.specs.Prelude.{option_and_then}
-use Rattle.mst_arena.specs.declared.row.Row.{Row}
-use Rattle.mst_arena.specs.declared.row.Row.TheVariants.{Entry, Head}
-use Rattle.mst_arena.specs.declared.sought.Way.{Way}
-use Rattle.mst_arena.specs.declared.sought.Way.TheVariants.{Child, Here, Next}
+use Rattle.mst_arena.proofs.Names.{◌≡◌, ℕ, zero, suc, ◌+◌, ◌-◌, ◌<◌, ◌≤◌, List, [], Option, Some, None, IsSome, refl, sym, ◌∙◌, ap, subst, arith, option_and_then, Row, Entry, Head, Way, Child, Here, Next, Content, part_at, keyed_links, entry_way}
 use Rattle.mst_arena.specs.declared.sought.Stop.{Stop}
 use Rattle.mst_arena.specs.declared.sought.Stop.TheVariants.{Gap, Found, End}
-use Rattle.mst_arena.specs.Content.{Content, part_at}
-use Rattle.mst_arena.specs.Row.{keyed_links}
-use Rattle.mst_arena.specs.Ways.{entry_way, by_way, stop_from}
+use Rattle.mst_arena.specs.Ways.{by_way, stop_from}
 
 -- a row from which there is a way is an entry
 entry_there : (k : List ℕ) (o : Option Row) (next : Way → Option Stop)

@@ -1,14 +1,6 @@
 -- A sweep along the list of dead rows.
-use Rattle.std.proofs.Common.{◌≡◌, ◌≢◌, ℕ, zero, suc, ◌+◌, ◌<◌, ◌≤◌, Bool, true, false, cond, eqb, List, [], ◌∷◌, ◌++◌, length, map, Some, refl, sym, ◌∙◌, ap, subst, arith}
-use Rattle.std.specs.Prelude.{slice_get, slice_set, option_map}
-use Rattle.std.specs.List.{list_any}
-use Rattle.std.proofs.lemmas.Bool.Decides.{nat_tests}
-use Rattle.std.proofs.lemmas.List.{map-set}
-use Rattle.std.proofs.lemmas.Option.{slice_get-map}
-use Rattle.mst_arena.specs.declared.life.Life.{Life}
-use Rattle.mst_arena.specs.declared.life.Life.TheVariants.{Free, Born, Dead}
-use Rattle.mst_arena.specs.Lives.{swept_life, is_free, reaches_life}
-use Rattle.mst_arena.specs.Lists.{bit, is_at, is_dead, times, Lists, StayBut, AllReached}
+use Rattle.mst_arena.proofs.Names.{◌≡◌, ◌≢◌, ℕ, zero, suc, ◌+◌, ◌<◌, ◌≤◌, Bool, true, false, cond, eqb, List, [], ◌∷◌, ◌++◌, length, map, Some, refl, sym, ◌∙◌, ap, subst, arith, slice_get, slice_set, option_map, list_any, nat_tests, map-set, slice_get-map, Life, Free, Born, Dead, swept_life, is_free, reaches_life, is_at, is_dead, times, Lists, StayBut, AllReached}
+use Rattle.mst_arena.specs.Lists.{bit}
 use Rattle.mst_arena.proofs.ListLemmas.{get-set, times-append, lists_leave, lists_turn, lists_room, swept_twice, swept_after, there, count_one}
 
 pub record Sweeping (live : List ℕ) (start lives : List Life) (free : List Bool)

@@ -1,15 +1,8 @@
 -- What was done for the version to come, taken back row by row.
-use Rattle.std.proofs.Common.{◌≡◌, ◌≢◌, ℕ, zero, suc, ◌+◌, ◌<◌, ◌≤◌, Bool, true, false, cond, eqb, List, [], ◌∷◌, ◌++◌, length, map, Option, Some, refl, sym, ◌∙◌, ap, subst, arith}
-use Rattle.std.specs.Prelude.{slice_get, slice_set, option_map, nat_lt, nat_le, ◌&&◌, if◌then◌else◌}
-use Rattle.std.proofs.lemmas.Bool.Decides.{nat_tests}
-use Rattle.std.proofs.lemmas.List.{map-set}
-use Rattle.std.proofs.lemmas.Option.{slice_get-map}
-use Rattle.std.proofs.Math.ListN.{length-set}
-use Rattle.mst_arena.specs.declared.life.Life.{Life}
-use Rattle.mst_arena.specs.declared.life.Life.TheVariants.{Free, Born, Dead}
-use Rattle.mst_arena.specs.Lives.{State, version, next, reaches, reaches_life, is_free, IsPast}
-use Rattle.mst_arena.specs.Undone.{undone_life}
-use Rattle.mst_arena.specs.Lists.{bit, is_at, is_dead, times, Lists, IsDesk}
+use Rattle.mst_arena.proofs.Names.{◌≡◌, ◌≢◌, ℕ, zero, suc, ◌+◌, ◌<◌, ◌≤◌, Bool, true, false, cond, eqb, List, [], ◌∷◌, ◌++◌, length, map, Option, Some, refl, sym, ◌∙◌, ap, subst, arith, slice_get, slice_set, option_map, nat_lt, nat_le, ◌&&◌, nat_tests, map-set, slice_get-map, length-set, Life, Free, Born, Dead, State, version, next, reaches, reaches_life, is_free, undone_life, is_at, is_dead, times, Lists, IsDesk}
+use Rattle.std.specs.Prelude.{if◌then◌else◌}
+use Rattle.mst_arena.specs.Lives.{IsPast}
+use Rattle.mst_arena.specs.Lists.{bit}
 use Rattle.mst_arena.proofs.ListLemmas.{get-set, times-append, count_one, there}
 
 -- ---- one life

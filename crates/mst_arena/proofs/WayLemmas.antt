@@ -1,18 +1,8 @@
 -- The way to a key from an entry, by its links and by its words.
-use Rattle.std.proofs.Common.{◌≡◌, ℕ, ◌*◌, ◌+◌, ◌≤◌, List, length, Option, Some, None, Ordering, Less, Equal, Greater, refl, sym, ◌∙◌, ap, arith}
-use Rattle.std.specs.Prelude.{slice_index, option_and_then, IsSome}
-use Rattle.mst_key.specs.Bytes.{IsKey, IsBytes}
-use Rattle.mst_key.specs.Map.{key_cmp}
+use Rattle.mst_arena.proofs.Names.{◌≡◌, ℕ, ◌*◌, ◌+◌, ◌≤◌, List, length, Option, Some, None, Ordering, Less, Equal, Greater, refl, sym, ◌∙◌, ap, arith, slice_index, option_and_then, IsKey, IsBytes, key_cmp, Row, Entry, Head, KeyedLinks, Way, Child, Here, Next, Content, part_at, IsRow, HasBytes, keyed_links, words_of, part_in, entry_way, words_order}
+use Rattle.std.specs.Prelude.{IsSome}
 use Rattle.mst_node.specs.Trail.{by_order}
-use Rattle.mst_arena.specs.declared.row.Row.{Row}
-use Rattle.mst_arena.specs.declared.row.Row.TheVariants.{Entry, Head}
-use Rattle.mst_arena.specs.declared.row.KeyedLinks.{KeyedLinks}
-use Rattle.mst_arena.specs.declared.sought.Way.{Way}
-use Rattle.mst_arena.specs.declared.sought.Way.TheVariants.{Child, Here, Next}
-use Rattle.mst_arena.specs.Content.{Content, part_at}
-use Rattle.mst_arena.specs.Row.{IsRow, HasBytes, keyed_links}
-use Rattle.mst_arena.specs.Words.{words_of, part_in}
-use Rattle.mst_arena.specs.Ways.{entry_way, way_at, words_order}
+use Rattle.mst_arena.specs.Ways.{way_at}
 use Rattle.mst_arena.proofs.Readers.{EntryIn, entry_with}
 use Rattle.mst_arena.proofs.WordOrder.{by_words}
 

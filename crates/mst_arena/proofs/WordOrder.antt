@@ -1,12 +1,9 @@
 -- The order of two keys is that of their words, and if these are the same, of their lengths.
-use Rattle.std.proofs.Common.{◌≡◌, ℕ, zero, suc, ◌+◌, ◌%◌, ◌<◌, ◌≤◌, List, [], ◌∷◌, length, refl, sym, ◌∙◌, ap, arith, Ordering, Less, Equal, Greater, nat_cmp}
-use Rattle.std.specs.Prelude.{slice_index}
+use Rattle.mst_arena.proofs.Names.{◌≡◌, ℕ, zero, suc, ◌+◌, ◌%◌, ◌<◌, ◌≤◌, List, [], ◌∷◌, length, refl, sym, ◌∙◌, ap, arith, Ordering, Less, Equal, Greater, slice_index, IsBytes, key_cmp, words_order}
+use Rattle.std.proofs.Common.{nat_cmp}
 use Rattle.std.specs.Ordering.{ordering_then}
-use Rattle.mst_key.specs.Bytes.{IsBytes}
-use Rattle.mst_key.specs.Map.{key_cmp}
 use Rattle.mst_node.proofs.FirstWords.{less, greater, same, eight}
 use Rattle.mst_arena.specs.Words.{word_from}
-use Rattle.mst_arena.specs.Ways.{words_order}
 use Rattle.mst_arena.proofs.Packing.{byte_lt}
 
 -- ---- bytes one after another

@@ -1,19 +1,9 @@
 -- Edits made in the parts of a list of pairs: below a key, of it, and above it.
-use Rattle.std.proofs.Common.{◌≡◌, ℕ, List, [], ◌∷◌, ◌++◌, Less, is_lt, is_eq, is_gt, not, filter, refl, sym, ap, ◌∙◌, subst}
-use Rattle.std.specs.List.{AllByRecursion}
-use Rattle.mst_key.specs.declared.history.Edit.{Edit}
+use Rattle.mst_batch.proofs.Names.{◌≡◌, ℕ, List, [], ◌∷◌, ◌++◌, Less, is_lt, is_eq, is_gt, not, filter, refl, sym, ap, ◌∙◌, subst, AllByRecursion, Edit, AreAbove, AreRising, edited, batched, key_of, Pair, key_cmp, AllAbove, IsAscending, alls-append, alls-filter, alls-weaker, equal_from_same, less_chain, other_from_less, AllBelow-less, IsAscending-back, IsAscending-below, put_of, AreBelow, AreOf, above-first}
 use Rattle.mst_key.specs.declared.history.Edit.TheVariants as edit
-use Rattle.mst_key.specs.Edits.{AreAbove, AreRising}
-use Rattle.mst_key.specs.History.{edited, batched, key_of}
-use Rattle.mst_key.specs.Map.{Pair, key_cmp, AllAbove, AllBelow, IsAscending}
-use Rattle.mst_key.proofs.Alls.{alls-append, alls-filter, alls-weaker}
+use Rattle.mst_key.specs.Map.{AllBelow}
 use Rattle.mst_key.proofs.HistoryLaws.{batched-append}
-use Rattle.mst_key.proofs.KeyOrder.{equal_from_same, less_chain, other_from_less}
-use Rattle.mst_key.proofs.MapLaws.{AllBelow-less}
-use Rattle.mst_key.proofs.Splits.{put-left, put-right, put-first, remove-left, remove-right, remove-first, IsAscending-back, IsAscending-below}
-use Rattle.mst_edits.specs.Listed.{put_of}
-use Rattle.mst_batch.specs.Opening.{AreBelow, AreOf}
-use Rattle.mst_edits.proofs.Joins.{above-first}
+use Rattle.mst_key.proofs.Splits.{put-left, put-right, put-first, remove-left, remove-right, remove-first}
 
 -- ---- an edit of a key below all of the last pairs, or above all of the first ones
 

@@ -1,27 +1,5 @@
 -- The plan of the map after a batch, beside the tree that stands.
-use Rattle.std.proofs.Common.{◌≡◌, Bool, List, sym, ◌∙◌, ap, subst}
-use Rattle.std.specs.List.{AllByRecursion}
-use Rattle.mst_key.specs.History.{batched, IsSmall}
-use Rattle.mst_key.specs.Map.{Pair, IsAscending}
-use Rattle.mst_key.specs.declared.format.Format.{Format}
-use Rattle.mst_key.specs.declared.history.Edit.{Edit}
-use Rattle.mst_key.proofs.Ascending.{IsAscending-batched}
-use Rattle.mst_key.proofs.HistoryLaws.{IsMap-batched}
-use Rattle.mst_node.specs.Cost.{cost}
-use Rattle.mst_node.specs.Tree.{Tree, tree, pairs}
-use Rattle.mst_node.proofs.UniqueTree.{pairs_tree, tree_mst}
-use Rattle.mst_arena.specs.Content.{Content}
-use Rattle.mst_arena.specs.Lives.{State}
-use Rattle.mst_arena.specs.Standing.{Placed, tree_of, used, Stands, numbers}
-use Rattle.mst_arena.specs.declared.row.Root.{Root}
-use Rattle.mst_change.specs.Batch.{rows_beside}
-use Rattle.mst_change.proofs.Batch.{beside_cost}
-use Rattle.mst_path.specs.Changing.{AreOld}
-use Rattle.mst_path.proofs.lemmas.versions.Changes.{distinct_times, mst_of, one_standing}
-use Rattle.mst_batch.specs.Beside.{node_at, plan_beside, AreMarks}
-use Rattle.mst_batch.specs.Carrying.{IsPlanOf}
-use Rattle.mst_batch.specs.Plans.{PlanTree, rows_planned}
-use Rattle.mst_batch.specs.Replacing.{Keeps}
+use Rattle.mst_batch.proofs.Names.{◌≡◌, Bool, List, sym, ◌∙◌, ap, subst, AllByRecursion, batched, IsSmall, Pair, IsAscending, Format, Edit, IsAscending-batched, IsMap-batched, cost, Tree, tree, pairs, pairs_tree, tree_mst, Content, State, Placed, tree_of, used, Stands, numbers, Root, rows_beside, beside_cost, AreOld, distinct_times, mst_of, one_standing, node_at, plan_beside, AreMarks, IsPlanOf, PlanTree, rows_planned, Keeps}
 use Rattle.mst_batch.proofs.Besides.{plan_is, plan_rows, plan_possible, plan_keeps}
 
 module _ (format : Format) (content : Content) (root : Root) (es : List Edit) (m : List Pair)

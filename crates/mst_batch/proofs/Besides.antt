@@ -1,35 +1,11 @@
 -- The plan of a tree beside one that stands: it is that tree, it takes the rows that are counted,
 -- and it can be carried out.
-use Rattle.std.proofs.Common.{◌≡◌, ℕ, ◌+◌, ◌<◌, ◌≤◌, eqb, Bool, true, false, ◌||◌, ◌⊎◌, List, [], ◌∷◌, ◌++◌, map, refl, sym, ◌∙◌, ap, subst, arith, inl, inr, true≢false}
-use Rattle.std.specs.Prelude.{if◌then◌else◌, Contains}
-use Rattle.std.specs.List.{list_any}
-use Rattle.std.proofs.lemmas.Bool.Decides.{nat_tests}
-use Rattle.std.proofs.lemmas.List.{map-append}
-use Rattle.std.proofs.lemmas.List.Elements.{Contains-append_left, Contains-append_right, Contains-append_cases}
-use Rattle.mst_key.specs.Map.{IsAscending}
-use Rattle.mst_key.specs.declared.format.Format.{Format}
-use Rattle.mst_key.proofs.SpanLaws.{contains-cases, contains-nothing, contains-first, contains-later}
-use Rattle.mst_node.specs.Cost.{subtrees, entries_subtrees, same_tree, is_subtree}
+use Rattle.mst_batch.proofs.Names.{◌≡◌, ℕ, ◌+◌, ◌<◌, ◌≤◌, eqb, Bool, true, false, ◌||◌, ◌⊎◌, List, [], ◌∷◌, ◌++◌, map, refl, sym, ◌∙◌, ap, subst, arith, inl, inr, true≢false, if◌then◌else◌, Contains, list_any, nat_tests, map-append, Contains-append_left, Contains-append_right, Contains-append_cases, IsAscending, Format, contains-cases, contains-nothing, contains-first, contains-later, is_subtree, Tree, Entries, entry_count, pairs, entries_pairs, IsMst, IsMstEntries, Content, In, times, bit, State, Placed, none, head, Chain, end, cell, tree_of, entries_of, link_of, rows_of, chain_rows, used, HasRows, times-append, all-front, all-back, one_placed, rows_beside, placed_nodes, chain_nodes, IsOld, OldPiece, at_self, in_either, link_among, node_at, plan_beside, entries_beside, links_kept, entries_links, AreMarks, is_marked, PlanTree, PlanEntries, kept, made, last, entry, tree_planned, entries_planned, rows_planned, entries_rows, rows_kept, entries_kept, EachKept, EachKeptBelow, IsPlan, IsMarkedNode, trees_kept, entries_trees, Keeps}
+use Rattle.mst_node.specs.Cost.{subtrees, entries_subtrees, same_tree}
 use Rattle.mst_node.specs.Tree as tree
-use Rattle.mst_node.specs.Tree.{Tree, Entries, entry_count, pairs, entries_pairs, IsMst, IsMstEntries}
 use Rattle.mst_node.proofs.SameTrees.{tree_from_same}
-use Rattle.mst_arena.specs.Content.{Content}
-use Rattle.mst_arena.specs.Lists.{In, times, bit}
-use Rattle.mst_arena.specs.Lives.{State}
-use Rattle.mst_arena.specs.Standing.{Placed, none, head, Chain, end, cell, tree_of, entries_of, link_of, rows_of, chain_rows, used, HasRows}
-use Rattle.mst_arena.proofs.ListLemmas.{times-append}
-use Rattle.mst_arena.proofs.Stands.{all-front, all-back, one_placed}
 use Rattle.mst_change.specs.Batch as batch
-use Rattle.mst_change.specs.Batch.{rows_beside}
-use Rattle.mst_arena.specs.Ages.{placed_nodes, chain_nodes}
-use Rattle.mst_path.specs.Moves.{IsOld}
-use Rattle.mst_path.specs.Runs.{OldPiece}
-use Rattle.mst_path.proofs.lemmas.rows.CopyRows.{at_self}
-use Rattle.mst_arena.proofs.ListLemmas.{in_either}
-use Rattle.mst_batch.specs.Beside.{link_among, node_among, node_at, plan_beside, entries_beside, links_kept, entries_links, AreMarks}
-use Rattle.mst_batch.specs.Kept.{is_marked}
-use Rattle.mst_batch.specs.Plans.{PlanTree, PlanEntries, kept, made, last, entry, tree_planned, entries_planned, rows_planned, entries_rows, rows_kept, entries_kept, EachKept, EachKeptBelow, IsPlan}
-use Rattle.mst_batch.specs.Replacing.{IsMarkedNode, trees_kept, entries_trees, Keeps}
+use Rattle.mst_batch.specs.Beside.{node_among}
 use Rattle.mst_batch.proofs.Replaced.{node_inside_chain}
 use Rattle.mst_batch.proofs.RowKeys.{keyed, keyed-append, keyed_once, Fewer, key_of}
 

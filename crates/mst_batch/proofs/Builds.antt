@@ -1,31 +1,9 @@
 -- The plan of items beside the tree that stands at a root: of a tree alone, of items that are
 -- opened, and of a node, one item after another.
-use Rattle.std.proofs.Common.{◌≡◌, ℕ, ◌+◌, ◌<◌, ◌≤◌, max, true, false, List, [], ◌∷◌, ◌++◌, Some, None, length, map, get_or, drop, refl, sym, ◌∙◌, ap, subst, arith}
-use Rattle.std.specs.Prelude.{slice_range}
-use Rattle.std.specs.List.{AllByRecursion, list_any, flat_map}
-use Rattle.std.proofs.lemmas.Option.{same_Some}
-use Rattle.std.proofs.lemmas.List.{append-nil}
-use Rattle.mst_key.specs.declared.format.Format.{Format}
-use Rattle.mst_key.specs.Layer.{layer_in}
-use Rattle.mst_key.specs.Map.{Pair, IsAscending}
-use Rattle.mst_key.proofs.SpanLaws.{contains-all}
+use Rattle.mst_batch.proofs.Names.{◌≡◌, ℕ, ◌+◌, ◌<◌, ◌≤◌, max, true, false, List, [], ◌∷◌, ◌++◌, Some, None, length, map, get_or, drop, refl, sym, ◌∙◌, ap, subst, arith, slice_range, AllByRecursion, list_any, flat_map, same_Some, append-nil, Format, layer_in, Pair, IsAscending, contains-all, Entries, tree, pairs, IsMst, tree-no_pairs, tree_unique, Content, Root, Placed, head, tree_of, Stands, mst_of, rises, node_at, plan_beside, entries_beside, item_pairs, items_pairs, IsItem, IsTold, AreItems, height_of, IsUpTo, Known, AreKnown, all_known, known_of_entry, own_known, PlanTree, kept, made, last, PlannedEntry, with_planned, IsStanding, is_tree, is_pair, opened, Item, Origin, PlanEntry}
 use Rattle.mst_node.specs.Tree as tree
-use Rattle.mst_node.specs.Tree.{Entries, tree, pairs, IsMst}
-use Rattle.mst_node.proofs.TreeEquation.{tree-no_pairs}
-use Rattle.mst_node.proofs.UniqueTree.{tree_unique}
-use Rattle.mst_arena.specs.Content.{Content}
-use Rattle.mst_arena.specs.declared.row.Root.{Root}
-use Rattle.mst_arena.specs.Standing.{Placed, head, tree_of, Stands}
-use Rattle.mst_path.proofs.lemmas.versions.Changes.{mst_of, rises}
-use Rattle.mst_batch.specs.Beside.{node_at, plan_beside, entries_beside}
-use Rattle.mst_batch.specs.Items.{item_pairs, items_pairs, IsItem, IsTold, AreItems, height_of, IsUpTo}
-use Rattle.mst_batch.specs.Known.{Known, AreKnown, all_known, known_of_entry, own_known}
-use Rattle.mst_batch.specs.Plans.{PlanTree, kept, made, last, PlannedEntry, with_planned}
-use Rattle.mst_batch.specs.Tops.{IsStanding, is_tree, is_pair, lone, opened}
-use Rattle.mst_batch.specs.declared.items.Item.{Item}
+use Rattle.mst_batch.specs.Tops.{lone}
 use Rattle.mst_batch.specs.declared.items.Item.TheVariants as item
-use Rattle.mst_batch.specs.declared.plan.Origin.{Origin}
-use Rattle.mst_batch.specs.declared.plan.PlanEntry.{PlanEntry}
 use Rattle.mst_batch.proofs.KnownShapes.{known_both, known_more}
 use Rattle.mst_batch.proofs.Homes.{kept_plan}
 use Rattle.mst_batch.proofs.NodePlans.{no_pair, part_items, gap_low, node_entries, tree_is, is_mst, planned, ends_gap, joins_gap, last_gap}

@@ -1,21 +1,9 @@
 -- Which rows fall of a tree that is given up beside its kept nodes: fewer than all, and none of a
 -- kept node.
-use Rattle.std.proofs.Common.{◌≡◌, ℕ, zero, suc, ◌+◌, ◌≤◌, Bool, true, false, Some, None, List, [], ◌∷◌, ◌++◌, refl, sym, ◌∙◌, ap, arith}
-use Rattle.std.specs.Prelude.{if◌then◌else◌, option_and_then}
+use Rattle.mst_batch.proofs.Names.{◌≡◌, ℕ, zero, suc, ◌+◌, ◌≤◌, Bool, true, false, Some, None, List, [], ◌∷◌, ◌++◌, refl, sym, ◌∙◌, ap, arith, if◌then◌else◌, option_and_then, Content, part_at, keyed_links, bare_links, Row, Entry, Head, BareLinks, KeyedLinks, State, times, Placed, none, head, Chain, end, cell, link_of, used, chain_used, times-append, ToFell, is_marked, fallen, chain_fallen}
 use Rattle.std.specs.declared.option.Option.{Option}
-use Rattle.mst_arena.specs.Content.{Content, part_at}
-use Rattle.mst_arena.specs.Row.{keyed_links, bare_links}
-use Rattle.mst_arena.specs.declared.row.Row.{Row}
-use Rattle.mst_arena.specs.declared.row.Row.TheVariants.{Entry, Head}
-use Rattle.mst_arena.specs.declared.row.BareLinks.{BareLinks}
-use Rattle.mst_arena.specs.declared.row.KeyedLinks.{KeyedLinks}
-use Rattle.mst_arena.specs.Lives.{State}
-use Rattle.mst_arena.specs.Lists.{times}
-use Rattle.mst_arena.specs.Standing.{Placed, none, head, Chain, end, cell, link_of, used, chain_used}
-use Rattle.mst_arena.proofs.ListLemmas.{times-append}
-use Rattle.mst_path.specs.Felling.{ToFell}
 use Rattle.mst_path.proofs.lemmas.steps.Felling.{chain_falls}
-use Rattle.mst_batch.specs.Kept.{is_marked, stays, fallen, chain_fallen}
+use Rattle.mst_batch.specs.Kept.{stays}
 
 -- the link of a node tells whether it is kept
 pub marked_at : (marks : List Bool) (link at : ℕ) → at + 1 ≡ link → stays marks link ≡ is_marked

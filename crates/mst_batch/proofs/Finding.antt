@@ -1,25 +1,6 @@
 -- The plan of a batch: the whole tree as a part of itself, and what its items are.
-use Rattle.std.proofs.Common.{◌≡◌, List, [], ◌++◌, Bor, inl, inr, refl, sym, ◌∙◌, ap, subst}
-use Rattle.std.specs.Prelude.{◌⊎◌, Contains}
-use Rattle.std.specs.List.{AllByRecursion}
-use Rattle.mst_key.specs.History.{batched}
-use Rattle.mst_key.specs.Map.{Pair, IsAscending}
-use Rattle.mst_key.specs.declared.format.Format.{Format}
-use Rattle.mst_key.specs.declared.history.Edit.{Edit}
-use Rattle.mst_key.proofs.Ascending.{IsAscending-batched}
-use Rattle.mst_key.proofs.SpanLaws.{contains-first}
-use Rattle.mst_node.specs.Tree.{pairs}
-use Rattle.mst_node.proofs.UniqueTree.{pairs_tree}
-use Rattle.mst_arena.specs.Content.{Content}
-use Rattle.mst_arena.specs.Standing.{Placed, none, head, tree_of, Stands}
-use Rattle.mst_arena.specs.declared.row.Root.{Root}
-use Rattle.mst_arena.specs.Ages.{placed_nodes, chain_nodes}
-use Rattle.mst_path.proofs.lemmas.versions.Changes.{mst_of, rises}
-use Rattle.mst_batch.specs.Items.{items_pairs, IsItem, AreItems}
-use Rattle.mst_edits.specs.Listed.{listed}
-use Rattle.mst_batch.specs.Opening.{PartOf}
-use Rattle.mst_batch.specs.Updating.{AreUpdates, Updates}
-use Rattle.mst_batch.specs.declared.items.Item.{Item}
+use Rattle.mst_batch.proofs.Names.{◌≡◌, List, [], ◌++◌, Bor, inl, inr, refl, sym, ◌∙◌, ap, subst, Contains, AllByRecursion, batched, Pair, IsAscending, Format, Edit, IsAscending-batched, contains-first, pairs, pairs_tree, Content, Placed, none, head, tree_of, Stands, Root, placed_nodes, chain_nodes, mst_of, rises, items_pairs, IsItem, AreItems, listed, PartOf, AreUpdates, Updates, Item}
+use Rattle.std.specs.Prelude.{◌⊎◌}
 
 pub own_part : (p : Placed) → (p ≡ none) ⊎ Contains (placed_nodes p) p
 own_part none = inl refl

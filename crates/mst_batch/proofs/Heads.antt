@@ -1,15 +1,7 @@
 -- A node that stands, by its head that was read.
-use Rattle.std.proofs.Common.{◌≡◌, ◌+◌, ◌-◌, ◌<◌, ◌≤◌, ℕ, Some, None, Option, IsSome, refl, sym, ◌∙◌, ap, subst, arith}
-use Rattle.std.specs.Prelude.{option_and_then}
-use Rattle.mst_key.specs.declared.format.Format.{Format}
-use Rattle.mst_arena.specs.Content.{Content, part_at}
-use Rattle.mst_arena.specs.Row.{head_links, keyed_links}
-use Rattle.mst_arena.specs.Standing.{Placed, none, head, Chain, end, cell, first_of, count_of, head_row, rows_of, HasRows}
-use Rattle.mst_arena.specs.declared.row.HeadLinks.{HeadLinks}
-use Rattle.mst_arena.specs.declared.row.KeyedLinks.{KeyedLinks}
-use Rattle.mst_read.specs.Search.{Lies, LiesBehind, head_of, chain_links}
+use Rattle.mst_batch.proofs.Names.{◌≡◌, ◌+◌, ◌-◌, ◌<◌, ◌≤◌, ℕ, Some, None, Option, IsSome, refl, sym, ◌∙◌, ap, subst, arith, option_and_then, Format, Content, part_at, head_links, keyed_links, Placed, none, head, Chain, end, cell, first_of, count_of, head_row, rows_of, HasRows, HeadLinks, KeyedLinks, Lies, LiesBehind, head_of, chain_links, Onward}
 use Rattle.mst_read.proofs.Still.{there_still}
-use Rattle.mst_read.proofs.Walk.{Onward, entry_left}
+use Rattle.mst_read.proofs.Walk.{entry_left}
 
 -- the tree is a node of this head
 pub record HasHead (format : Format) (content : Content) (p : Placed) (links : HeadLinks)

@@ -1,31 +1,14 @@
 -- Which node of a tree is kept: a look-up of one of its keys in the tree that stands finds the only
 -- candidate, and the tree is that node exactly if layer, entries and the plans of the gaps agree.
-use Rattle.std.proofs.Common.{◌≡◌, ℕ, ◌+◌, Bool, true, inl, inr, Less, Equal, Greater, List, ◌∷◌, refl, sym, ◌∙◌, ap, subst}
-use Rattle.std.specs.Prelude.{if◌then◌else◌, Contains}
-use Rattle.std.specs.List.{AllByRecursion}
+use Rattle.mst_batch.proofs.Names.{◌≡◌, ℕ, ◌+◌, Bool, true, inl, inr, Less, Equal, Greater, List, ◌∷◌, refl, sym, ◌∙◌, ap, subst, if◌then◌else◌, Contains, AllByRecursion, Contains-append_left, Contains-append_right, Contains-append_cases, Pair, IsAscending, key_cmp, Format, alls-front, alls-back, equal_from_same, IsAscending-below, contains-cases, contains-nothing, contains-first, contains-later, is_subtree, Entries, pairs, entries_pairs, IsMst, IsMstEntries, Content, Placed, none, head, Chain, end, cell, tree_of, entries_of, link_of, rows_of, HasRows, one_placed, HasEntry, rest_rises, child_rises, placed_nodes, chain_nodes, link_among, node_at, plan_beside, entries_beside, link_of_key, chain_link, kept_entries, Matches, kept, made, last, entry, entries_planned}
 use Rattle.std.proofs.lemmas.Bool.{false_from_ne_true}
-use Rattle.std.proofs.lemmas.List.Elements.{Contains-append_left, Contains-append_right, Contains-append_cases}
-use Rattle.mst_key.specs.Map.{Pair, IsAscending, key_cmp}
-use Rattle.mst_key.specs.declared.format.Format.{Format}
-use Rattle.mst_key.proofs.Alls.{alls-front, alls-back}
-use Rattle.mst_key.proofs.KeyOrder.{equal_from_same, greater_from_less}
-use Rattle.mst_key.proofs.Splits.{IsAscending-below, IsAscending-above}
-use Rattle.mst_key.proofs.SpanLaws.{contains-cases, contains-nothing, contains-first, contains-later}
-use Rattle.mst_node.specs.Cost.{is_subtree}
+use Rattle.mst_key.proofs.KeyOrder.{greater_from_less}
+use Rattle.mst_key.proofs.Splits.{IsAscending-above}
 use Rattle.mst_node.specs.Tree as tree
-use Rattle.mst_node.specs.Tree.{Entries, pairs, entries_pairs, IsMst, IsMstEntries}
 use Rattle.mst_node.proofs.InTrees.{is_old}
-use Rattle.mst_arena.specs.Content.{Content}
-use Rattle.mst_arena.specs.Standing.{Placed, none, head, Chain, end, cell, tree_of, entries_of, link_of, rows_of, HasRows}
-use Rattle.mst_arena.proofs.Stands.{one_placed}
-use Rattle.mst_change.specs.Batch.{HasEntry}
 use Rattle.mst_change.proofs.Choices.{chosen}
 use Rattle.mst_change.proofs.Cost.Home.{HasKey, TopKey, key_holds, top_key_holds, some_key}
-use Rattle.mst_change.proofs.Split.Trees.{rest_rises, child_rises}
-use Rattle.mst_arena.specs.Ages.{placed_nodes, chain_nodes}
 use Rattle.mst_path.proofs.lemmas.versions.NodeSums.{node_in}
-use Rattle.mst_batch.specs.Beside.{link_among, node_at, plan_beside, entries_beside, link_of_key, chain_link, kept_entries, Matches}
-use Rattle.mst_batch.specs.Plans.{kept, made, last, entry, entries_planned}
 use Rattle.mst_batch.proofs.Besides.{node_rows, node_found, nothing_at, found, entries_is}
 
 own_node : (p : Placed) (row layer : ℕ) (chain : Chain) → p ≡ head row layer chain

@@ -1,23 +1,10 @@
 -- The link of the node that has a key, by a search that goes down from node to node.
-use Rattle.std.proofs.Common.{◌≡◌, ℕ, ◌<◌, ◌+◌, List, Option, Some, None, refl, sym, ◌∙◌, ap, subst}
-use Rattle.std.specs.declared.cmp.Ordering.{Ordering}
+use Rattle.mst_batch.proofs.Names.{◌≡◌, ℕ, ◌<◌, ◌+◌, List, Option, Some, None, refl, sym, ◌∙◌, ap, subst, Ordering, Format, Pair, key_cmp, by_order, IsMst, IsMstEntries, IsUnder, Content, Placed, none, head, Chain, end, cell, tree_of, entries_of, link_of, rows_of, chain_rows, HasRows, Stands, HeadLinks, Root, all-front, all-back, mst_of, Lies, LiesBehind, TreeLies, head_of, chain_links, lies_still, behind_still, depth, link_of_key, chain_link}
 use Rattle.std.specs.declared.cmp.Ordering.TheVariants.{Less, Equal, Greater}
-use Rattle.mst_key.specs.declared.format.Format.{Format}
-use Rattle.mst_key.specs.Map.{Pair, key_cmp}
-use Rattle.mst_node.specs.Trail.{by_order}
-use Rattle.mst_node.specs.Tree.{IsMst, IsMstEntries, IsUnder}
-use Rattle.mst_arena.specs.Content.{Content}
-use Rattle.mst_arena.specs.Standing.{Placed, none, head, Chain, end, cell, tree_of, entries_of, link_of, rows_of, chain_rows, HasRows, Stands}
-use Rattle.mst_arena.specs.declared.row.HeadLinks.{HeadLinks}
-use Rattle.mst_arena.specs.declared.row.Root.{Root}
-use Rattle.mst_arena.proofs.Stands.{all-front, all-back}
-use Rattle.mst_path.proofs.lemmas.versions.Changes.{mst_of}
-use Rattle.mst_read.specs.Search.{Lies, LiesBehind, TreeLies, ChainLies, head_of, chain_links, place}
+use Rattle.mst_read.specs.Search.{ChainLies, place}
 use Rattle.mst_read.specs.declared.lookup.RowPlace.{RowPlace}
 use Rattle.mst_read.specs.declared.lookup.RowPlace.TheVariants.{Found, Gap}
-use Rattle.mst_read.proofs.Still.{lies_still, behind_still}
-use Rattle.mst_read.proofs.Descend.{depth, falls, lies_at}
-use Rattle.mst_batch.specs.Beside.{link_of_key, chain_link}
+use Rattle.mst_read.proofs.Descend.{falls, lies_at}
 use Rattle.mst_batch.proofs.Heads.{with_head}
 
 -- a search tree lies at the link, its head was read, and the key's link in it is the answer

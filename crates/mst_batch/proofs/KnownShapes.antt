@@ -1,29 +1,9 @@
 -- The rows that a plan names, one level at a time.
-use Rattle.std.proofs.Common.{◌≡◌, ℕ, zero, suc, ◌<◌, Some, None, List, [], ◌∷◌, ◌++◌, length, map, get_or, refl, sym, ◌∙◌, ap, subst, arith, rules, append_assoc}
-use Rattle.std.specs.Prelude.{option_and_then}
-use Rattle.std.specs.List.{AllByRecursion}
+use Rattle.mst_batch.proofs.Names.{◌≡◌, ℕ, zero, suc, ◌<◌, Some, None, List, [], ◌∷◌, ◌++◌, length, map, get_or, refl, sym, ◌∙◌, ap, subst, arith, rules, append_assoc, option_and_then, AllByRecursion, append-nil, map-append, same_Some, Pair, Format, alls-front, alls-back, alls-append, Content, part_at, entry_pair, entry_value, keyed_links, KeyedLinks, Placed, rows_of, HasRows, Row, Entry, Head, IsTold, IsEntryOf, Known, own_known, all_known, known_of, known_of_node, known_of_entry, AreKnown, IsThere, AreThere, PlannedEntry, planned_entry, Origin, Kept, Changed, PlanNode, out-PlanNode, PlanEntry, out-PlanEntry, the_lemmas, fold_out-PlanNode, fold_out-PlanEntry}
 use Rattle.std.specs.declared.option.Option.{Option}
-use Rattle.std.proofs.lemmas.List.{append-nil, map-append}
-use Rattle.std.proofs.lemmas.Option.{same_Some}
-use Rattle.mst_key.specs.Map.{Pair}
-use Rattle.mst_key.specs.declared.format.Format.{Format}
-use Rattle.mst_key.proofs.Alls.{alls-front, alls-back, alls-append}
-use Rattle.mst_arena.specs.Content.{Content, part_at}
-use Rattle.mst_arena.specs.Row.{entry_pair, entry_value, keyed_links}
-use Rattle.mst_arena.specs.declared.row.KeyedLinks.{KeyedLinks}
-use Rattle.mst_arena.specs.Standing.{Placed, rows_of, HasRows}
-use Rattle.mst_arena.specs.declared.row.Row.{Row}
-use Rattle.mst_arena.specs.declared.row.Row.TheVariants.{Entry, Head}
-use Rattle.mst_batch.specs.Items.{IsTold}
-use Rattle.mst_batch.specs.Known.{IsEntryOf, Known, own_known, all_known, entry_known_step, node_known_step, known_of, known_of_node, known_of_entry, AreKnown, IsThere, AreThere}
-use Rattle.mst_batch.specs.Plans.{PlannedEntry, planned_entry}
+use Rattle.mst_batch.specs.Known.{entry_known_step, node_known_step}
 use Rattle.mst_batch.proofs.PlanShapes.{planned_entry_out}
-use Rattle.mst_batch.specs.declared.plan.Origin.{Origin}
-use Rattle.mst_batch.specs.declared.plan.Origin.TheVariants.{Unknown, Kept, Changed}
-use Rattle.mst_batch.specs.declared.plan.PlanNode.{PlanNode, out-PlanNode}
-use Rattle.mst_batch.specs.declared.plan.PlanEntry.{PlanEntry, out-PlanEntry}
-use Rattle.mst_batch.specs.declared.plan.PlanEntry.TheViews.{the_lemmas}
-use Rattle.mst_batch.specs.declared.plan.PlanEntry.TheFolds.{fold_out-PlanNode, fold_out-PlanEntry}
+use Rattle.mst_batch.specs.declared.plan.Origin.TheVariants.{Unknown}
 
 -- ---- a plan from its fields
 

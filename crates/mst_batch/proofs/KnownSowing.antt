@@ -1,18 +1,5 @@
 -- The tree that stood stands on while a plan is carried out.
-use Rattle.std.proofs.Common.{ℕ, List, [], refl}
-use Rattle.mst_key.specs.declared.format.Format.{Format}
-use Rattle.mst_node.specs.Tree.{Tree}
-use Rattle.mst_arena.specs.Content.{Content}
-use Rattle.mst_arena.specs.Lives.{State}
-use Rattle.mst_arena.specs.declared.row.Root.{Root}
-use Rattle.mst_arena.specs.Standing.{Placed}
-use Rattle.mst_path.specs.Runs.{OldPiece}
-use Rattle.mst_path.specs.declared.node_writer.NodeWriter.{NodeWriter}
-use Rattle.mst_path.proofs.lemmas.rows.Moving.{alive_out}
-use Rattle.mst_path.proofs.lemmas.steps.Untouched.{old_piece_later}
-use Rattle.mst_batch.specs.Known.{Known, AreKnown, HasKnown}
-use Rattle.mst_batch.specs.Plans.{PlannedEntry}
-use Rattle.mst_batch.specs.Sowing.{Sown}
+use Rattle.mst_batch.proofs.Names.{ℕ, List, [], refl, Format, Tree, Content, State, Root, Placed, OldPiece, NodeWriter, alive_out, old_piece_later, Known, AreKnown, HasKnown, PlannedEntry, Sown}
 use Rattle.mst_batch.proofs.Sowings.{SownSoFar}
 
 -- beside the entries of a node that are written so far

@@ -1,11 +1,5 @@
 -- The greatest link of a plan is one that it keeps.
-use Rattle.std.proofs.Common.{◌≡◌, ℕ, suc, zero, ◌+◌, ◌-◌, ◌<◌, max, List, [], ◌++◌, length, map, take, get_or, ◌⊎◌, inl, inr, refl, sym, ◌∙◌, ap, subst, arith}
-use Rattle.mst_arena.specs.Lists.{times, In}
-use Rattle.mst_arena.proofs.ListLemmas.{times-append}
-use Rattle.mst_batch.specs.declared.plan.PlanNode.{PlanNode}
-use Rattle.mst_batch.specs.declared.plan.PlanEntry.{PlanEntry, out-PlanEntry}
-use Rattle.mst_batch.specs.Beside.{links_kept}
-use Rattle.mst_batch.specs.Plans.{PlannedEntry, planned_entry, plan_of, plan_of_node}
+use Rattle.mst_batch.proofs.Names.{◌≡◌, ℕ, suc, zero, ◌+◌, ◌-◌, ◌<◌, max, List, [], ◌++◌, length, map, take, get_or, ◌⊎◌, inl, inr, refl, sym, ◌∙◌, ap, subst, arith, times, In, times-append, PlanNode, PlanEntry, out-PlanEntry, links_kept, PlannedEntry, planned_entry, plan_of, plan_of_node}
 use Rattle.mst_batch.proofs.Marks.{list_links, list_links-append, links_with}
 use Rattle.mst_batch.proofs.PlanShapes.{items, tail, plan_out, entries_more, take_all}
 

@@ -32,3 +32,4 @@ pub mod KnownSowing
 pub mod Loads
 pub mod Updates
 pub mod UpdateSteps
+pub mod Names

@@ -1,39 +1,13 @@
 -- A batch in the empty map: its tree is planted whole.
-use Rattle.std.proofs.Common.{◌≡◌, ℕ, ◌+◌, ◌<◌, List, [], ◌∷◌, Some, length, length-append, refl, sym, ◌∙◌, ap, subst, arith, inr}
-use Rattle.std.specs.List.{AllByRecursion}
-use Rattle.mst_key.specs.History.{batched, IsSmall}
-use Rattle.mst_key.specs.Map.{Pair, IsMap}
-use Rattle.mst_key.specs.declared.format.Format.{Format}
-use Rattle.mst_key.specs.declared.history.Edit.{Edit}
-use Rattle.mst_key.proofs.HistoryLaws.{IsMap-batched}
-use Rattle.mst_key.proofs.MapLaws.{IsMap-nil}
-use Rattle.mst_node.specs.Cost.{cost, new_rows}
-use Rattle.mst_node.specs.Text.{digest}
-use Rattle.mst_node.specs.Tree.{Tree, empty, node, Entries, last, entry, entry_count, pairs, entries_pairs, tree}
-use Rattle.mst_node.proofs.TreeEquation.{tree-no_pairs}
-use Rattle.mst_node.proofs.UniqueTree.{pairs_tree}
-use Rattle.mst_arena.specs.Content.{Content}
-use Rattle.mst_arena.specs.Lists.{In, times}
-use Rattle.mst_arena.specs.Lives.{State, version, free_count}
-use Rattle.mst_arena.specs.Standing.{Placed, none, head, Chain, end, cell, tree_of, used, chain_used, Stands, numbers}
-use Rattle.mst_arena.specs.declared.life.Life.TheVariants.{Born}
-use Rattle.mst_arena.specs.declared.row.Root.{Root}
-use Rattle.mst_arena.proofs.ListLemmas.{times-append}
-use Rattle.mst_change.specs.Batch.{rows_beside, entries_beside}
-use Rattle.mst_change.proofs.Batch.{beside_cost}
-use Rattle.mst_change.proofs.Formats.{stays}
-use Rattle.mst_path.specs.Changing.{MapStands}
+use Rattle.mst_batch.proofs.Names.{◌≡◌, ℕ, ◌+◌, ◌<◌, List, [], ◌∷◌, Some, length, length-append, refl, sym, ◌∙◌, ap, subst, arith, inr, AllByRecursion, batched, IsSmall, Pair, Format, Edit, IsMap-batched, IsMap-nil, cost, new_rows, digest, Tree, Entries, entry_count, pairs, entries_pairs, tree, tree-no_pairs, pairs_tree, Content, In, times, State, version, free_count, Placed, none, head, Chain, end, cell, tree_of, used, chain_used, Stands, numbers, Born, Root, times-append, rows_beside, beside_cost, stays, MapStands, IsNew, Moves, Takes, KeepsBut, at_self, moves_takes, AfterChange, after_change, unchanged_map, LacksBatch, LacksPairs}
+use Rattle.mst_key.specs.Map.{IsMap}
+use Rattle.mst_node.specs.Tree.{empty, node, last, entry}
+use Rattle.mst_change.specs.Batch.{entries_beside}
 use Rattle.mst_path.specs.Made.{IsMade, IsMadeChain}
-use Rattle.mst_path.specs.Moves.{IsNew, Moves}
 use Rattle.mst_path.specs.Planting.{node_count, entries_node_count}
-use Rattle.mst_path.specs.Takes.{Takes, KeepsBut}
-use Rattle.mst_path.proofs.lemmas.rows.CopyRows.{at_self}
-use Rattle.mst_path.proofs.lemmas.rows.Moving.{moves_takes}
 use Rattle.mst_path.proofs.lemmas.trees.Joined.{placed_none}
-use Rattle.mst_path.specs.AfterChange.{AfterChange}
-use Rattle.mst_path.proofs.lemmas.versions.Changes.{Changed, after_change, unchanged_map}
+use Rattle.mst_path.proofs.lemmas.versions.Changes.{Changed}
 use Rattle.mst_path.proofs.lemmas.versions.Versions.{rows_of_map}
-use Rattle.mst_batch.specs.Applying.{LacksBatch, LacksPairs}
 use Rattle.mst_batch.specs.declared.faults.BatchRefusal.{BatchRefusal}
 use Rattle.mst_batch.specs.declared.faults.BatchRefusal.TheVariants.{Memory, NoRoom}
 

@@ -1,13 +1,5 @@
 -- Marks that are added at the links of a plan, gap by gap.
-use Rattle.std.proofs.Common.{◌≡◌, ℕ, ◌+◌, ◌<◌, List, [], ◌∷◌, ◌++◌, length, map, take, get_or, Bool, inl, inr, refl, sym, ◌∙◌, ap, subst, arith, append_assoc}
-use Rattle.mst_arena.specs.Lists.{In}
-use Rattle.mst_arena.proofs.ListLemmas.{times-append}
-use Rattle.mst_arena.proofs.ListLemmas.{in_either}
-use Rattle.mst_batch.specs.declared.plan.PlanNode.{PlanNode}
-use Rattle.mst_batch.specs.declared.plan.PlanEntry.{PlanEntry, out-PlanEntry}
-use Rattle.mst_batch.specs.Beside.{links_kept, entries_links}
-use Rattle.mst_batch.specs.Kept.{AddsMarks}
-use Rattle.mst_batch.specs.Plans.{PlanTree, PlannedEntry, last, with_planned, planned_entry, plan_of, plan_of_node}
+use Rattle.mst_batch.proofs.Names.{◌≡◌, ℕ, ◌+◌, ◌<◌, List, [], ◌∷◌, ◌++◌, length, map, take, get_or, Bool, inl, inr, refl, sym, ◌∙◌, ap, subst, arith, append_assoc, In, times-append, in_either, PlanNode, PlanEntry, out-PlanEntry, links_kept, entries_links, AddsMarks, PlanTree, PlannedEntry, last, with_planned, planned_entry, plan_of, plan_of_node}
 use Rattle.mst_batch.proofs.PlanShapes.{items, tail, plan_out, entries_more, take_all}
 
 -- the links that entries keep in the gaps before them

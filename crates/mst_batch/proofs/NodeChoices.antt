@@ -1,32 +1,11 @@
 -- Whether a node is made: the node that stands at the link of its first key decides.
-use Rattle.std.proofs.Common.{◌≡◌, ℕ, zero, suc, ◌+◌, ◌<◌, Bool, true, false, ◌⊎◌, inl, inr, List, [], ◌∷◌, length, map, get_or, refl, sym, ◌∙◌, ap, subst, arith, true≢false}
-use Rattle.std.specs.Prelude.{◌↔◌, Contains}
-use Rattle.std.specs.declared.cmp.Ordering.{Ordering}
+use Rattle.mst_batch.proofs.Names.{◌≡◌, ℕ, zero, suc, ◌+◌, ◌<◌, Bool, true, false, ◌⊎◌, inl, inr, List, [], ◌∷◌, length, map, get_or, refl, sym, ◌∙◌, ap, subst, arith, true≢false, ◌↔◌, Contains, Ordering, length-map, Contains-append_left, Contains-append_right, Format, Pair, key_cmp, contains-first, contains-later, by_order, Entries, entry_count, IsMst, Content, Placed, none, head, Chain, end, cell, link_of, rows_of, HasRows, Stands, Root, one_placed, HasEntry, placed_nodes, chain_nodes, Lies, TreeLies, plan_beside, entries_beside, link_of_key, chain_link, kept_entries, kept_node, Matches, PlanTree, PlannedEntry, with_planned, kept, made, last, plan_of, plan_of_node, planned_entry, PlanEntry, out-PlanEntry, PlanNode, out-PlanNode, rises}
 use Rattle.std.specs.declared.cmp.Ordering.TheVariants.{Less, Equal, Greater}
-use Rattle.std.proofs.lemmas.List.{length-map}
-use Rattle.std.proofs.lemmas.List.Elements.{Contains-append_left, Contains-append_right}
-use Rattle.mst_key.specs.declared.format.Format.{Format}
-use Rattle.mst_key.specs.Map.{Pair, key_cmp}
-use Rattle.mst_key.proofs.SpanLaws.{contains-first, contains-later}
-use Rattle.mst_node.specs.Trail.{by_order}
 use Rattle.mst_node.specs.Tree as tree
-use Rattle.mst_node.specs.Tree.{Entries, entry_count, IsMst}
-use Rattle.mst_arena.specs.Content.{Content}
-use Rattle.mst_arena.specs.Standing.{Placed, none, head, Chain, end, cell, link_of, rows_of, HasRows, Stands}
-use Rattle.mst_arena.specs.declared.row.Root.{Root}
-use Rattle.mst_arena.proofs.Stands.{one_placed}
-use Rattle.mst_change.specs.Batch.{HasEntry}
-use Rattle.mst_arena.specs.Ages.{placed_nodes, chain_nodes}
-use Rattle.mst_read.specs.Search.{Lies, TreeLies}
-use Rattle.mst_batch.specs.Beside.{plan_beside, entries_beside, link_of_key, chain_link, kept_entries, kept_node, Matches}
-use Rattle.mst_batch.specs.Plans.{PlanTree, PlannedEntry, with_planned, kept, made, last, plan_of, plan_of_node, planned_entry}
-use Rattle.mst_batch.specs.declared.plan.PlanEntry.{PlanEntry, out-PlanEntry}
-use Rattle.mst_batch.specs.declared.plan.PlanNode.{PlanNode, out-PlanNode}
 use Rattle.mst_batch.proofs.Besides.{node_rows}
 use Rattle.mst_batch.proofs.Homes.{key_of_entry, match_kept, other_made}
 use Rattle.mst_batch.proofs.PlanShapes.{plan_out, planned_entry_out, items, tail}
 use Rattle.mst_batch.proofs.SameNodes.{plan_count, count_made}
-use Rattle.mst_path.proofs.lemmas.versions.Changes.{rises}
 
 -- ---- the first entry
 

@@ -1,19 +1,6 @@
 -- A node that stands, made into items by a walk along its entries.
-use Rattle.std.proofs.Common.{◌≡◌, ℕ, ◌+◌, ◌-◌, ◌<◌, List, [], ◌∷◌, ◌++◌, Some, sym, ◌∙◌, ap, subst, arith, append_assoc}
-use Rattle.std.specs.Prelude.{option_and_then, if◌then◌else◌, ◌==◌, true, Bool}
-use Rattle.std.proofs.lemmas.Bool.Decides.{nat_tests}
-use Rattle.mst_key.specs.declared.format.Format.{Format}
-use Rattle.mst_arena.specs.Content.{Content, part_at}
-use Rattle.mst_arena.specs.Row.{head_links}
-use Rattle.mst_arena.specs.declared.row.HeadLinks.{HeadLinks}
-use Rattle.mst_arena.specs.declared.row.KeyedLinks.{KeyedLinks}
-use Rattle.mst_arena.specs.Standing.{Placed, none, head, Chain, link_of, head_row, rows_of, HasRows}
-use Rattle.mst_read.specs.Search.{Lies, head_of}
-use Rattle.mst_read.proofs.Walk.{Onward, AtCell, further}
-use Rattle.mst_batch.specs.Beside.{node_at}
-use Rattle.mst_batch.specs.Items.{IsItem}
-use Rattle.mst_batch.specs.Tops.{IsStanding, tree_items, chain_items, node_items, opened}
-use Rattle.mst_batch.specs.declared.items.Item.{Item}
+use Rattle.mst_batch.proofs.Names.{◌≡◌, ℕ, ◌+◌, ◌-◌, ◌<◌, List, [], ◌∷◌, ◌++◌, Some, sym, ◌∙◌, ap, subst, arith, append_assoc, option_and_then, if◌then◌else◌, nat_tests, Format, Content, part_at, head_links, HeadLinks, KeyedLinks, Placed, none, head, Chain, link_of, head_row, rows_of, HasRows, Lies, head_of, Onward, AtCell, further, node_at, IsItem, IsStanding, tree_items, chain_items, node_items, opened, Item}
+use Rattle.std.specs.Prelude.{◌==◌, true, Bool}
 use Rattle.mst_batch.specs.declared.items.Item.TheVariants as item
 use Rattle.mst_batch.proofs.Besides.{node_rows}
 use Rattle.mst_batch.proofs.Heads.{with_head}

@@ -1,29 +1,11 @@
 -- Items of which some pair is of a layer and none is above it: their tree is a node of that layer,
 -- with the trees of the gaps between its pairs below it.
-use Rattle.std.proofs.Common.{◌≡◌, ◌≢◌, ℕ, suc, ◌+◌, ◌-◌, ◌<◌, ◌≤◌, false, inl, inr, List, [], ◌∷◌, ◌++◌, length, get_or, take, drop, refl, sym, ◌∙◌, ap, subst, arith, add-one, length-drop}
-use Rattle.std.specs.Prelude.{Contains, slice_range}
-use Rattle.std.specs.List.{AllByRecursion}
+use Rattle.mst_batch.proofs.Names.{◌≡◌, ◌≢◌, ℕ, suc, ◌+◌, ◌-◌, ◌<◌, ◌≤◌, false, inl, inr, List, [], ◌∷◌, ◌++◌, length, get_or, take, drop, refl, sym, ◌∙◌, ap, subst, arith, length-drop, Contains, slice_range, AllByRecursion, nat_tests, common_steps, append-nil, take_more, get_or-drop, take-append-drop, Format, layer_in, Pair, IsAscending, alls-append, alls-front, alls-back, alls-weaker, contains-cases, contains-nothing, IsAscending-back, Entries, tree, pairs, IsMst, Has, tree_some, entries_at_layer, keys_under, gap-lower, tree_mst, Content, Placed, head, tree_of, plan_beside, entries_beside, item_pairs, items_pairs, IsItem, AreItems, layer_of, height_of, IsUpTo, IsPairOf, PlanTree, PlanEntries, last, entry, PlannedEntry, with_planned, IsStanding, is_pair, Item}
+use Rattle.std.proofs.Common.{add-one}
 use Rattle.std.proofs.Math.Seq.{drop-cons}
-use Rattle.std.proofs.lemmas.Bool.Decides.{nat_tests}
-use Rattle.std.proofs.lemmas.Grind.{common_steps}
-use Rattle.std.proofs.lemmas.List.{append-nil, take_more, get_or-drop, take-append-drop}
-use Rattle.mst_key.specs.declared.format.Format.{Format}
-use Rattle.mst_key.specs.Layer.{layer_in}
-use Rattle.mst_key.specs.Map.{Pair, IsAscending}
-use Rattle.mst_key.proofs.Alls.{alls-append, alls-front, alls-back, alls-weaker}
-use Rattle.mst_key.proofs.SpanLaws.{contains-cases, contains-nothing}
-use Rattle.mst_key.proofs.Splits.{IsAscending-front, IsAscending-back}
+use Rattle.mst_key.proofs.Splits.{IsAscending-front}
 use Rattle.mst_node.specs.Tree as tree
-use Rattle.mst_node.specs.Tree.{Entries, tree, pairs, layers, greatest, entries_of, IsMst}
-use Rattle.mst_node.proofs.TreeEquation.{Has, tree_some, entries_at_layer}
-use Rattle.mst_node.proofs.UniqueTree.{keys_under, gap-lower, tree_mst}
-use Rattle.mst_arena.specs.Content.{Content}
-use Rattle.mst_arena.specs.Standing.{Placed, head, tree_of}
-use Rattle.mst_batch.specs.Beside.{plan_beside, entries_beside}
-use Rattle.mst_batch.specs.Items.{item_pairs, items_pairs, IsItem, AreItems, layer_of, height_of, IsUpTo, IsPairOf}
-use Rattle.mst_batch.specs.Plans.{PlanTree, PlanEntries, last, entry, PlannedEntry, with_planned}
-use Rattle.mst_batch.specs.Tops.{IsStanding, is_pair}
-use Rattle.mst_batch.specs.declared.items.Item.{Item}
+use Rattle.mst_node.specs.Tree.{layers, greatest, entries_of}
 use Rattle.mst_batch.specs.declared.items.Item.TheVariants as item
 use Rattle.mst_batch.proofs.Tops.{items_pairs-append, height-append, HasPair, node_mst, node_is}
 

@@ -1,38 +1,11 @@
 -- A node that is opened: its entries one after another, each with the tree before it, and the tree
 -- in its last gap.
-use Rattle.std.proofs.Common.{◌≡◌, ℕ, ◌+◌, ◌-◌, ◌<◌, ◌⊎◌, inl, inr, List, [], ◌∷◌, ◌++◌, Option, Some, IsSome, append_assoc, refl, sym, ◌∙◌, ap, subst, arith}
-use Rattle.std.specs.Prelude.{option_and_then, Contains, Result, Ok, Err, OnOk}
-use Rattle.std.specs.List.{AllByRecursion}
-use Rattle.std.proofs.lemmas.List.Elements.{Contains-append_left, Contains-append_right}
-use Rattle.mst_key.specs.declared.format.Format.{Format}
-use Rattle.mst_key.specs.declared.history.Edit.{Edit}
-use Rattle.mst_key.specs.Edits.{AreAbove, AreRising}
-use Rattle.mst_key.specs.History.{batched}
-use Rattle.mst_key.specs.Layer.{layer_in}
-use Rattle.mst_key.specs.Map.{Pair, IsAscending}
-use Rattle.mst_key.proofs.SpanLaws.{contains-first, contains-later}
-use Rattle.mst_node.specs.Tree.{pairs, entries_pairs, IsMstEntries}
-use Rattle.mst_arena.specs.Content.{Content, part_at}
-use Rattle.mst_arena.specs.Row.{head_links, keyed_links, entry_pair, entry_value}
-use Rattle.mst_arena.specs.declared.row.Row.{Row}
-use Rattle.mst_arena.specs.declared.row.Row.TheVariants.{Entry}
-use Rattle.mst_arena.specs.declared.row.HeadLinks.{HeadLinks}
-use Rattle.mst_arena.specs.declared.row.KeyedLinks.{KeyedLinks}
-use Rattle.mst_arena.specs.Standing.{Placed, none, head, Chain, end, cell, tree_of, entries_of, link_of, first_of, tail_of, count_of, rows_of, chain_rows, HasRows}
-use Rattle.mst_arena.proofs.Stands.{all-front, all-back}
-use Rattle.mst_change.proofs.Split.Trees.{rest_rises}
-use Rattle.mst_arena.specs.Ages.{placed_nodes, chain_nodes}
-use Rattle.mst_path.specs.Joining.{height_at}
-use Rattle.mst_batch.specs.Items.{items_pairs, IsItem}
-use Rattle.mst_batch.specs.Known.{IsEntryOf}
-use Rattle.mst_batch.specs.Opening.{PartOf, Adds, AreBelow, AreOf}
-use Rattle.mst_batch.specs.declared.items.Item.{Item}
+use Rattle.mst_batch.proofs.Names.{◌≡◌, ℕ, ◌+◌, ◌-◌, ◌<◌, ◌⊎◌, inl, inr, List, [], ◌∷◌, ◌++◌, Option, Some, IsSome, append_assoc, refl, sym, ◌∙◌, ap, subst, arith, option_and_then, Contains, Result, Ok, Err, AllByRecursion, Contains-append_left, Contains-append_right, Format, Edit, AreAbove, AreRising, batched, layer_in, Pair, IsAscending, contains-first, contains-later, pairs, entries_pairs, IsMstEntries, Content, part_at, head_links, keyed_links, entry_pair, entry_value, Row, Entry, HeadLinks, KeyedLinks, Placed, none, head, Chain, end, cell, tree_of, entries_of, link_of, first_of, tail_of, count_of, rows_of, chain_rows, HasRows, all-front, all-back, rest_rises, placed_nodes, chain_nodes, height_at, items_pairs, IsItem, IsEntryOf, PartOf, Adds, AreBelow, AreOf, Item, lower, rising-back}
+use Rattle.std.specs.Prelude.{OnOk}
 use Rattle.mst_batch.proofs.BatchParts.{batched_at}
-use Rattle.mst_path.proofs.lemmas.steps.Felling.{lower}
 use Rattle.mst_batch.proofs.Besides.{node_rows}
 use Rattle.mst_batch.proofs.Homes.{node_below}
 use Rattle.mst_batch.proofs.Openings.{adds_none, adds_then, adds_as, node_rises, IsNode, node, links, layer_is}
-use Rattle.mst_edits.proofs.Rising.{rising-back}
 use Rattle.mst_batch.proofs.Tops.{node_mst}
 
 -- What is left of a node after so many entries: the rest of the chain and of the edits. Its pairs

@@ -1,40 +1,11 @@
 -- Items added to a list, of an edit, of an entry and of a tree that stands; and the node at a link,
 -- which is to be opened.
-use Rattle.std.proofs.Common.{◌≡◌, ℕ, ◌+◌, ◌-◌, ◌<◌, ◌≤◌, ◌⊎◌, inl, inr, List, [], ◌∷◌, ◌++◌, length, get_or, Bor, Option, Some, IsSome, append_assoc, refl, sym, ◌∙◌, ap, subst, arith}
-use Rattle.std.specs.Prelude.{option_and_then, Contains}
-use Rattle.std.specs.List.{AllByRecursion}
-use Rattle.std.proofs.lemmas.List.{append-nil}
-use Rattle.std.proofs.lemmas.List.Elements.{Contains-append_cases}
-use Rattle.mst_key.specs.declared.format.Format.{Format}
-use Rattle.mst_key.specs.declared.history.Edit.{Edit}
+use Rattle.mst_batch.proofs.Names.{◌≡◌, ℕ, ◌+◌, ◌-◌, ◌<◌, ◌≤◌, ◌⊎◌, inl, inr, List, [], ◌∷◌, ◌++◌, length, get_or, Bor, Option, Some, IsSome, append_assoc, refl, sym, ◌∙◌, ap, subst, arith, option_and_then, Contains, AllByRecursion, append-nil, Contains-append_cases, Format, Edit, AreRising, batched, key_of, layer_in, Pair, IsAscending, alls-append, contains-cases, contains-nothing, pairs, entries_pairs, Content, part_at, head_links, Row, HeadLinks, Placed, none, head, Chain, end, cell, tree_of, entries_of, link_of, first_of, tail_of, count_of, head_row, rows_of, HasRows, rest_rises, child_rises, placed_nodes, chain_nodes, Lies, item_pairs, items_pairs, pair_among, IsItem, IsTold, IsEntryOf, listed, put_of, PartOf, Adds, AreOf, IsStanding, tree_items, Item, Origin, rest_of, first_and_rest, none_left}
 use Rattle.mst_key.specs.declared.history.Edit.TheVariants as edit
-use Rattle.mst_key.specs.Edits.{AreRising}
-use Rattle.mst_key.specs.History.{batched, key_of}
-use Rattle.mst_key.specs.Layer.{layer_in}
-use Rattle.mst_key.specs.Map.{Pair, IsAscending}
-use Rattle.mst_key.proofs.Alls.{alls-append}
-use Rattle.mst_key.proofs.SpanLaws.{contains-cases, contains-nothing}
-use Rattle.mst_node.specs.Tree.{pairs, entries_pairs}
-use Rattle.mst_arena.specs.Content.{Content, part_at}
-use Rattle.mst_arena.specs.Row.{head_links}
-use Rattle.mst_arena.specs.declared.row.Row.{Row}
-use Rattle.mst_arena.specs.declared.row.HeadLinks.{HeadLinks}
-use Rattle.mst_arena.specs.Standing.{Placed, none, head, Chain, end, cell, tree_of, entries_of, link_of, first_of, tail_of, count_of, head_row, rows_of, HasRows}
-use Rattle.mst_change.proofs.Split.Trees.{rest_rises, child_rises}
-use Rattle.mst_arena.specs.Ages.{placed_nodes, chain_nodes}
-use Rattle.mst_read.specs.Search.{Lies}
-use Rattle.mst_batch.specs.Items.{item_pairs, items_pairs, pair_among, IsItem, IsTold}
-use Rattle.mst_batch.specs.Known.{IsEntryOf}
-use Rattle.mst_edits.specs.Listed.{listed, put_of}
-use Rattle.mst_batch.specs.Opening.{PartOf, Adds, AreOf}
-use Rattle.mst_batch.specs.Tops.{IsStanding, tree_items}
-use Rattle.mst_batch.specs.declared.items.Item.{Item}
 use Rattle.mst_batch.specs.declared.items.Item.TheVariants as item
-use Rattle.mst_batch.specs.declared.plan.Origin.{Origin}
 use Rattle.mst_batch.proofs.BatchParts.{edited_own, one_of_key}
 use Rattle.mst_batch.proofs.Besides.{node_rows}
 use Rattle.mst_batch.proofs.Homes.{node_below}
-use Rattle.mst_edits.proofs.Parts.{rest_of, first_and_rest, none_left}
 use Rattle.mst_batch.proofs.Tops.{items_pairs-append, tree_pairs, tree_each}
 
 -- ---- lists of items

@@ -1,20 +1,7 @@
 -- The pair that a row has wherever a tree stands is found among the rows of the tree.
-use Rattle.std.proofs.Common.{◌≡◌, ℕ, eqb, Bool, IsSome, true, false, Option, Some, None, List, [], ◌∷◌, refl, sym, ◌∙◌, ap, subst}
-use Rattle.std.specs.Prelude.{if◌then◌else◌, option_and_then}
-use Rattle.std.specs.Option.{option_map_or}
-use Rattle.std.proofs.lemmas.Bool.{eq-eqb, eqb-true}
-use Rattle.std.proofs.lemmas.Option.{same_Some}
-use Rattle.mst_key.specs.Map.{Pair}
-use Rattle.mst_key.specs.declared.format.Format.{Format}
-use Rattle.mst_arena.specs.Content.{Content, part_at}
-use Rattle.mst_arena.specs.Row.{entry_pair, keyed_links}
-use Rattle.mst_arena.specs.declared.row.Row.{Row}
-use Rattle.mst_arena.specs.declared.row.Row.TheVariants.{Entry, Head}
-use Rattle.mst_arena.specs.Standing.{Placed, rows_of, HasRows}
-use Rattle.mst_batch.specs.Items.{row_among, pair_in, pair_among, IsItem}
-use Rattle.mst_batch.specs.declared.items.Item.{Item}
+use Rattle.mst_batch.proofs.Names.{◌≡◌, ℕ, eqb, Bool, IsSome, true, false, Option, Some, None, List, [], ◌∷◌, refl, sym, ◌∙◌, ap, subst, if◌then◌else◌, option_and_then, option_map_or, eq-eqb, eqb-true, same_Some, Pair, Format, Content, part_at, entry_pair, keyed_links, Row, Entry, Head, Placed, rows_of, HasRows, pair_among, IsItem, Item, IsEntryOf}
+use Rattle.mst_batch.specs.Items.{row_among, pair_in}
 use Rattle.mst_batch.specs.declared.items.Item.TheVariants as item
-use Rattle.mst_batch.specs.Known.{IsEntryOf}
 
 -- a content without one row
 abbrev but : ℕ → Content → Content

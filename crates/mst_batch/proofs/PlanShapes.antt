@@ -1,25 +1,10 @@
 -- A plan of the program, one level at a time: its entries, its rows, and the trees that it keeps.
-use Rattle.std.proofs.Common.{◌≡◌, ℕ, zero, suc, ◌+◌, ◌<◌, ◌≤◌, List, [], ◌∷◌, ◌++◌, length, map, take, get_or, refl, sym, ◌∙◌, ap, subst, arith, rules, inl, inr}
+use Rattle.mst_batch.proofs.Names.{◌≡◌, ℕ, zero, suc, ◌+◌, ◌<◌, ◌≤◌, List, [], ◌∷◌, ◌++◌, length, map, take, get_or, refl, sym, ◌∙◌, ap, subst, arith, rules, inl, inr, length-map, Format, Entries, entry_count, IsMst, IsMstEntries, TreeEntry, with_entries, Content, State, In, times, Placed, link_of, times-append, IsOld, OldPiece, in_either, PlanNode, out-PlanNode, PlanEntry, out-PlanEntry, the_lemmas, fold_out-PlanNode, fold_out-PlanEntry, PlanTree, PlanEntries, kept, made, last, entry, PlannedEntry, with_planned, plan_of_node, planned_entry, plan_of, tree_planned, entries_planned, rows_planned, entries_rows, rows_kept, entries_kept, EachKept, EachKeptBelow, IsPlan}
 use Rattle.std.proofs.Math.Seq.{take-length}
-use Rattle.std.proofs.lemmas.List.{length-map, map_more}
-use Rattle.mst_key.specs.declared.format.Format.{Format}
+use Rattle.std.proofs.lemmas.List.{map_more}
 use Rattle.mst_node.specs.Tree as tree
-use Rattle.mst_node.specs.Tree.{Entries, entry_count, IsMst, IsMstEntries}
-use Rattle.mst_node.specs.Shape.{TreeEntry, with_entries}
-use Rattle.mst_arena.specs.Content.{Content}
-use Rattle.mst_arena.specs.Lives.{State}
-use Rattle.mst_arena.specs.Lists.{In, times}
-use Rattle.mst_arena.specs.Standing.{Placed, link_of}
-use Rattle.mst_arena.proofs.ListLemmas.{times-append}
-use Rattle.mst_path.specs.Moves.{IsOld}
-use Rattle.mst_path.specs.Runs.{OldPiece}
-use Rattle.mst_arena.proofs.ListLemmas.{in_either}
 use Rattle.mst_path.proofs.lemmas.trees.Nodes.{layer_of_entries}
-use Rattle.mst_batch.specs.declared.plan.PlanNode.{PlanNode, out-PlanNode}
-use Rattle.mst_batch.specs.declared.plan.PlanEntry.{PlanEntry, out-PlanEntry}
-use Rattle.mst_batch.specs.declared.plan.PlanEntry.TheViews.{the_lemmas}
-use Rattle.mst_batch.specs.declared.plan.PlanEntry.TheFolds.{fold_out-PlanNode, fold_out-PlanEntry}
-use Rattle.mst_batch.specs.Plans.{PlanTree, PlanEntries, kept, made, last, entry, PlannedEntry, with_planned, entry_step, node_step, plan_of_node, planned_entry, plan_of, tree_planned, entries_planned, rows_planned, entries_rows, rows_kept, entries_kept, EachKept, EachKeptBelow, IsPlan}
+use Rattle.mst_batch.specs.Plans.{entry_step, node_step}
 
 -- ---- a plan from its fields
 

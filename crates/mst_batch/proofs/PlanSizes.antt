@@ -1,8 +1,6 @@
 -- A plan below a node is smaller than the node, so what recurses along plans ends.
-use Rattle.std.proofs.Common.{◌≡◌, ◌<◌, ◌≤◌, ℕ, length, get_or, sym, subst, arith}
+use Rattle.mst_batch.proofs.Names.{◌≡◌, ◌<◌, ◌≤◌, ℕ, length, get_or, sym, subst, arith, PlanNode, out-PlanNode, PlanEntry, out-PlanEntry}
 use denote.Param.Weighed.{most, at_most}
-use Rattle.mst_batch.specs.declared.plan.PlanNode.{PlanNode, out-PlanNode}
-use Rattle.mst_batch.specs.declared.plan.PlanEntry.{PlanEntry, out-PlanEntry}
 use Rattle.mst_batch.specs.declared.plan.PlanEntry.TheViews.{size-PlanNode, size-PlanEntry, size_is-PlanNode, size_is-PlanEntry, weight-PlanEntry-child}
 use Rattle.mst_batch.proofs.PlanShapes.{items}
 

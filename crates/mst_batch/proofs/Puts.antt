@@ -1,15 +1,5 @@
 -- Edits that are made where there is no pair, one after another.
-use Rattle.std.proofs.Common.{◌≡◌, ℕ, ◌+◌, ◌<◌, ◌≤◌, List, [], ◌∷◌, ◌++◌, length, drop, get_or, Bor, sym, ap, ◌∙◌, subst}
-use Rattle.std.proofs.lemmas.List.{append-nil, drop_more, at_drop_all}
-use Rattle.mst_key.specs.declared.format.Format.{Format}
-use Rattle.mst_key.specs.declared.history.Edit.{Edit}
-use Rattle.mst_key.specs.History.{batched, key_of}
-use Rattle.mst_key.specs.Layer.{layer_in}
-use Rattle.mst_key.specs.Map.{Pair}
-use Rattle.mst_arena.specs.Standing.{Placed}
-use Rattle.mst_edits.specs.Listed.{listed, put_of}
-use Rattle.mst_batch.specs.Opening.{Adds}
-use Rattle.mst_batch.specs.declared.items.Item.{Item}
+use Rattle.mst_batch.proofs.Names.{◌≡◌, ℕ, ◌+◌, ◌<◌, ◌≤◌, List, [], ◌∷◌, ◌++◌, length, drop, get_or, Bor, sym, ap, ◌∙◌, subst, append-nil, drop_more, at_drop_all, Format, Edit, batched, key_of, layer_in, Pair, Placed, listed, put_of, Adds, Item}
 use Rattle.mst_edits.proofs.Joins.{Joins, make_edit}
 use Rattle.mst_batch.proofs.Openings.{adds_then, adds_as}
 

@@ -1,18 +1,13 @@
 -- Where a key lies among edits whose keys rise.
-use Rattle.std.proofs.Common.{◌≡◌, ℕ, zero, suc, ◌+◌, ◌-◌, ◌<◌, ◌≤◌, Bool, true, false, true≢false, List, [], ◌∷◌, ◌++◌, length, take, drop, get_or, Bor, Ordering, Less, Equal, Greater, is_lt, refl, sym, ap, ◌∙◌, subst, arith}
+use Rattle.mst_batch.proofs.Names.{◌≡◌, ℕ, zero, suc, ◌+◌, ◌-◌, ◌<◌, ◌≤◌, Bool, true, false, true≢false, List, [], ◌∷◌, ◌++◌, length, take, drop, get_or, Bor, Less, Equal, Greater, is_lt, refl, sym, ap, ◌∙◌, subst, arith, AllByRecursion, get_or-drop, take-append-drop, take_all, Edit, AreAbove, AreRising, key_of, key_cmp, less_chain, listed, AreBelow, AreOf, rising-back}
+use Rattle.std.proofs.Common.{Ordering}
 use Rattle.std.specs.Ordering.{is_le}
-use Rattle.std.specs.List.{AllByRecursion, slice_range}
+use Rattle.std.specs.List.{slice_range}
 use Rattle.std.specs.List.Sorted.{IsPartitionedBy, IsPartitionPoint}
-use Rattle.std.proofs.lemmas.List.{get_or-drop, drop-drop, take-append-drop, take_all, length-drop}
-use Rattle.mst_key.specs.declared.history.Edit.{Edit}
-use Rattle.mst_key.specs.Edits.{AreAbove, AreRising}
-use Rattle.mst_key.specs.History.{key_of}
-use Rattle.mst_key.specs.Map.{key_cmp}
-use Rattle.mst_key.proofs.KeyOrder.{less_chain, less_from_test, less_from_greater, same_from_equal}
-use Rattle.mst_edits.specs.Listed.{listed}
-use Rattle.mst_batch.specs.Opening.{AreBelow, AreOf}
+use Rattle.std.proofs.lemmas.List.{drop-drop, length-drop}
+use Rattle.mst_key.proofs.KeyOrder.{less_from_test, less_from_greater, same_from_equal}
 use Rattle.mst_edits.proofs.Parts.{listed-append}
-use Rattle.mst_edits.proofs.Rising.{above-less, rising-front, rising-back}
+use Rattle.mst_edits.proofs.Rising.{above-less, rising-front}
 
 -- ---- tests of keys
 

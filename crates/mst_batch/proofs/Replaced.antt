@@ -1,31 +1,8 @@
 -- A plan that is carried out in place of the tree that stood: what was kept and what fell are all
 -- its rows.
-use Rattle.std.proofs.Common.{◌≡◌, ℕ, zero, suc, ◌+◌, ◌<◌, ◌≤◌, Bool, true, false, List, [], ◌∷◌, ◌++◌, refl, sym, ◌∙◌, ap, subst, arith, inl, inr}
-use Rattle.std.specs.Prelude.{if◌then◌else◌, Contains}
-use Rattle.std.proofs.lemmas.List.{append-nil}
-use Rattle.std.proofs.lemmas.List.Elements.{Contains-append_left, Contains-append_right, Contains-append_cases}
-use Rattle.mst_key.specs.declared.format.Format.{Format}
-use Rattle.mst_key.proofs.SpanLaws.{contains-cases, contains-nothing, contains-first, contains-later}
-use Rattle.mst_node.specs.Tree.{Tree}
-use Rattle.mst_arena.specs.Content.{Content}
-use Rattle.mst_arena.specs.Lives.{State}
-use Rattle.mst_arena.specs.Lists.{In, times}
-use Rattle.mst_arena.specs.declared.row.Root.{Root}
-use Rattle.mst_arena.specs.Standing.{Placed, none, head, Chain, end, cell, used, chain_used}
-use Rattle.mst_arena.proofs.ListLemmas.{times-append}
+use Rattle.mst_batch.proofs.Names.{◌≡◌, ℕ, zero, suc, ◌+◌, ◌<◌, ◌≤◌, Bool, true, false, List, [], ◌∷◌, ◌++◌, refl, sym, ◌∙◌, ap, subst, arith, inl, inr, if◌then◌else◌, Contains, append-nil, Contains-append_left, Contains-append_right, Contains-append_cases, Format, contains-cases, contains-nothing, contains-first, contains-later, Tree, Content, State, In, times, Root, Placed, none, head, Chain, end, cell, used, chain_used, times-append, placed_nodes, chain_nodes, ToFell, Grown, Moves, all_in, kept_at, old_alive, in_either, moves_then, alive_out, old_stays, is_marked, fallen, chain_fallen, PlanTree, PlanEntries, kept, made, last, entry, rows_kept, entries_kept, EachKept, EachKeptBelow, IsMarkedNode, trees_kept, entries_trees, Keeps, Sown}
 use Rattle.mst_arena.proofs.Stands.{placed_frame}
-use Rattle.mst_arena.specs.Ages.{placed_nodes, chain_nodes}
-use Rattle.mst_path.specs.Felling.{ToFell}
-use Rattle.mst_path.specs.Making.{Grown}
-use Rattle.mst_path.specs.Moves.{Moves}
-use Rattle.mst_path.proofs.lemmas.rows.CopyRows.{all_in, kept_at, old_alive}
-use Rattle.mst_arena.proofs.ListLemmas.{in_either}
-use Rattle.mst_path.proofs.lemmas.rows.Moving.{moves_then, alive_out, old_stays}
 use Rattle.mst_path.proofs.lemmas.trees.Made.{made_stays}
-use Rattle.mst_batch.specs.Kept.{is_marked, fallen, chain_fallen}
-use Rattle.mst_batch.specs.Plans.{PlanTree, PlanEntries, kept, made, last, entry, rows_kept, entries_kept, EachKept, EachKeptBelow}
-use Rattle.mst_batch.specs.Replacing.{IsMarkedNode, trees_kept, entries_trees, Keeps}
-use Rattle.mst_batch.specs.Sowing.{Sown}
 
 -- ---- the rows of marked nodes
 

@@ -1,19 +1,9 @@
 -- A row of a placed tree and a key of the node that has it: no node of the tree has the row more
 -- often than it has the key.
-use Rattle.std.proofs.Common.{◌≡◌, ℕ, ◌+◌, ◌<◌, ◌≤◌, eqb, Bool, true, false, List, [], ◌∷◌, ◌++◌, refl, sym, ◌∙◌, ap, subst, arith, inl, inr}
-use Rattle.std.specs.Prelude.{Contains}
-use Rattle.std.proofs.lemmas.List.Elements.{Contains-append_cases}
-use Rattle.mst_key.specs.Map.{Pair, IsAscending, AllAbove}
-use Rattle.mst_key.specs.declared.format.Format.{Format}
-use Rattle.mst_key.proofs.KeyOrder.{same_from_test, test_of_same, test_of_other, other_from_less}
-use Rattle.mst_key.proofs.SpanLaws.{contains-cases, contains-nothing}
+use Rattle.mst_batch.proofs.Names.{◌≡◌, ℕ, ◌+◌, ◌<◌, ◌≤◌, eqb, Bool, true, false, List, [], ◌∷◌, ◌++◌, refl, sym, ◌∙◌, ap, subst, arith, inl, inr, Contains, Contains-append_cases, Pair, IsAscending, AllAbove, Format, same_from_test, other_from_less, contains-cases, contains-nothing, entry_count, pairs, entries_pairs, IsMst, IsMstEntries, bit, times, Placed, none, head, Chain, end, cell, tree_of, entries_of, used, chain_used, times-append, placed_nodes, chain_nodes}
+use Rattle.mst_key.proofs.KeyOrder.{test_of_same, test_of_other}
 use Rattle.mst_node.specs.Cost.{same_bytes}
-use Rattle.mst_node.specs.Tree.{entry_count, pairs, entries_pairs, IsMst, IsMstEntries}
 use Rattle.mst_node.proofs.Distinct.{by_zero}
-use Rattle.mst_arena.specs.Lists.{bit, times}
-use Rattle.mst_arena.specs.Standing.{Placed, none, head, Chain, end, cell, tree_of, entries_of, used, chain_used}
-use Rattle.mst_arena.proofs.ListLemmas.{times-append}
-use Rattle.mst_arena.specs.Ages.{placed_nodes, chain_nodes}
 use Rattle.mst_batch.proofs.Replaced.{node_inside_chain}
 
 -- ---- how many pairs have a key

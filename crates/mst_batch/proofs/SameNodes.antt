@@ -1,21 +1,9 @@
 -- A node that stands, compared with one to be made: entry by entry, and as a whole.
-use Rattle.std.proofs.Common.{◌≡◌, ℕ, ◌+◌, ◌<◌, Bool, true, false, List, [], ◌∷◌, length, map, drop, get_or, Option, Some, None, refl, sym, ◌∙◌, ap, arith, true≢false}
-use Rattle.std.specs.Prelude.{◌↔◌, eqb}
-use Rattle.std.proofs.lemmas.Bool.{eqb-true}
-use Rattle.std.proofs.lemmas.List.{at_drop_more, at_drop_all, length-map}
-use Rattle.mst_key.specs.declared.format.Format.{Format}
-use Rattle.mst_arena.specs.Content.{Content, part_at}
-use Rattle.mst_arena.specs.Row.{entry_value}
-use Rattle.mst_arena.specs.Standing.{Placed, none, head, Chain, end, cell, link_of, count_of}
-use Rattle.mst_arena.specs.declared.row.Row.{Row}
-use Rattle.mst_arena.specs.declared.row.KeyedLinks.{KeyedLinks}
-use Rattle.mst_arena.specs.declared.row.HeadLinks.{HeadLinks}
-use Rattle.mst_read.specs.Search.{LiesBehind, head_of, chain_links}
-use Rattle.mst_read.proofs.Walk.{Onward, AtCell, AtEnd, further}
-use Rattle.mst_batch.specs.Beside.{kept_entry, kept_entries, kept_node}
-use Rattle.mst_batch.specs.Plans.{PlanTree, PlanEntries, PlannedEntry, with_planned, kept, made, last, entry, plan_of, plan_of_node, planned_entry}
-use Rattle.mst_batch.specs.declared.plan.PlanEntry.{PlanEntry, out-PlanEntry}
-use Rattle.mst_batch.specs.declared.plan.PlanNode.{PlanNode, out-PlanNode}
+use Rattle.mst_batch.proofs.Names.{◌≡◌, ℕ, ◌+◌, ◌<◌, Bool, true, false, List, [], ◌∷◌, length, map, drop, get_or, Option, Some, None, refl, sym, ◌∙◌, ap, arith, true≢false, ◌↔◌, eqb-true, at_drop_all, length-map, Format, Content, part_at, entry_value, Placed, none, head, Chain, end, cell, link_of, count_of, Row, KeyedLinks, HeadLinks, LiesBehind, head_of, chain_links, Onward, AtCell, further, kept_entries, kept_node, PlanTree, PlanEntries, PlannedEntry, with_planned, kept, made, last, entry, plan_of, plan_of_node, planned_entry, PlanEntry, out-PlanEntry, PlanNode, out-PlanNode}
+use Rattle.std.specs.Prelude.{eqb}
+use Rattle.std.proofs.lemmas.List.{at_drop_more}
+use Rattle.mst_read.proofs.Walk.{AtEnd}
+use Rattle.mst_batch.specs.Beside.{kept_entry}
 use Rattle.mst_batch.proofs.Heads.{HasHead}
 use Rattle.mst_batch.proofs.PlanShapes.{plan_out, planned_entry_out, items, tail}
 

@@ -1,35 +1,10 @@
 -- Plans that meet what the calls require: one that keeps the whole tree, and one of a node alone.
-use Rattle.std.proofs.Common.{◌≡◌, ℕ, zero, suc, ◌+◌, ◌≤◌, Bool, true, false, List, [], ◌∷◌, inl, inr, refl, sym, ◌∙◌, ap, subst, arith}
-use Rattle.std.specs.Prelude.{◌↔◌, Contains}
+use Rattle.mst_batch.proofs.Names.{◌≡◌, ℕ, zero, suc, ◌+◌, ◌≤◌, Bool, true, false, List, [], ◌∷◌, inl, inr, refl, sym, ◌∙◌, ap, subst, arith, ◌↔◌, Contains, batched, layer_in, Pair, Format, IsMap-nil, contains-cases, contains-nothing, contains-first, new_rows, digest, Tree, IsMst, pairs, tree-no_pairs, pairs_tree, tree_unique, Content, In, times, State, Placed, none, head, Chain, tree_of, link_of, used, chain_used, Stands, numbers, Root, stays, placed_nodes, chain_nodes, AreOld, IsRootOf, at_self, distinct_times, mst_of, one_standing, IsPlanOf, is_marked, PlanTree, kept, made, last, entry, IsMarkedNode, Keeps}
 use Rattle.mst_key.specs.Bytes.{IsKey, IsValue}
-use Rattle.mst_key.specs.History.{batched}
-use Rattle.mst_key.specs.Layer.{layer_in}
-use Rattle.mst_key.specs.Map.{Pair, put}
-use Rattle.mst_key.specs.declared.format.Format.{Format}
+use Rattle.mst_key.specs.Map.{put}
 use Rattle.mst_key.specs.declared.history.Edit.TheVariants as edit
-use Rattle.mst_key.proofs.MapLaws.{IsMap-nil, IsMap-put}
-use Rattle.mst_key.proofs.SpanLaws.{contains-cases, contains-nothing, contains-first}
-use Rattle.mst_node.specs.Cost.{new_rows}
-use Rattle.mst_node.specs.Text.{digest}
+use Rattle.mst_key.proofs.MapLaws.{IsMap-put}
 use Rattle.mst_node.specs.Tree as tree
-use Rattle.mst_node.specs.Tree.{Tree, IsMst, pairs}
-use Rattle.mst_node.proofs.TreeEquation.{tree-no_pairs}
-use Rattle.mst_node.proofs.UniqueTree.{pairs_tree, tree_unique}
-use Rattle.mst_arena.specs.Content.{Content}
-use Rattle.mst_arena.specs.Lists.{In, times}
-use Rattle.mst_arena.specs.Lives.{State}
-use Rattle.mst_arena.specs.Standing.{Placed, none, head, Chain, tree_of, link_of, used, chain_used, Stands, numbers}
-use Rattle.mst_arena.specs.declared.row.Root.{Root}
-use Rattle.mst_change.proofs.Formats.{stays}
-use Rattle.mst_arena.specs.Ages.{placed_nodes, chain_nodes}
-use Rattle.mst_path.specs.Changing.{AreOld}
-use Rattle.mst_path.specs.Writing.{IsRootOf}
-use Rattle.mst_path.proofs.lemmas.rows.CopyRows.{at_self}
-use Rattle.mst_path.proofs.lemmas.versions.Changes.{distinct_times, mst_of, one_standing}
-use Rattle.mst_batch.specs.Carrying.{IsPlanOf}
-use Rattle.mst_batch.specs.Kept.{is_marked}
-use Rattle.mst_batch.specs.Plans.{PlanTree, kept, made, last, entry}
-use Rattle.mst_batch.specs.Replacing.{IsMarkedNode, Keeps}
 use Rattle.mst_batch.proofs.Replaced.{node_inside_chain}
 
 -- ---- one mark

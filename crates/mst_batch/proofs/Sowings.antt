@@ -1,33 +1,17 @@
 -- A node that is written entry by entry beside trees that are kept.
-use Rattle.std.proofs.Common.{◌≡◌, ℕ, zero, suc, ◌+◌, ◌<◌, ◌≤◌, List, [], ◌∷◌, ◌++◌, length, Option, Some, refl, sym, ◌∙◌, ap, subst, arith, length-append}
-use Rattle.std.proofs.lemmas.List.{map-append}
-use Rattle.mst_key.specs.declared.format.Format.{Format}
+use Rattle.mst_batch.proofs.Names.{◌≡◌, ℕ, zero, suc, ◌+◌, ◌<◌, ◌≤◌, List, [], ◌∷◌, ◌++◌, length, Option, Some, refl, sym, ◌∙◌, ap, subst, arith, length-append, map-append, Format, Tree, IsMst, TreeEntry, with_entries, Content, State, version, In, times, Root, Born, Placed, head, tree_of, link_of, rows_of, used, HasRows, times-append, Takes, KeepsBut, IsOld, IsNew, Moves, OldPiece, IsRootOf, ahead, NodeWriter, at_self, kept_at, all_in, old_alive, moves_none, moves_takes, moves_then, alive_out, old_stays, piece_alive, old_piece_later, PlanTree, kept, PlannedEntry, tree_planned, rows_planned, rows_kept, EachKept, IsPlan, Sown}
 use Rattle.mst_node.specs.Tree as tree
-use Rattle.mst_node.specs.Tree.{Tree, IsMst}
-use Rattle.mst_node.specs.Shape.{TreeEntry, with_entries}
-use Rattle.mst_arena.specs.Content.{Content}
-use Rattle.mst_arena.specs.Lives.{State, version, next}
-use Rattle.mst_arena.specs.Lists.{In, times}
-use Rattle.mst_arena.specs.declared.row.Root.{Root}
-use Rattle.mst_arena.specs.declared.life.Life.TheVariants.{Born}
-use Rattle.mst_arena.specs.Standing.{Placed, head, tree_of, link_of, rows_of, used, HasRows}
-use Rattle.mst_arena.proofs.ListLemmas.{times-append}
-use Rattle.mst_path.specs.Takes.{Takes, IsOut, KeepsBut}
-use Rattle.mst_path.specs.Moves.{IsOld, IsNew, Moves}
-use Rattle.mst_path.specs.Runs.{OldPiece}
+use Rattle.mst_arena.specs.Lives.{next}
+use Rattle.mst_path.specs.Takes.{IsOut}
 use Rattle.mst_path.specs.Copying.{Going}
 use Rattle.mst_path.specs.Making.{cell_of, cells_of}
-use Rattle.mst_path.specs.Writing.{PlacedEntry, chain_of, entries_used, IsRootOf, ahead, link_to, IsWritten}
-use Rattle.mst_path.specs.declared.node_writer.NodeWriter.{NodeWriter}
-use Rattle.mst_path.proofs.lemmas.rows.CopyRows.{at_self, kept_at, all_in, new_not_old, old_alive}
+use Rattle.mst_path.specs.Writing.{PlacedEntry, chain_of, entries_used, link_to, IsWritten}
+use Rattle.mst_path.proofs.lemmas.rows.CopyRows.{new_not_old}
 use Rattle.mst_path.proofs.lemmas.rows.Entries.{entries_frame}
 use Rattle.mst_arena.proofs.ListLemmas.{one_row}
-use Rattle.mst_path.proofs.lemmas.rows.Moving.{not_in, out_of_times, times_of_out, moves_none, moves_takes, moves_then, alive_stays, alive_out, old_stays}
-use Rattle.mst_path.proofs.lemmas.trees.Made.{made_old, new_stays, entries_stay, piece_alive}
+use Rattle.mst_path.proofs.lemmas.rows.Moving.{not_in, out_of_times, times_of_out, alive_stays}
+use Rattle.mst_path.proofs.lemmas.trees.Made.{made_old, new_stays, entries_stay}
 use Rattle.mst_path.proofs.lemmas.steps.Finishing.{used_more, going_more, chain_entries, all_used, head_piece}
-use Rattle.mst_path.proofs.lemmas.steps.Untouched.{old_piece_later}
-use Rattle.mst_batch.specs.Plans.{PlanTree, kept, PlannedEntry, tree_planned, rows_planned, rows_kept, EachKept, IsPlan}
-use Rattle.mst_batch.specs.Sowing.{Sown}
 use Rattle.mst_batch.proofs.PlanShapes.{cell_planned, cells_planned, list_rows, list_kept, list_rows-append, list_kept-append, each_then}
 use Rattle.mst_path.proofs.lemmas.trees.Cutting.{cells-append}
 

@@ -1,12 +1,7 @@
 -- The top of items with one more item.
-use Rattle.std.proofs.Common.{◌≡◌, ℕ, ◌<◌, ◌≤◌, ◌==◌, Bool, true, false, ◌||◌, List, [], ◌∷◌, ◌++◌, refl, sym, ◌∙◌, ap, arith}
-use Rattle.std.specs.List.{list_any}
+use Rattle.mst_batch.proofs.Names.{◌≡◌, ℕ, ◌<◌, ◌≤◌, ◌==◌, Bool, true, false, ◌||◌, List, [], ◌∷◌, ◌++◌, refl, sym, ◌∙◌, ap, arith, list_any, nat_tests, layer_of, height_of, IsTop, is_tree, Item}
 use Rattle.std.proofs.Math.Bool.{or-false}
-use Rattle.std.proofs.lemmas.Bool.Decides.{nat_tests}
 use Rattle.std.proofs.lemmas.List.Folds.{list_any-append}
-use Rattle.mst_batch.specs.Items.{layer_of, height_of}
-use Rattle.mst_batch.specs.Tops.{IsTop, is_tree}
-use Rattle.mst_batch.specs.declared.items.Item.{Item}
 use Rattle.mst_batch.specs.declared.items.Item.TheVariants as item
 use Rattle.mst_batch.proofs.Tops.{height-append}
 

@@ -1,26 +1,6 @@
 -- The top of items: where a tree of the greatest layer is opened, the items have the same pairs,
 -- and then a pair is of that layer.
-use Rattle.std.proofs.Common.{◌≡◌, ◌≢◌, ℕ, ◌+◌, ◌<◌, ◌≤◌, max, ◌==◌, Bool, true, false, ◌||◌, inl, inr, List, [], ◌∷◌, ◌++◌, refl, sym, ◌∙◌, ap, subst, arith, true≢false, append_assoc}
-use Rattle.std.specs.Prelude.{Contains, if◌then◌else◌, option_and_then}
-use Rattle.std.specs.List.{AllByRecursion, list_any, flat_map}
-use Rattle.std.proofs.lemmas.Bool.Decides.{nat_tests}
-use Rattle.std.proofs.lemmas.List.{append-nil}
-use Rattle.std.proofs.lemmas.List.Elements.{Contains-append_left, Contains-append_right, Contains-append_cases}
-use Rattle.mst_key.specs.declared.format.Format.{Format}
-use Rattle.mst_key.specs.Map.{Pair}
-use Rattle.mst_key.proofs.Alls.{alls-append}
-use Rattle.mst_key.proofs.SpanLaws.{contains-cases, contains-nothing, contains-first, contains-later}
-use Rattle.mst_node.specs.Tree.{entry_count, pairs, entries_pairs, IsMst, IsMstEntries, IsUnder}
-use Rattle.mst_arena.specs.Content.{Content}
-use Rattle.mst_arena.specs.Row.{entry_pair}
-use Rattle.mst_arena.specs.Standing.{Placed, none, head, Chain, end, cell, tree_of, entries_of, link_of, rows_of, chain_rows, HasRows}
-use Rattle.mst_arena.proofs.Stands.{one_placed, all-back}
-use Rattle.mst_arena.specs.Ages.{placed_nodes, chain_nodes}
-use Rattle.mst_batch.specs.Beside.{node_at}
-use Rattle.mst_batch.specs.Items.{item_pairs, items_pairs, IsItem, layer_of, height_of, IsUpTo, IsPairOf}
-use Rattle.mst_batch.specs.Known.{IsEntryOf}
-use Rattle.mst_batch.specs.Tops.{IsStanding, is_tree, tree_items, chain_items, node_items, opened}
-use Rattle.mst_batch.specs.declared.items.Item.{Item}
+use Rattle.mst_batch.proofs.Names.{◌≡◌, ◌≢◌, ℕ, ◌+◌, ◌<◌, ◌≤◌, max, ◌==◌, Bool, true, false, ◌||◌, inl, inr, List, [], ◌∷◌, ◌++◌, refl, sym, ◌∙◌, ap, subst, arith, true≢false, append_assoc, Contains, if◌then◌else◌, option_and_then, AllByRecursion, list_any, flat_map, nat_tests, append-nil, Contains-append_left, Contains-append_right, Contains-append_cases, Format, Pair, alls-append, contains-cases, contains-nothing, contains-first, contains-later, entry_count, pairs, entries_pairs, IsMst, IsMstEntries, IsUnder, Content, entry_pair, Placed, none, head, Chain, end, cell, tree_of, entries_of, link_of, rows_of, chain_rows, HasRows, one_placed, all-back, placed_nodes, chain_nodes, node_at, item_pairs, items_pairs, IsItem, layer_of, height_of, IsUpTo, IsPairOf, IsEntryOf, IsStanding, is_tree, tree_items, chain_items, node_items, opened, Item}
 use Rattle.mst_batch.specs.declared.items.Item.TheVariants as item
 use Rattle.mst_batch.proofs.Besides.{node_found, node_rows}
 use Rattle.mst_batch.proofs.Homes.{node_below}

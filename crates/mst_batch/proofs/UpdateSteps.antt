@@ -1,49 +1,11 @@
 -- A node into which edits fall that keep its keys: its entries one after another, each planned with
 -- the tree before it, and the tree in its last gap.
-use Rattle.std.proofs.Common.{◌≡◌, ℕ, ◌+◌, ◌-◌, ◌<◌, ◌≤◌, ◌⊎◌, inl, inr, List, [], ◌∷◌, ◌++◌, Bor, length, map, Option, Some, IsSome, append_assoc, refl, sym, ◌∙◌, ap, subst, arith, true≢false}
-use Rattle.std.specs.Prelude.{option_and_then, Contains}
-use Rattle.std.specs.List.{AllByRecursion}
-use Rattle.std.proofs.lemmas.List.{append-nil, map-append}
-use Rattle.std.proofs.lemmas.List.Elements.{Contains-append_left, Contains-append_right}
-use Rattle.std.proofs.lemmas.Option.{same_Some}
-use Rattle.mst_key.specs.declared.format.Format.{Format}
-use Rattle.mst_key.specs.declared.history.Edit.{Edit}
+use Rattle.mst_batch.proofs.Names.{◌≡◌, ℕ, ◌+◌, ◌-◌, ◌<◌, ◌≤◌, ◌⊎◌, inl, inr, List, [], ◌∷◌, ◌++◌, Bor, length, map, Option, Some, IsSome, append_assoc, refl, sym, ◌∙◌, ap, subst, arith, true≢false, option_and_then, Contains, AllByRecursion, append-nil, map-append, Contains-append_left, Contains-append_right, same_Some, Format, Edit, AreAbove, AreRising, batched, layer_in, Pair, IsAscending, alls-append, alls-weaker, contains-later, Entries, tree, pairs, entries_pairs, IsMst, IsMstEntries, Has, entries_at_layer, gap-lower, keys_under, tree_unique, Content, part_at, head_links, keyed_links, bare_links, entry_pair, Row, Entry, BareLinks, HeadLinks, Root, Placed, none, head, Chain, end, cell, tree_of, entries_of, link_of, first_of, tail_of, count_of, rows_of, chain_rows, HasRows, all-front, all-back, rest_rises, placed_nodes, chain_nodes, height_at, lower, listed, none_left, rising-back, plan_beside, entries_beside, IsEntryOf, Known, AreKnown, all_known, known_of_entry, PartOf, AreBelow, AreOf, PlanTree, PlanEntries, kept, made, last, entry, PlannedEntry, with_planned, IsUpdate, AreUpdates, Updates, PlanEntry}
 use Rattle.mst_key.specs.declared.history.Edit.TheVariants as edit
-use Rattle.mst_key.specs.Edits.{AreAbove, AreRising}
-use Rattle.mst_key.specs.History.{batched}
-use Rattle.mst_key.specs.Layer.{layer_in}
-use Rattle.mst_key.specs.Map.{Pair, IsAscending}
-use Rattle.mst_key.proofs.Alls.{alls-append, alls-weaker}
-use Rattle.mst_key.proofs.SpanLaws.{contains-later}
 use Rattle.mst_node.specs.Tree as tree
-use Rattle.mst_node.specs.Tree.{Entries, tree, pairs, entries_pairs, IsMst, IsMstEntries}
-use Rattle.mst_node.proofs.TreeEquation.{Has, entries_at_layer}
-use Rattle.mst_node.proofs.UniqueTree.{gap-lower, keys_under, tree_unique}
-use Rattle.mst_arena.specs.Content.{Content, part_at}
-use Rattle.mst_arena.specs.Row.{head_links, keyed_links, bare_links, entry_pair}
-use Rattle.mst_arena.specs.declared.row.Row.{Row}
-use Rattle.mst_arena.specs.declared.row.Row.TheVariants.{Entry}
-use Rattle.mst_arena.specs.declared.row.BareLinks.{BareLinks}
-use Rattle.mst_arena.specs.declared.row.HeadLinks.{HeadLinks}
-use Rattle.mst_arena.specs.declared.row.Root.{Root}
-use Rattle.mst_arena.specs.Standing.{Placed, none, head, Chain, end, cell, tree_of, entries_of, link_of, first_of, tail_of, count_of, rows_of, chain_rows, HasRows}
-use Rattle.mst_arena.proofs.Stands.{all-front, all-back}
-use Rattle.mst_change.proofs.Split.Trees.{rest_rises}
-use Rattle.mst_arena.specs.Ages.{placed_nodes, chain_nodes}
-use Rattle.mst_path.specs.Joining.{height_at}
-use Rattle.mst_path.proofs.lemmas.steps.Felling.{lower}
-use Rattle.mst_edits.specs.Listed.{listed}
-use Rattle.mst_edits.proofs.Parts.{none_left}
-use Rattle.mst_edits.proofs.Rising.{rising-back}
-use Rattle.mst_batch.specs.Beside.{plan_beside, entries_beside}
-use Rattle.mst_batch.specs.Known.{IsEntryOf, Known, AreKnown, all_known, known_of_entry}
-use Rattle.mst_batch.specs.Opening.{PartOf, AreBelow, AreOf}
-use Rattle.mst_batch.specs.Plans.{PlanTree, PlanEntries, kept, made, last, entry, PlannedEntry, with_planned}
-use Rattle.mst_batch.specs.Updating.{IsUpdate, AreUpdates, Updates}
 use Rattle.mst_batch.proofs.BatchParts.{batched_at}
 use Rattle.mst_batch.proofs.Besides.{node_rows}
 use Rattle.mst_batch.proofs.Homes.{node_below, kept_plan}
-use Rattle.mst_batch.specs.declared.plan.PlanEntry.{PlanEntry}
 use Rattle.mst_batch.proofs.KnownShapes.{all_known-append, known_both}
 use Rattle.mst_batch.proofs.NodePlans.{with_planned-push, entries_end, has_after}
 use Rattle.mst_batch.proofs.Openings.{node_rises, IsNode, node, links, layer_is}

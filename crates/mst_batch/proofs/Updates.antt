@@ -1,29 +1,13 @@
 -- Edits that put values at keys that a map has: those of its parts, and the node that its pairs
 -- make afterwards.
-use Rattle.std.proofs.Common.{◌≡◌, ℕ, ◌+◌, ◌<◌, ◌≤◌, Bool, true, false, true≢false, List, [], ◌∷◌, ◌++◌, length, drop, get_or, Bor, Option, Some, IsSome, is_eq, is_lt, is_gt, not, filter, Less, refl, sym, ◌∙◌, ap, subst, arith}
-use Rattle.std.specs.Prelude.{if◌then◌else◌}
-use Rattle.std.proofs.lemmas.List.{drop_more, at_drop_all}
-use Rattle.std.specs.List.{AllByRecursion}
-use Rattle.mst_key.specs.declared.format.Format.{Format}
-use Rattle.mst_key.specs.declared.history.Edit.{Edit}
+use Rattle.mst_batch.proofs.Names.{◌≡◌, ℕ, ◌+◌, ◌<◌, ◌≤◌, Bool, true, false, true≢false, List, [], ◌∷◌, ◌++◌, length, drop, get_or, Bor, Option, Some, IsSome, is_eq, is_lt, is_gt, not, filter, Less, refl, sym, ◌∙◌, ap, subst, arith, if◌then◌else◌, drop_more, at_drop_all, AllByRecursion, Format, Edit, AreAbove, AreRising, edited, batched, key_of, layer_in, Pair, key_cmp, IsAscending, alls-append, alls-front, alls-back, alls-filter, alls-weaker, other_from_less, same_from_test, AllBelow-less, IsAscending-back, IsAscending-below, Entries, tree, IsMst, Has, tree_some, tree_mst, listed, put_of, above-first, rest_of, first_and_rest, AreBelow, AreOf, IsUpdate, AreUpdates}
 use Rattle.mst_key.specs.declared.history.Edit.TheVariants as edit
-use Rattle.mst_key.specs.Edits.{AreAbove, AreRising}
-use Rattle.mst_key.specs.History.{edited, batched, key_of}
-use Rattle.mst_key.specs.Layer.{layer_in}
-use Rattle.mst_key.specs.Map.{Pair, key_cmp, IsAscending, map_get}
-use Rattle.mst_key.proofs.Alls.{alls-append, alls-front, alls-back, alls-both, alls-filter, alls-weaker}
-use Rattle.mst_key.proofs.KeyOrder.{other_from_less, same_from_test}
-use Rattle.mst_key.proofs.MapLaws.{AllBelow-less, map_get-past}
-use Rattle.mst_key.proofs.Splits.{map_get-left, map_get-right, IsAscending-back, IsAscending-below}
+use Rattle.mst_key.specs.Map.{map_get}
+use Rattle.mst_key.proofs.Alls.{alls-both}
+use Rattle.mst_key.proofs.MapLaws.{map_get-past}
+use Rattle.mst_key.proofs.Splits.{map_get-left, map_get-right}
 use Rattle.mst_node.specs.Tree as tree
-use Rattle.mst_node.specs.Tree.{Entries, tree, entries_of, IsMst}
-use Rattle.mst_node.proofs.TreeEquation.{Has, tree_some}
-use Rattle.mst_node.proofs.UniqueTree.{tree_mst}
-use Rattle.mst_edits.specs.Listed.{listed, put_of}
-use Rattle.mst_edits.proofs.Joins.{above-first}
-use Rattle.mst_edits.proofs.Parts.{rest_of, first_and_rest}
-use Rattle.mst_batch.specs.Opening.{AreBelow, AreOf}
-use Rattle.mst_batch.specs.Updating.{IsUpdate, AreUpdates}
+use Rattle.mst_node.specs.Tree.{entries_of}
 use Rattle.mst_batch.proofs.BatchParts.{edited_own, one_of_key}
 use Rattle.mst_batch.proofs.NodePlans.{greatest_is, some_pairs}
 

@@ -1,33 +1,13 @@
 -- The first block: the directory lists the empty map.
-use Rattle.std.proofs.Common.{◌≡◌, ◌≢◌, ℕ, zero, suc, ◌+◌, ◌≤◌, List, [], ◌∷◌, ◌++◌, length, map, drop, take, Option, Some, None, Less, is_eq, refl, sym, ap, ◌∙◌, subst, arith, slice_get, append_assoc, append-nil, drop_of_length-le}
-use Rattle.std.specs.List.{AllByRecursion}
-use Rattle.std.proofs.lemmas.Bool.{cond-true, cond-false}
-use Rattle.std.proofs.lemmas.List.{length-append, length-map, take_all}
-use Rattle.mst_key.specs.declared.format.Format.{Format}
-use Rattle.mst_key.specs.declared.history.Change.TheVariants.{Batch}
-use Rattle.mst_key.specs.declared.history.Edit.{Edit}
-use Rattle.mst_key.specs.declared.history.Edit.TheVariants.{Put}
+use Rattle.mst_blocks.proofs.Names.{◌≡◌, ◌≢◌, ℕ, zero, suc, ◌+◌, ◌≤◌, List, [], ◌∷◌, ◌++◌, length, map, drop, take, Option, Some, None, Less, is_eq, refl, sym, ap, ◌∙◌, subst, arith, append_assoc, append-nil, AllByRecursion, cond-true, cond-false, length-append, length-map, take_all, Format, Batch, Edit, Put, History, after, batched, format_after, value_of, value_after, Pair, IsMap, key_cmp, map_get, IsAscending-batched, map_get-batched, by_same, less_chain, other_from_less, test_of_same, test_of_other, map_determined, map_get-here, map_get-past, Known, StoreId, made_by, format_seen, most_rows, Shard, least, part_of, listing, directory, bound_text, IsSharded, directory_map, last_made, version_made, AddsBatch, Blocks, map_made, Whole, IsNumber, IsOneBlock, KeepWithin, shard_at, drop_shards, length-shards, IsSplits, sharding, maps_of, map_of, IsNew, empty_listings, at_last, last_block, HasSeenLast, IsWriter, HasMade, RiseFrom, all_rise}
+use Rattle.std.proofs.Common.{slice_get, drop_of_length-le}
 use Rattle.mst_node.specs.Text.{root as root_of}
-use Rattle.mst_key.specs.History.{History, after, batched, format_after, value_of, value_after}
-use Rattle.mst_key.specs.Map.{Pair, IsMap, key_cmp, map_get}
-use Rattle.mst_key.proofs.Ascending.{IsAscending-batched}
-use Rattle.mst_key.proofs.Batches.{map_get-batched}
-use Rattle.mst_key.proofs.KeyOrder.{by_same, less_chain, other_from_less, test_of_same, test_of_other}
-use Rattle.mst_key.proofs.MapLaws.{IsMap-nil, map_determined, map_get-here, map_get-past}
-use Rattle.mst_store.specs.Passes.{Known, StoreId, made_by, format_seen, most_rows}
-use Rattle.mst_sharded_proof.specs.Shards.{Shard, least, shards as shards_at, part_of, listing, directory, bound_text}
-use Rattle.mst_sharded_proof.specs.Theorem.{IsSharded}
-use Rattle.mst_sharded_proof.proofs.Shards.{directory_map}
-use Rattle.mst_blocks.specs.Blocks.{last_made, version_made, AddsBatch}
-use Rattle.mst_shards.specs.BlockHistory.{Blocks, map_made, Whole, IsNumber, IsOneBlock}
-use Rattle.mst_shards.specs.Directory.{KeepWithin}
-use Rattle.mst_shards.specs.Entries.{low_at, shard_at}
-use Rattle.mst_shards.proofs.Intervals.{drop_shards, length-shards}
-use Rattle.mst_shards.specs.Sharding.{IsSplits, sharding, union, maps_of, map_of}
-use Rattle.mst_shards.specs.Opening.{IsNew}
-use Rattle.mst_blocks.specs.Writing.{empty_listing, empty_listings, at_last, last_block, HasSeenLast, IsWriter, HasMade}
+use Rattle.mst_key.proofs.MapLaws.{IsMap-nil}
+use Rattle.mst_sharded_proof.specs.Shards.{shards as shards_at}
+use Rattle.mst_shards.specs.Entries.{low_at}
+use Rattle.mst_shards.specs.Sharding.{union}
+use Rattle.mst_blocks.specs.Writing.{empty_listing}
 use Rattle.mst_blocks.proofs.Chained.{block_root}
-use Rattle.mst_shards.proofs.Rising.{RiseFrom, all_rise}
 
 -- ---- what is listed first
 

@@ -1,34 +1,14 @@
 -- A writer's block more, or none.
-use Rattle.std.proofs.Common.{◌≡◌, ℕ, zero, suc, ◌+◌, ◌-◌, ◌≤◌, List, [], ◌∷◌, ◌++◌, length, map, take, Some, None, refl, sym, ap, ◌∙◌, subst, arith}
-use Rattle.std.specs.List.{AllByRecursion}
-use Rattle.std.proofs.lemmas.List.{length-append, length-map, length-take-le, take_all, take-append-le}
-use Rattle.mst_key.specs.declared.format.Format.{Format}
-use Rattle.mst_key.specs.declared.history.Change.TheVariants.{Batch}
-use Rattle.mst_key.specs.declared.history.Edit.{Edit}
-use Rattle.mst_key.specs.declared.history.Event.{Event}
-use Rattle.mst_key.specs.History.{History, after, batched, format_after, IsSmall}
-use Rattle.mst_key.specs.Map.{Pair, IsMap}
-use Rattle.mst_key.proofs.HistoryLaws.{after-push, format_after-push, IsPrefix-length}
-use Rattle.mst_store.specs.Passes.{Known, StoreId, made_by, format_seen, most_rows}
-use Rattle.mst_sharded_proof.specs.Shards.{least, shards as shards_at, directory}
+use Rattle.mst_blocks.proofs.Names.{◌≡◌, ℕ, zero, suc, ◌+◌, ◌≤◌, List, [], ◌∷◌, ◌++◌, length, map, take, Some, None, refl, sym, ap, ◌∙◌, subst, arith, AllByRecursion, length-append, length-map, take_all, take-append-le, Format, Batch, Edit, Event, History, after, batched, format_after, IsSmall, Pair, IsMap, after-push, format_after-push, IsPrefix-length, Known, StoreId, made_by, format_seen, most_rows, least, directory, IsSharded, HasShardedRoot, edits_at, StepsFrom, sharding, AllStep, map_of, parts_from, parts_of, listed_parts, version_made, last_made, AddsBatch, AddsPart, AllAdd, MakesBlock, MakesNothing, LeavesAll, RefusesParts, Blocks, map_made, Records, Whole, whole, IsNumber, IsOneBlock, at_last, last_block, block_map, HasSeenLast, IsWriter, IsLastRoot, AddsBlock, RefusesBlock, HasMade, BlockFault, OnOk, IfOk, IfErr, Result, Ok, Err, all_still, steps_length, length-shards}
+use Rattle.std.proofs.Common.{◌-◌}
+use Rattle.std.proofs.lemmas.List.{length-take-le}
+use Rattle.mst_sharded_proof.specs.Shards.{shards as shards_at}
 use Rattle.mst_node.specs.Text.{root as root_of}
-use Rattle.mst_sharded_proof.specs.Theorem.{IsSharded, HasShardedRoot}
-use Rattle.mst_shards.specs.Parts.{edits_at}
-use Rattle.mst_shards.specs.Sharding.{StepsFrom, sharding, AllStep, map_of}
-use Rattle.mst_blocks.specs.Blocks.{parts_from, parts_of, listed_parts, version_made, last_made, AddsBatch, AddsPart, AllAdd, MakesBlock, MakesNothing, LeavesAll, RefusesParts}
-use Rattle.mst_shards.specs.BlockHistory.{Blocks, map_made, Records, Whole, whole, IsNumber, IsOneBlock}
 use Rattle.mst_shards.specs.Directory.{AllIn, IsClean}
-use Rattle.mst_blocks.specs.Writing.{at_last, last_block, block_map, HasSeenLast, IsWriter, IsLastRoot, AddsBlock, RefusesBlock, HasMade}
-use Rattle.mst_blocks.specs.declared.faults.BlockFault.{BlockFault}
 use Rattle.mst_blocks.specs.declared.faults.BlockFault.TheVariants as fault
 use Rattle.mst_key.specs.declared.memory.Memory.{Memory as NoMemory}
-use Rattle.std.specs.Prelude.{OnOk, IfOk, IfErr}
-use Rattle.std.specs.declared.result.Result.{Result}
-use Rattle.std.specs.declared.result.Result.TheVariants.{Ok, Err}
 use Rattle.mst_blocks.proofs.Committing.{same_nothing}
-use Rattle.mst_shards.proofs.Stepping.{all_still, steps_length}
 use Rattle.mst_blocks.proofs.Chained.{block_root, made_more, records_more}
-use Rattle.mst_shards.proofs.Intervals.{length-shards}
 use Rattle.mst_blocks.proofs.Growing.{Grows, AllGrow, grown_clean, grown_few, grown_format, grown_map, grown_maps}
 use Rattle.mst_blocks.proofs.Relisted.{IsJustMade, MadeOne, AllMade, directory_after}
 

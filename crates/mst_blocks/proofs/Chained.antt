@@ -1,18 +1,9 @@
 -- Blocks one after another, and the versions of the directory that record them.
-use Rattle.std.proofs.Common.{◌≡◌, ◌⊎◌, inl, inr, ℕ, zero, suc, ◌+◌, ◌<◌, ◌≤◌, List, [], ◌∷◌, ◌++◌, length, take, refl, sym, ap, ◌∙◌, subst, arith}
-use Rattle.std.proofs.lemmas.List.{take_all, take-append-le, length-append}
+use Rattle.mst_blocks.proofs.Names.{◌≡◌, ◌⊎◌, inl, inr, ℕ, zero, suc, ◌+◌, ◌<◌, ◌≤◌, List, [], ◌∷◌, ◌++◌, length, take, refl, sym, ap, ◌∙◌, subst, arith, take_all, take-append-le, length-append, Format, Edit, Event, History, after, batched, Pair, directory, IsSharded, HasShardedRoot, HasBytes, CollideForKey, Blocks, map_made, Records, Whole, IsOneBlock, map_of}
 use Rattle.std.proofs.lemmas.Bool.{cases_order}
-use Rattle.mst_key.specs.declared.format.Format.{Format}
-use Rattle.mst_key.specs.declared.history.Edit.{Edit}
-use Rattle.mst_key.specs.declared.history.Event.{Event}
-use Rattle.mst_key.specs.History.{History, after, batched}
-use Rattle.mst_key.specs.Map.{Pair}
 use Rattle.mst_node.specs.Text.{root as root_of}
-use Rattle.mst_sharded_proof.specs.Shards.{directory}
-use Rattle.mst_sharded_proof.specs.Theorem.{IsSharded, HasShardedRoot, HasBytes, CollideForKey}
 use Rattle.mst_sharded_proof.proofs.OneRoot.{one_root}
-use Rattle.mst_shards.specs.BlockHistory.{Blocks, made_from, map_made, Records, Whole, IsOneBlock}
-use Rattle.mst_shards.specs.Sharding.{map_of}
+use Rattle.mst_shards.specs.BlockHistory.{made_from}
 use Rattle.mst_shards.proofs.Rooted.{has_root}
 
 -- ---- one block

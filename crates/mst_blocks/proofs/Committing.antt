@@ -1,32 +1,21 @@
 -- Blocks: from what each shard has prepared to what the whole map has.
-use Rattle.std.proofs.Common.{◌≡◌, ℕ, zero, suc, ◌+◌, ◌<◌, ◌≤◌, List, [], ◌∷◌, ◌++◌, length, map, drop, get_or, Option, Some, None, refl, sym, ap, ◌∙◌, subst, arith, append_assoc, append-nil}
-use Rattle.std.specs.Prelude.{IfSome, IsNone, IsSome}
-use Rattle.std.proofs.lemmas.List.{drop_more, length-append}
-use Rattle.mst_key.specs.declared.format.Format.{Format}
-use Rattle.mst_key.specs.declared.history.Change.TheVariants.{Batch}
-use Rattle.mst_key.specs.declared.history.Edit.{Edit}
-use Rattle.mst_key.specs.declared.history.Edit.TheVariants.{Put}
-use Rattle.mst_key.specs.History.{after, batched, done}
-use Rattle.mst_key.specs.Map.{Pair, IsMap}
-use Rattle.mst_key.proofs.HistoryLaws.{after-push, format_after-push, IsPrefix-itself}
+use Rattle.mst_blocks.proofs.Names.{◌≡◌, ℕ, zero, suc, ◌+◌, ◌<◌, ◌≤◌, List, [], ◌∷◌, ◌++◌, length, map, drop, get_or, Option, Some, None, refl, sym, ap, ◌∙◌, subst, arith, append_assoc, append-nil, IsNone, length-append, Format, Batch, Edit, Put, after, batched, Pair, IsMap, after-push, format_after-push, Known, Looks, made_by, format_seen, most_rows, Waiting, Shard, least, bound_text, shard_at, AllStep, listed_part, listed_parts, AddsBatch, AddsPart, AllAdd, MakesBlock, MakesNothing, LeavesAll, PreparesNext, AllStaged, published_stage, canceled_stage, listed_stages, Stage, Idle, Ready, Revealed, drop_shards, length-shards, drop_of_length-le}
+use Rattle.std.specs.Prelude.{IfSome, IsSome}
+use Rattle.std.proofs.lemmas.List.{drop_more}
+use Rattle.mst_key.specs.History.{done}
+use Rattle.mst_key.proofs.HistoryLaws.{IsPrefix-itself}
 use Rattle.mst_node.specs.Text.{root as root_of}
-use Rattle.mst_store.specs.Passes.{Known, Looks, Wrote, made_by, format_seen, having_missed, most_rows}
-use Rattle.mst_store.specs.Preparing.{Waiting, published}
+use Rattle.mst_store.specs.Passes.{Wrote, having_missed}
+use Rattle.mst_store.specs.Preparing.{published}
 use Rattle.mst_batching.proofs.Prepared.{prepared_wrote}
 use Rattle.mst_batching.specs.Applying.{RefusesBatch}
 use Rattle.mst_batching.specs.declared.faults.ApplyFault.{ApplyFault}
 use Rattle.mst_batching.specs.declared.faults.ApplyFault.TheVariants as apply
-use Rattle.mst_sharded_proof.specs.Shards.{Shard, least, bound_text, shards as shards_at}
-use Rattle.mst_shards.specs.Entries.{shard_at}
-use Rattle.mst_shards.specs.Sharding.{AllStep}
-use Rattle.mst_blocks.specs.Blocks.{listed_part, listed_parts, AddsBatch, AddsPart, AllAdd, MakesBlock, MakesNothing, LeavesAll, RefusesPart, RefusedAt, RefusesListing}
-use Rattle.mst_blocks.specs.Staging.{PreparesNext, Staged, AllStaged, IsStaged, published_stage, canceled_stage, listed_stage, listed_stages}
+use Rattle.mst_sharded_proof.specs.Shards.{shards as shards_at}
+use Rattle.mst_blocks.specs.Blocks.{RefusesPart, RefusedAt, RefusesListing}
+use Rattle.mst_blocks.specs.Staging.{Staged, IsStaged, listed_stage}
 use Rattle.mst_blocks.specs.declared.faults.PartFault.{PartFault}
 use Rattle.mst_blocks.specs.declared.faults.PartFault.TheVariants as part_fault
-use Rattle.mst_blocks.specs.declared.blocks.Stage.{Stage}
-use Rattle.mst_blocks.specs.declared.blocks.Stage.TheVariants.{Idle, Ready, Revealed}
-use Rattle.mst_shards.proofs.Intervals.{drop_shards, length-shards}
-use Rattle.std.proofs.Math.ListN.{drop_of_length-le}
 
 -- ---- a pass that made nothing
 

@@ -1,34 +1,25 @@
 -- The edits of a block over the shards are its edits over the whole map.
-use Rattle.std.proofs.Common.{◌≡◌, inl, inr, ℕ, zero, suc, ◌+◌, ◌<◌, ◌≤◌, Bool, true, false, List, [], ◌∷◌, length, filter, get_or, Some, None, is_lt, is_gt, is_eq, refl, sym, ap, ◌∙◌, subst, arith, true≢false}
-use Rattle.std.specs.Prelude.{◌==◌, not}
-use Rattle.std.specs.List.{AllByRecursion}
+use Rattle.mst_blocks.proofs.Names.{◌≡◌, inl, inr, ℕ, zero, suc, ◌+◌, ◌<◌, ◌≤◌, List, [], ◌∷◌, length, get_or, Some, None, is_eq, refl, sym, ap, ◌∙◌, subst, arith, ◌==◌, AllByRecursion, Format, Edit, Put, after, batched, key_of, value_after, IsSmall, Pair, key_cmp, map_get, IsMap, IsAscending-batched, map_get-batched, map_determined, Known, format_seen, most_rows, Shard, least, part_of, edits_at, StepsFrom, IsSplits, place, sharding, maps_of, map_of, KeepWithin, shard_at, steps_length}
+use Rattle.std.proofs.Common.{Bool, true, false, filter, is_lt, is_gt, true≢false}
+use Rattle.std.specs.Prelude.{not}
 use Rattle.std.proofs.lemmas.Bool.Decides.{nat_tests}
 use Rattle.mst_key.specs.Bytes.{IsKey}
-use Rattle.mst_key.specs.declared.format.Format.{Format}
 use Rattle.mst_key.specs.declared.format.Format.TheVariants.{One}
-use Rattle.mst_key.specs.declared.history.Edit.{Edit}
-use Rattle.mst_key.specs.declared.history.Edit.TheVariants.{Put, Remove}
-use Rattle.mst_key.specs.History.{after, batched, edited, key_of, value_after, IsEdited, IsSmall}
-use Rattle.mst_key.specs.Map.{Pair, key_cmp, map_get, IsMap}
+use Rattle.mst_key.specs.declared.history.Edit.TheVariants.{Remove}
+use Rattle.mst_key.specs.History.{edited, IsEdited}
 use Rattle.mst_key.proofs.Alls.{alls-append, alls-both, alls-filter, alls-passes, filter-whole}
-use Rattle.mst_key.proofs.Ascending.{IsAscending-batched}
-use Rattle.mst_key.proofs.Batches.{map_get-batched}
 use Rattle.mst_key.proofs.BatchOrder.{value_after-unedited}
 use Rattle.mst_key.proofs.KeyOrder.{less_from_test}
-use Rattle.mst_key.proofs.MapLaws.{map_determined, map_get-above}
-use Rattle.mst_store.specs.Passes.{Known, format_seen, most_rows}
-use Rattle.mst_sharded_proof.specs.Shards.{Shard, least, shards_from, shards as shards_at, shard_of, is_in, part_of}
+use Rattle.mst_key.proofs.MapLaws.{map_get-above}
+use Rattle.mst_sharded_proof.specs.Shards.{shards_from, shards as shards_at, shard_of, is_in}
 use Rattle.mst_sharded_proof.proofs.Complete.{least_first, listed_of}
-use Rattle.mst_shards.specs.Parts.{edits_at}
-use Rattle.mst_shards.specs.Sharding.{StepsFrom, IsSplits, HaveFewPairs, place, sharding, maps_of, map_of}
-use Rattle.mst_shards.specs.Directory.{KeepWithin}
-use Rattle.mst_shards.specs.Entries.{shard_at, shard_from_at}
+use Rattle.mst_shards.specs.Sharding.{HaveFewPairs}
+use Rattle.mst_shards.specs.Entries.{shard_from_at}
 use Rattle.mst_shards.proofs.Intervals.{next_shard}
 use Rattle.mst_shards.proofs.Parted.{part_value}
 use Rattle.mst_shards.proofs.Places.{place_within}
 use Rattle.mst_shards.proofs.Rooted.{key_place}
 use Rattle.mst_shards.proofs.ShardParts.{union_map}
-use Rattle.mst_shards.proofs.Stepping.{steps_length}
 use Rattle.mst_shards.proofs.Unions.{union_above, union_get, part_inside}
 
 -- What the version that a pass made last is after edits, if it was the other one before them

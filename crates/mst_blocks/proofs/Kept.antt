@@ -1,20 +1,9 @@
 -- The passes of a writer stay those of its map's stores, and it stays a writer.
-use Rattle.std.proofs.Common.{◌≡◌, ◌≤◌, ℕ, length, arith, List, [], ◌∷◌, ◌++◌, map, refl, sym, ap, ◌∙◌, subst}
-use Rattle.std.specs.Prelude.{OnOk, OnErr, IfOk, IfErr}
-use Rattle.std.specs.declared.result.Result.{Result}
-use Rattle.std.specs.declared.result.Result.TheVariants.{Ok, Err}
-use Rattle.mst_key.specs.declared.history.Edit.{Edit}
-use Rattle.mst_key.specs.declared.format.Format.{Format}
-use Rattle.mst_key.specs.History.{History, after, format_after}
+use Rattle.mst_blocks.proofs.Names.{◌≡◌, ◌≤◌, ℕ, length, arith, List, [], ◌∷◌, ◌++◌, map, refl, sym, ap, ◌∙◌, subst, OnOk, IfOk, IfErr, Result, Ok, Err, Edit, Format, History, after, format_after, Known, StoreId, format_seen, AllStep, version_made, AddsBatch, AddsPart, AllAdd, MakesBlock, MakesNothing, LeavesAll, Shards, IsNew, Blocks, Whole, whole, HasSeenLast, IsWriter, IsWriterOf, IsLastRoot, AddsBlock, RefusesBlock, HasMade, BlockFault}
+use Rattle.std.specs.Prelude.{OnErr}
 use Rattle.mst_node.specs.Text.{root as root_of}
-use Rattle.mst_store.specs.Passes.{Known, StoreId, format_seen}
-use Rattle.mst_shards.specs.Sharding.{AllStep}
-use Rattle.mst_blocks.specs.Blocks.{version_made, AddsBatch, AddsPart, AllAdd, MakesBlock, MakesNothing, LeavesAll}
-use Rattle.mst_shards.specs.Opening.{Shards, IsNew}
-use Rattle.mst_shards.specs.BlockHistory.{Blocks, Whole, whole}
-use Rattle.mst_blocks.specs.Writing.{HasSeenLast, IsWriter, IsWriterOf, IsLastRoot, AddsBlock, RefusesBlock, HasMade, KeepStores}
+use Rattle.mst_blocks.specs.Writing.{KeepStores}
 use Rattle.mst_blocks.proofs.Blocked.{just_made, made_more_blocks, made_same_blocks, rooted_now, rooted_still}
-use Rattle.mst_blocks.specs.declared.faults.BlockFault.{BlockFault}
 
 abbrev pub store : Known → StoreId
 store p = p.store

@@ -10,3 +10,4 @@ pub mod Reading
 pub mod Relisted
 pub mod Revealing
 pub mod RowsCounted
+pub mod Names

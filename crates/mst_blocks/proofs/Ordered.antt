@@ -1,12 +1,6 @@
 -- A snapshot beside the blocks that a writer has made.
-use Rattle.std.proofs.Common.{◌≡◌, ◌⊎◌, ℕ, List, ◌++◌, take, sym, subst}
-use Rattle.mst_key.specs.declared.format.Format.{Format}
-use Rattle.mst_key.specs.History.{History, IsPrefix}
-use Rattle.mst_store.specs.Passes.{format_seen}
-use Rattle.mst_sharded_proof.specs.Theorem.{HasBytes, CollideForKey}
-use Rattle.mst_shards.specs.BlockHistory.{Blocks, map_made, Records, Whole, IsNumber, IsOneBlock}
-use Rattle.mst_shards.specs.Sharding.{map_of}
-use Rattle.mst_blocks.specs.Writing.{at_last, HasMade}
+use Rattle.mst_blocks.proofs.Names.{◌≡◌, ◌⊎◌, ℕ, List, ◌++◌, take, sym, subst, Format, History, format_seen, HasBytes, CollideForKey, Blocks, map_made, Records, Whole, IsNumber, IsOneBlock, map_of, at_last, HasMade}
+use Rattle.mst_key.specs.History.{IsPrefix}
 use Rattle.mst_blocks.proofs.Chained.{block_map, records_fewer}
 
 -- what the writer's directory records of the blocks up to the snapshot's number

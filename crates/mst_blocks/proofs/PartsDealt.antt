@@ -1,10 +1,5 @@
 -- The edits of a block, dealt to the shards one after the other.
-use Rattle.std.proofs.Common.{◌≡◌, ℕ, zero, suc, ◌+◌, List, [], ◌∷◌, ◌++◌, length, map, sym, ap, ◌∙◌, arith}
-use Rattle.mst_key.specs.declared.history.Edit.{Edit}
-use Rattle.mst_key.specs.History.{key_of}
-use Rattle.mst_shards.specs.Parts.{edits_at, picked}
-use Rattle.mst_blocks.specs.Blocks.{parts_from, parts_of}
-use Rattle.mst_shards.specs.Sharding.{place}
+use Rattle.mst_blocks.proofs.Names.{◌≡◌, ℕ, zero, suc, ◌+◌, List, [], ◌∷◌, ◌++◌, length, map, sym, ap, ◌∙◌, arith, Edit, key_of, edits_at, picked, parts_from, parts_of, place}
 use Rattle.mst_shards.proofs.Parted.{picked_is}
 
 parts_next : (splits : List (List ℕ)) (edits : List Edit) (i n k : ℕ) → k ≡ i + n

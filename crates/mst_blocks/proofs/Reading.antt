@@ -1,25 +1,13 @@
 -- A writer that has read one key: the pass of its shard has looked, and was laid down again.
-use Rattle.std.proofs.Common.{◌≡◌, ℕ, ◌+◌, ◌<◌, ◌≤◌, List, [], ◌∷◌, ◌++◌, length, map, set, get_or, slice_index_or, refl, sym, ap, ◌∙◌, subst, arith}
+use Rattle.mst_blocks.proofs.Names.{◌≡◌, ℕ, ◌+◌, ◌<◌, ◌≤◌, List, [], ◌∷◌, ◌++◌, length, map, set, get_or, refl, sym, ap, ◌∙◌, subst, arith, length-append, length-map, take_all, map-set_same, IfOk, Result, Ok, Err, AllByRecursion, History, after, map_get, IsPrefix-length, Known, Looks, StoreId, whole, AreOf, place, sharding, AllStep, Routes, read_any, one_steps, last_made, MakesNothing, LeavesAll, at_last, block_map, HasSeenLast, IsWriter}
+use Rattle.std.proofs.Common.{slice_index_or}
 use Rattle.std.specs.List.{swap_remove, SwappedAt}
-use Rattle.std.proofs.lemmas.List.{length-append, length-map, take_all, get_or-map}
+use Rattle.std.proofs.lemmas.List.{get_or-map}
 use Rattle.std.proofs.lemmas.List.Elements.{All-from_recursion}
-use Rattle.std.proofs.Math.Seq.{map-set_same}
-use Rattle.std.specs.Prelude.{Option, IfOk}
-use Rattle.std.specs.declared.result.Result.{Result}
-use Rattle.std.specs.declared.result.Result.TheVariants.{Ok, Err}
-use Rattle.std.specs.List.{AllByRecursion}
-use Rattle.mst_key.specs.History.{History, after}
-use Rattle.mst_key.specs.Map.{map_get}
-use Rattle.mst_key.proofs.HistoryLaws.{IsPrefix-length}
-use Rattle.mst_store.specs.Passes.{Known, Looks, StoreId}
-use Rattle.mst_shards.specs.BlockHistory.{whole}
-use Rattle.mst_shards.specs.Laid.{AreOf}
-use Rattle.mst_shards.specs.Sharding.{place, sharding, AllStep, IsSharding, Routes}
-use Rattle.mst_shards.proofs.Moved.{read_any, put_back}
+use Rattle.std.specs.Prelude.{Option}
+use Rattle.mst_shards.specs.Sharding.{IsSharding}
+use Rattle.mst_shards.proofs.Moved.{put_back}
 use Rattle.mst_shards.proofs.Nexts.{routed_get, map_here}
-use Rattle.mst_shards.proofs.Stepping.{one_steps}
-use Rattle.mst_blocks.specs.Blocks.{last_made, MakesNothing, LeavesAll}
-use Rattle.mst_blocks.specs.Writing.{at_last, block_map, HasSeenLast, IsWriter}
 use Rattle.mst_blocks.proofs.Blocked.{writer_count}
 use Rattle.mst_blocks.proofs.Committing.{looks_nothing, same_nothing}
 

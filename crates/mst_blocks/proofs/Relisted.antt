@@ -1,25 +1,8 @@
 -- The directory after a block is the directory of the new map.
-use Rattle.std.proofs.Common.{◌≡◌, ◌≢◌, ℕ, List, [], ◌∷◌, ◌++◌, length, map, Option, Some, Less, is_eq, refl, sym, ap, ◌∙◌, subst, arith}
-use Rattle.std.proofs.lemmas.Bool.{cond-true, cond-false}
-use Rattle.std.specs.List.{AllByRecursion}
-use Rattle.mst_key.specs.declared.format.Format.{Format}
-use Rattle.mst_key.specs.declared.history.Edit.{Edit}
-use Rattle.mst_key.specs.Map.{Pair, key_cmp, map_get}
-use Rattle.mst_key.specs.History.{History, after, batched, format_after, value_of, value_after}
-use Rattle.mst_key.proofs.Ascending.{IsAscending-batched}
-use Rattle.mst_key.proofs.Batches.{map_get-batched}
-use Rattle.mst_key.proofs.KeyOrder.{by_same, less_chain, other_from_less, test_of_same, test_of_other}
-use Rattle.mst_key.proofs.MapLaws.{map_determined, map_get-here, map_get-past}
+use Rattle.mst_blocks.proofs.Names.{◌≡◌, ◌≢◌, ℕ, List, [], ◌∷◌, ◌++◌, length, map, Option, Some, Less, is_eq, refl, sym, ap, ◌∙◌, subst, arith, cond-true, cond-false, AllByRecursion, Format, Edit, Pair, key_cmp, map_get, History, after, batched, format_after, value_of, value_after, IsAscending-batched, map_get-batched, by_same, less_chain, other_from_less, test_of_same, test_of_other, map_determined, map_get-here, map_get-past, Known, format_seen, Shard, least, part_of, bound_text, listing, directory, directory_map, AddsPart, AllAdd, listed_part, listed_parts, KeepWithin, IsSplits, sharding, maps_of, map_of, at_last, RiseFrom, all_rise}
 use Rattle.mst_node.specs.Text.{root as root_of}
-use Rattle.mst_store.specs.Passes.{Known, format_seen}
-use Rattle.mst_sharded_proof.specs.Shards.{Shard, least, shards as shards_at, part_of, bound_text, listing, directory}
-use Rattle.mst_sharded_proof.proofs.Shards.{directory_map}
-use Rattle.mst_blocks.specs.Blocks.{AddsPart, AllAdd, listed_part, listed_parts}
-use Rattle.mst_shards.specs.Directory.{KeepWithin}
+use Rattle.mst_sharded_proof.specs.Shards.{shards as shards_at}
 use Rattle.mst_shards.specs.Entries.{entry_of}
-use Rattle.mst_shards.specs.Sharding.{IsSplits, sharding, maps_of, map_of}
-use Rattle.mst_blocks.specs.Writing.{at_last}
-use Rattle.mst_shards.proofs.Rising.{RiseFrom, all_rise}
 use Rattle.mst_shards.proofs.ShardParts.{HasParts, parts as parts_are}
 
 -- ---- the edits of the listing, key by key

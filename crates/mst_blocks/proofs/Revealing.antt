@@ -1,13 +1,7 @@
 -- A block's shards while they are published: each is changed where it stands.
-use Rattle.std.proofs.Common.{◌≡◌, ℕ, ◌+◌, ◌<◌, ◌≤◌, List, [], ◌∷◌, ◌++◌, length, map, take, drop, get_or, set, refl, sym, ap, ◌∙◌, subst, append-nil}
-use Rattle.std.specs.List.{AllByRecursion}
-use Rattle.std.proofs.lemmas.List.{length-map, take_all}
-use Rattle.std.proofs.Math.ListN.{drop_of_length-le}
+use Rattle.mst_blocks.proofs.Names.{◌≡◌, ℕ, ◌+◌, ◌<◌, ◌≤◌, List, [], ◌∷◌, ◌++◌, length, map, take, drop, get_or, set, refl, sym, ap, ◌∙◌, subst, append-nil, AllByRecursion, length-map, take_all, drop_of_length-le, IsShown, published_stage, revealed_stage, canceled_stage, Stage, Idle, Ready, Revealed}
 use Rattle.mst_store.proofs.Courier.{changed_at, changed_next}
 use Rattle.mst_shards.proofs.Moved.{given_back}
-use Rattle.mst_blocks.specs.Staging.{IsShown, published_stage, revealed_stage, canceled_stage}
-use Rattle.mst_blocks.specs.declared.blocks.Stage.{Stage}
-use Rattle.mst_blocks.specs.declared.blocks.Stage.TheVariants.{Idle, Ready, Revealed}
 
 -- the elements before a place are changed, and now the one there
 pub changes_on : {X : Type 0} (f : X → X) (now old : List X) (i : ℕ) (x y : X)

@@ -1,21 +1,9 @@
 -- A writer that has counted free rows: one of its passes has looked or found the turn taken.
-use Rattle.std.proofs.Common.{◌≡◌, ℕ, ◌<◌, List, [], length, map, set, get_or, Result, Ok, Err, refl, sym, ap, ◌∙◌, subst}
-use Rattle.std.proofs.Math.Seq.{map-set_same}
+use Rattle.mst_blocks.proofs.Names.{◌≡◌, ℕ, ◌<◌, List, [], length, map, set, get_or, refl, sym, ap, ◌∙◌, subst, map-set_same, Format, after, Pair, Known, StoreId, format_seen, whole, AreOf, sharding, AllStep, read_any, all_still, one_steps, MakesNothing, LeavesAll, Counts, CountsAt, at_last, IsWriter, IsLastRoot}
+use Rattle.std.proofs.Common.{Result, Ok, Err}
 use Rattle.mst_batching.specs.declared.faults.ApplyFault.TheVariants as apply
-use Rattle.mst_key.specs.declared.format.Format.{Format}
-use Rattle.mst_key.specs.History.{after}
-use Rattle.mst_key.specs.Map.{Pair}
 use Rattle.mst_node.specs.Text.{root as root_of}
-use Rattle.mst_store.specs.Passes.{Known, StoreId, format_seen}
 use Rattle.mst_versions.specs.declared.faults.Busy.{Busy}
-use Rattle.mst_shards.specs.BlockHistory.{whole}
-use Rattle.mst_shards.specs.Laid.{AreOf}
-use Rattle.mst_shards.specs.Sharding.{sharding, AllStep}
-use Rattle.mst_shards.proofs.Moved.{read_any}
-use Rattle.mst_shards.proofs.Stepping.{all_still, one_steps}
-use Rattle.mst_blocks.specs.Blocks.{MakesNothing, LeavesAll}
-use Rattle.mst_blocks.specs.Counting.{Counts, CountsAt}
-use Rattle.mst_blocks.specs.Writing.{at_last, IsWriter, IsLastRoot}
 use Rattle.mst_blocks.specs.declared.faults.PartFault.TheVariants.{Refused}
 use Rattle.mst_blocks.proofs.Blocked.{nothing_grows}
 use Rattle.mst_blocks.proofs.Committing.{looks_nothing, same_nothing, part_nothing}

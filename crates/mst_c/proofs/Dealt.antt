@@ -1,6 +1,6 @@
 -- The passes that a store deals are its own.
-use Rattle.std.proofs.Common.{◌≡◌, ℕ, ◌+◌, ◌<◌, List, length, get_or, ap, ◌∙◌}
-use Rattle.mst_store.specs.Passes.{StoreId, Known, new_pass, new_passes}
+use Rattle.mst_c.proofs.Names.{◌≡◌, ℕ, ◌+◌, ◌<◌, List, length, get_or, ap, ◌∙◌, Known, new_pass, new_passes}
+use Rattle.mst_store.specs.Passes.{StoreId}
 use Rattle.mst_store.proofs.AllPasses.{first_length, first_at}
 
 -- there are as many as the store has

@@ -7,3 +7,4 @@ pub mod Readings
 pub mod Unpacked
 pub mod Values
 pub mod WorkedEdits
+pub mod Names

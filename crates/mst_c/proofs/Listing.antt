@@ -1,11 +1,10 @@
 -- Pairs in a room, one after the other.
-use Rattle.std.proofs.Common.{◌≡◌, ℕ, ◌+◌, ◌-◌, ◌<◌, ◌≤◌, List, [], ◌∷◌, ◌++◌, length, take, drop, get_or, sym, refl, ap, ◌∙◌, append_assoc, append-nil, arith}
-use Rattle.std.proofs.lemmas.List.{take_more, take_at, drop_at, take-append-drop, drop-drop, length-append, length-take, length-take-le, length-drop}
+use Rattle.mst_c.proofs.Names.{◌≡◌, ℕ, ◌+◌, ◌<◌, ◌≤◌, List, [], ◌∷◌, ◌++◌, length, take, drop, get_or, sym, refl, ap, ◌∙◌, append_assoc, append-nil, arith, take_at, drop_at, take-append-drop, length-append, length-take-le, w16, to_be_bytes, Option, Pair, pair_bytes, pairs_bytes, written}
+use Rattle.std.proofs.Common.{◌-◌}
+use Rattle.std.proofs.lemmas.List.{take_more, drop-drop, length-take, length-drop}
 use Rattle.std.proofs.lemmas.List.Concat.{flat_map-append}
-use Rattle.std.specs.Int.{w16, to_be_bytes}
-use Rattle.std.specs.Prelude.{Option, filter, min, ◌&&◌}
-use Rattle.mst_key.specs.Map.{Pair, from_on, below, map_range}
-use Rattle.mst_c.specs.Ranges.{pair_bytes, pairs_bytes, written}
+use Rattle.std.specs.Prelude.{filter, min, ◌&&◌}
+use Rattle.mst_key.specs.Map.{from_on, below, map_range}
 
 -- two pieces written one after the other are one piece
 pub written_more : (at : ℕ) (a b room : List ℕ) → at + length a ≤ length room

@@ -1,18 +1,10 @@
 -- Edits that were packed are read back, each from the front of what is left.
-use Rattle.std.proofs.Common.{◌≡◌, ℕ, ◌+◌, ◌<◌, ◌≤◌, List, [], ◌∷◌, ◌++◌, length, take, drop, Bool, false, nat_lt, refl, ap, ◌∙◌, sym, arith, if◌then◌else◌, append_assoc, append-nil}
-use Rattle.std.specs.Prelude.{Result, Ok, Err}
-use Rattle.std.specs.Int.{w16, from_be_bytes}
+use Rattle.mst_c.proofs.Names.{◌≡◌, ℕ, ◌+◌, ◌<◌, ◌≤◌, List, [], ◌∷◌, ◌++◌, length, take, drop, Bool, false, nat_lt, refl, ap, ◌∙◌, sym, arith, if◌then◌else◌, append_assoc, append-nil, Result, Ok, Err, w16, from_be_bytes, nat_tests, length-append, take_at, drop_at, IsKey, Edit, Put, Remove, EditFault, KeySize, ValueSize, Form, edit_of, ◌>>=◌, edits_from, size_bytes, edit_bytes, edits_bytes}
 use Rattle.std.specs.List.{AllByRecursion}
-use Rattle.std.proofs.lemmas.Bool.Decides.{nat_tests}
-use Rattle.std.proofs.lemmas.List.{length-append, take_at, drop_at}
 use Rattle.std.proofs.lemmas.Nat.{from_be_bytes-to_be_bytes_2}
-use Rattle.mst_key.specs.Bytes.{IsKey, IsValue}
+use Rattle.mst_key.specs.Bytes.{IsValue}
 use Rattle.mst_key.specs.History.{IsSmall}
-use Rattle.mst_key.specs.declared.history.Edit.{Edit}
-use Rattle.mst_key.specs.declared.history.Edit.TheVariants.{Put, Remove}
-use Rattle.mst_c.specs.declared.packing.EditFault.{EditFault}
-use Rattle.mst_c.specs.declared.packing.EditFault.TheVariants.{KeySize, ValueSize, Form}
-use Rattle.mst_c.specs.Batches.{parts_by, parts_at, edit_of, edit_at, ◌>>=◌, edits_from, edits_in, size_bytes, edit_bytes, edits_bytes}
+use Rattle.mst_c.specs.Batches.{parts_by, parts_at, edit_at, edits_in}
 use Rattle.mst_c.proofs.Readings.{step, none_from}
 
 -- an edit's kind, key and value, and the bytes after it

@@ -1,7 +1,6 @@
 -- The parts of a box and a hand that is not empty, as the proofs by hand take them apart and make
 -- them.
-use Rattle.std.proofs.Common.{◌≡◌, ℕ, List, [], ◌∷◌, ◌++◌, refl, subst}
-use Rattle.std.specs.Prelude.{Some}
+use Rattle.mst_c.proofs.Names.{◌≡◌, ℕ, List, [], ◌∷◌, ◌++◌, refl, subst, Some, token, Fits, handle_tells, box_owns, Bx, R, P, τ, word, handle}
 use seplogic.Ra.Ura.{Ura}
 use base.Logic.{never, fst∗}
 use mir.Raw.{raw as bare}
@@ -14,9 +13,7 @@ use denote.RawPtr.{Ptr, block_ptr, null_ptr, ptr_val, in_a_block}
 use denote.Steps.{nothing}
 use denote.Struct.Struct.{within}
 use denote.Struct.Owning.{Owning, shape, to}
-use Rattle.core.proofs.alloc.Calls.{token, Fits, handle_tells}
-use Rattle.std_alloc.specs.Box.Ownership.{box_owns}
-use Rattle.std_alloc.proofs.BoxSteps.Form.{Bx, X, R, P, τ, word, handle}
+use Rattle.std_alloc.proofs.BoxSteps.Form.{X}
 use Rattle.mst_c.specs.contracts.raw_box.RawBox as Of
 use Rattle.mst_c.specs.declared.raw_box.RawBox.{RawBox}
 use Rattle.mst_c.specs.contracts.hand.Hand as Hand

@@ -1,11 +1,6 @@
 -- How the edits of a buffer are read off, one after the other.
-use Rattle.std.proofs.Common.{◌≡◌, ℕ, zero, suc, ◌+◌, ◌<◌, ◌≤◌, List, [], ◌∷◌, ◌++◌, length, refl, sym, ap, ◌∙◌, arith}
-use Rattle.std.specs.Prelude.{Result, Ok, Err, is_ok}
-use Rattle.std.proofs.lemmas.Bool.{false≢true}
-use Rattle.std.proofs.lemmas.List.{length-append}
-use Rattle.mst_key.specs.declared.history.Edit.{Edit}
-use Rattle.mst_c.specs.declared.packing.EditFault.{EditFault}
-use Rattle.mst_c.specs.Batches.{edit_at, placed, edits_from, edits_in, edits_or_none}
+use Rattle.mst_c.proofs.Names.{◌≡◌, ℕ, zero, suc, ◌+◌, ◌<◌, ◌≤◌, List, [], ◌∷◌, ◌++◌, length, refl, sym, ap, ◌∙◌, arith, Result, Ok, Err, is_ok, false≢true, length-append, Edit, EditFault, edit_at, placed}
+use Rattle.mst_c.specs.Batches.{edits_from, edits_in, edits_or_none}
 
 -- what is left decides, with the edits so far
 pub record Reading (packed : List ℕ) (before : List Edit) (rest : List ℕ) : Type 0 where

@@ -1,19 +1,12 @@
 -- A buffer that spells edits is these edits packed.
-use Rattle.std.proofs.Common.{◌≡◌, ℕ, zero, suc, ◌+◌, ◌<◌, ◌≤◌, ◌==◌, List, [], ◌∷◌, ◌++◌, length, take, drop, get_or, Bool, true, false, nat_lt, refl, ap, ◌∙◌, sym, subst, arith, if◌then◌else◌, append_assoc, append-nil}
-use Rattle.std.specs.Prelude.{Result, Ok, Err, is_ok}
-use Rattle.std.specs.Int.{w16, from_be_bytes}
-use Rattle.std.proofs.lemmas.Bool.{false≢true}
-use Rattle.std.proofs.lemmas.Bool.Decides.{nat_tests}
-use Rattle.std.proofs.lemmas.List.{take-append-drop, length-take-le, length-append, nil_from_length}
+use Rattle.mst_c.proofs.Names.{◌≡◌, ℕ, zero, suc, ◌+◌, ◌<◌, ◌≤◌, List, [], ◌∷◌, ◌++◌, length, take, drop, get_or, Bool, false, nat_lt, refl, ap, ◌∙◌, sym, subst, arith, if◌then◌else◌, append_assoc, append-nil, Result, Ok, Err, is_ok, w16, from_be_bytes, false≢true, nat_tests, take-append-drop, length-take-le, length-append, Edit, Put, Remove, EditFault, KeySize, ValueSize, Form, edit_of, ◌>>=◌, placed, size_bytes, edit_bytes, edits_bytes}
+use Rattle.std.proofs.Common.{◌==◌, true}
+use Rattle.std.proofs.lemmas.List.{nil_from_length}
 use Rattle.std.proofs.lemmas.Nat.{be_bytes_2}
 use Rattle.mst_key.specs.Bytes.{IsBytes}
 use Rattle.mst_key.proofs.Alls.{alls-back}
-use Rattle.mst_key.specs.declared.history.Edit.{Edit}
-use Rattle.mst_key.specs.declared.history.Edit.TheVariants.{Put, Remove}
-use Rattle.mst_c.specs.declared.packing.EditFault.{EditFault}
-use Rattle.mst_c.specs.declared.packing.EditFault.TheVariants.{KeySize, ValueSize, Form}
 use Rattle.mst_c.specs.declared.packing.BadEdit.{BadEdit}
-use Rattle.mst_c.specs.Batches.{parts_at, edit_of, edit_at, ◌>>=◌, placed, edits_from, edits_in, size_bytes, edit_bytes, edits_bytes}
+use Rattle.mst_c.specs.Batches.{parts_at, edit_at, edits_from, edits_in}
 use Rattle.mst_c.proofs.Packed.{Part, ReadPart, read, some_bytes}
 
 -- what stands in a result, or this

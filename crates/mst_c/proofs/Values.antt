@@ -1,7 +1,5 @@
 -- The machine values of a `Hand`, and what it owns: nothing at null, or a box.
-use Rattle.std.proofs.Common.{◌≡◌, ℕ, List, [], ◌∷◌, ◌++◌, refl, subst, lit<}
-use Rattle.std.specs.Prelude.{None, Some}
-use mathlib.Core.Bool.{true, ◌&&◌}
+use Rattle.mst_c.proofs.Names.{◌≡◌, ℕ, List, [], ◌∷◌, ◌++◌, refl, subst, lit<, None, Some, true, ◌&&◌, token, Fits, handle_tells, R, P, τ, and_tt, box_owns, hand_owns}
 use lib.Dec.{T}
 use seplogic.Ra.Ura.{Ura}
 use mir.Raw.{raw as bare}
@@ -17,12 +15,7 @@ use denote.RawPtr.{lies_at, Ptr, block_ptr, null_ptr, ptr_val, in_a_block, Testa
 use denote.Steps.{nothing}
 use denote.Struct.Struct.{within}
 use denote.Struct.Owning.{shape, to}
-use Rattle.core.proofs.alloc.Calls.{token, Fits, handle_tells}
-use Rattle.std_alloc.proofs.BoxSteps.Form.{R, P, τ}
-use Rattle.std_alloc.proofs.ResultValues.{and_tt}
-use Rattle.std_alloc.specs.Box.Ownership.{box_owns}
 use Rattle.std_heap.proofs.GlobalToken.{dealloc_token-Testable}
-use Rattle.mst_c.specs.Owning.{hand_owns}
 use Rattle.mst_c.specs.contracts.hand.Hand as Hand
 use Rattle.mst_c.proofs.AsBox.{E}
 

@@ -1,8 +1,5 @@
 -- Edits in buffers that were worked by hand.
-use Rattle.std.proofs.Common.{◌≡◌, [], ◌∷◌, refl}
-use Rattle.std.specs.Prelude.{Ok, Err}
-use Rattle.mst_key.specs.declared.history.Edit.TheVariants.{Put, Remove}
-use Rattle.mst_c.specs.declared.packing.EditFault.TheVariants.{KeySize, ValueSize, Form}
+use Rattle.mst_c.proofs.Names.{◌≡◌, [], ◌∷◌, refl, Ok, Err, Put, Remove, KeySize, ValueSize, Form}
 use Rattle.mst_c.specs.Batches.{parts_at, edit_at, edits_from, edits_in}
 
 pub none : edits_in [] ≡ Ok []

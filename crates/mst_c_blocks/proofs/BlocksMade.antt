@@ -1,8 +1,7 @@
 -- What a writer's block comes to, made or refused.
-use Rattle.std.proofs.Common.{◌≡◌, ℕ, List, [], ◌∷◌, ◌++◌, subst}
-use Rattle.std.specs.Prelude.{Result, Ok, Err, OnOk, OnErr, IfOk, IfErr}
-use Rattle.mst_key.specs.declared.history.Edit.{Edit}
-use Rattle.mst_shards.specs.BlockHistory.{Blocks, Whole, IsNumber}
+use Rattle.mst_c_blocks.proofs.Names.{◌≡◌, ℕ, List, [], ◌∷◌, ◌++◌, subst, Result, Ok, Err, Edit, Whole}
+use Rattle.std.specs.Prelude.{OnOk, OnErr, IfOk, IfErr}
+use Rattle.mst_shards.specs.BlockHistory.{Blocks, IsNumber}
 use Rattle.mst_blocks.specs.Writing.{last_block, AddsBlock, RefusesBlock, HasMade}
 use Rattle.mst_blocks.specs.declared.faults.BlockFault.{BlockFault}
 use Rattle.mst_c_blocks.specs.Making.{MakesBlock}

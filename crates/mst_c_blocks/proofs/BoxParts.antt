@@ -1,10 +1,11 @@
 -- The parts of a box of a sharded map own what the box owns.
 use mir.Syntax.{impl, tnil, dnil}
+use Rattle.mst_c_blocks.proofs.Names.{ghosts}
 use mathlib.Core.List.{[]}
 use denote.Signature.{Slot, plain}
 use Rattle.std_alloc.proofs.BoxSteps.Form.{Bx}
 use Rattle.std_heap.specs.contracts.Global as Heap
-use Rattle.std_heap.specs.contracts.GlobalAllocator.TheImpl.{ghosts, dict}
+use Rattle.std_heap.specs.contracts.GlobalAllocator.TheImpl.{dict}
 use Rattle.std_heap.proofs.Global.TheLaws as heap
 use Rattle.mst_c_blocks.specs.contracts.role_box.RoleBox as RoleBox
 use Rattle.mst_c_blocks.proofs.role_box.RoleBox.TheLaws as held

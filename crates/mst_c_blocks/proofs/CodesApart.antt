@@ -1,5 +1,6 @@
 -- No number that an opening returns is another one.
-use Rattle.std.proofs.Common.{◌≡◌, ◌⊎◌, inl, inr, ℕ, ℤ, pos, negsuc, sym, ap, ◌∙◌, arith}
+use Rattle.mst_c_blocks.proofs.Names.{◌≡◌, ℕ, pos, negsuc, sym, ap, ◌∙◌, arith}
+use Rattle.std.proofs.Common.{◌⊎◌, inl, inr, ℤ}
 
 -- 0 for 0, and n for -n - 1
 abbrev below_zero : ℤ → ℕ

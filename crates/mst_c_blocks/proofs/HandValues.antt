@@ -1,7 +1,5 @@
 -- The machine values of a `BlocksHand`, and what it owns: nothing at null, or a box.
-use Rattle.std.proofs.Common.{◌≡◌, ℕ, List, [], ◌∷◌, ◌++◌, refl, subst, lit<}
-use Rattle.std.specs.Prelude.{None, Some}
-use mathlib.Core.Bool.{true, ◌&&◌}
+use Rattle.mst_c_blocks.proofs.Names.{◌≡◌, ℕ, List, [], ◌∷◌, ◌++◌, refl, subst, lit<, None, Some, true, ◌&&◌, token, handle_tells, R, word, handle, and_tt, box_owns, HeldNow, hand_owns}
 use lib.Dec.{T}
 use seplogic.Ra.Ura.{Ura}
 use mir.Raw.{raw as bare}
@@ -17,12 +15,9 @@ use denote.RawPtr.{lies_at, Ptr, block_ptr, null_ptr, ptr_val, in_a_block, Testa
 use denote.Steps.{nothing}
 use denote.Struct.Struct.{within}
 use denote.Struct.Owning.{shape, to}
-use Rattle.core.proofs.alloc.Calls.{token, Fits, handle_tells}
-use Rattle.std_alloc.proofs.BoxSteps.Form.{X, R, P, τ, word, handle}
-use Rattle.std_alloc.proofs.ResultValues.{and_tt}
-use Rattle.std_alloc.specs.Box.Ownership.{box_owns}
+use Rattle.core.proofs.alloc.Calls.{Fits}
+use Rattle.std_alloc.proofs.BoxSteps.Form.{X, P, τ}
 use Rattle.std_heap.proofs.GlobalToken.{dealloc_token-Testable}
-use Rattle.mst_c_blocks.specs.Owning.{HeldNow, hand_owns}
 use Rattle.mst_c_blocks.specs.contracts.hand.BlocksHand as Hand
 use Rattle.mst_c_blocks.proofs.BoxParts.{E}
 

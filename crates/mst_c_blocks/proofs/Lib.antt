@@ -6,3 +6,4 @@ pub mod LotsDealt
 pub mod Sent
 pub mod SplitPacking
 pub mod SplitRising
+pub mod Names

@@ -1,14 +1,14 @@
 -- The lots that a sharded map deals to its readers, by their places.
-use Rattle.std.proofs.Common.{◌≡◌, ◌≢◌, ℕ, zero, suc, ◌+◌, ◌-◌, ◌<◌, List, [], ◌∷◌, ◌++◌, length, get_or, ap, subst, ◌∙◌, arith}
+use Rattle.mst_c_blocks.proofs.Names.{◌≡◌, ℕ, ◌+◌, ◌-◌, ◌<◌, List, [], ◌∷◌, ◌++◌, length, get_or, ap, subst, ◌∙◌, arith, Shards, Dealt, IsLot, lot, reader_of, new_reader}
+use Rattle.std.proofs.Common.{◌≢◌, zero, suc}
 use Rattle.std.specs.List.{AllByRecursion}
 use Rattle.std.proofs.lemmas.List.{get_or-append-add}
 use Rattle.std.proofs.Math.ListN.{get_or-append}
 use mathlib.Core.Logic.{dite}
 use native.Mathlib.Decide.{ℕ_discrete}
 use Rattle.mst_store.specs.Passes.{StoreId}
-use Rattle.mst_shards.specs.Opening.{Shards, Dealt, IsLot, lot, first_lots}
+use Rattle.mst_shards.specs.Opening.{first_lots}
 use Rattle.mst_shards.proofs.Dealing.{length-first_lots}
-use Rattle.mst_c_blocks.specs.Opened.{reader_of, new_reader}
 
 first_at : (stores : List StoreId) (s : StoreId) (n k : ℕ) (d : Dealt) → k < n
     → get_or (first_lots stores s n) k d ≡ lot stores s (k + 1)

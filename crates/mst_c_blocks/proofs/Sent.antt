@@ -5,7 +5,7 @@ use Rattle.std.specs.contracts.option.Option as Option
 use Rattle.core.proofs.option.Option.TheSendSync as option
 use Rattle.std.proofs.Crossing as heap
 use Rattle.std_heap.specs.contracts.Global as Heap
-use Rattle.std_heap.specs.contracts.GlobalAllocator.TheImpl.{ghosts}
+use Rattle.mst_c_blocks.proofs.Names.{ghosts}
 use Rattle.std_heap.proofs.Global.TheSendSync as handle
 use Rattle.mst_parts.specs.contracts.block.Block as Block
 use Rattle.mst_parts.specs.contracts.part.BlockPart as BlockPart

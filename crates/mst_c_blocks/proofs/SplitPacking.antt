@@ -1,10 +1,8 @@
 -- Bytes pack one list of keys at most, which is read off from the front.
-use Rattle.std.proofs.Common.{◌≡◌, ℕ, ◌<◌, List, [], ◌∷◌, ◌++◌, length, take, drop, refl, sym, ap, ◌∙◌, subst, arith, append_assoc, append-nil}
+use Rattle.mst_c_blocks.proofs.Names.{◌≡◌, ℕ, ◌<◌, List, [], ◌∷◌, ◌++◌, length, refl, sym, ap, ◌∙◌, subst, arith, IsKey, least, AreSplits, splits_bytes, PacksSplits}
+use Rattle.std.proofs.Common.{take, drop, append_assoc, append-nil}
 use Rattle.std.proofs.Math.Seq.{drop-append_seam, take-append_seam}
-use Rattle.mst_key.specs.Bytes.{IsKey}
-use Rattle.mst_sharded_proof.specs.Shards.{least, AreSplits}
 use Rattle.mst_shards.specs.Sharding.{IsSplits}
-use Rattle.mst_c_blocks.specs.Splits.{splits_bytes, PacksSplits}
 
 -- the first number of a list, and the rest
 abbrev first : List ℕ → ℕ

@@ -1,9 +1,7 @@
 -- Bytes that pack keys which rise, read off from the front.
-use Rattle.std.proofs.Common.{◌≡◌, ℕ, ◌+◌, ◌<◌, ◌≤◌, List, [], ◌∷◌, ◌++◌, length, refl, sym, ap, ◌∙◌, subst, Less, arith}
-use Rattle.mst_key.specs.Bytes.{IsKey}
+use Rattle.mst_c_blocks.proofs.Names.{◌≡◌, ℕ, ◌+◌, ◌<◌, ◌≤◌, List, [], ◌∷◌, ◌++◌, length, refl, sym, ap, ◌∙◌, subst, arith, IsKey, least, AreSplits, splits_bytes, PacksSplits}
+use Rattle.std.proofs.Common.{Less}
 use Rattle.mst_key.specs.Map.{key_cmp}
-use Rattle.mst_sharded_proof.specs.Shards.{least, AreSplits}
-use Rattle.mst_c_blocks.specs.Splits.{splits_bytes, PacksSplits}
 use Rattle.mst_c_blocks.proofs.SplitPacking.{same_front, same_behind}
 
 -- the bytes pack keys that rise from above one, as many as may follow this many others

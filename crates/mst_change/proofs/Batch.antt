@@ -1,14 +1,11 @@
 -- The tree after a batch; which of its nodes stand in the old tree, and how the others are counted.
-use Rattle.std.proofs.Common.{◌≡◌, ◌↔◌, inl, inr, ℕ, ◌+◌, Bool, true, false, cond, List, [], ◌∷◌, refl, sym, ap, subst, ◌∙◌, arith}
-use Rattle.mst_key.specs.declared.format.Format.{Format}
+use Rattle.mst_change.proofs.Names.{◌≡◌, inl, inr, ℕ, ◌+◌, Bool, true, false, cond, List, [], ◌∷◌, refl, sym, ap, subst, ◌∙◌, arith, Format, batched, Pair, IsAscending, Tree, empty, node, Entries, last, entry, entry_count, pairs, tree, is_subtree, new_rows, InTree, InEntries}
+use Rattle.std.proofs.Common.{◌↔◌}
 use Rattle.mst_key.specs.declared.history.Edit.{Edit}
 use Rattle.mst_key.specs.declared.history.Edit.TheVariants as edit
-use Rattle.mst_key.specs.History.{edited, batched}
-use Rattle.mst_key.specs.Map.{Pair, IsAscending}
+use Rattle.mst_key.specs.History.{edited}
 use Rattle.mst_key.proofs.Ascending.{IsAscending-edited}
-use Rattle.mst_node.specs.Tree.{Tree, empty, node, Entries, last, entry, entry_count, pairs, tree}
-use Rattle.mst_node.specs.Cost.{is_subtree, new_rows}
-use Rattle.mst_node.proofs.InTrees.{InTree, InEntries, in_old}
+use Rattle.mst_node.proofs.InTrees.{in_old}
 use Rattle.mst_change.specs.Batch.{tree_edited, tree_batched, rows_beside, entries_beside, HasEntry, HasOnTop}
 use Rattle.mst_change.proofs.Put.Trees.{put_tree}
 use Rattle.mst_change.proofs.Remove.Trees.{removed_tree}

@@ -1,10 +1,7 @@
 -- What a comparison of keys or of layers chooses.
-use Rattle.std.proofs.Common.{◌≡◌, ℕ, ◌<◌, nat_lt, ◌==◌, cond, Bool, true, false, List, refl, ap, Ordering, Less, Equal, Greater, arith}
-use Rattle.std.proofs.lemmas.Bool.{cond_both}
-use Rattle.std.proofs.lemmas.Bool.Decides.{nat_tests}
-use Rattle.mst_key.specs.Map.{key_cmp}
+use Rattle.mst_change.proofs.Names.{◌≡◌, ℕ, ◌<◌, ◌==◌, cond, Bool, true, false, List, refl, ap, Less, Equal, Greater, arith, cond_both, nat_tests, key_cmp, by_order}
+use Rattle.std.proofs.Common.{nat_lt, Ordering}
 use Rattle.mst_key.proofs.KeyOrder.{same_from_equal, less_from_greater}
-use Rattle.mst_node.specs.Trail.{by_order}
 
 -- a fact of what is chosen, from a fact of each choice
 pub at_key : {A : Type 0} (P : A → Type 0) (k key : List ℕ) (a b c : A)

@@ -1,13 +1,10 @@
 -- A migration to the format that the tree has costs nothing.
-use Rattle.std.proofs.Common.{◌≡◌, ◌+◌, Bool, true, not, cond, ◌||◌, List, [], ◌∷◌, inl, inr, refl, sym, ◌∙◌, ap, arith}
+use Rattle.mst_change.proofs.Names.{◌≡◌, ◌+◌, Bool, true, not, cond, ◌||◌, List, [], ◌∷◌, inl, inr, refl, sym, ◌∙◌, ap, arith, Tree, subtrees, same_tree, top_entries, new_rows, same_from_tree}
 use Rattle.std.specs.Prelude.{Contains}
 use Rattle.std.specs.List.{list_any}
 use Rattle.std.proofs.Math.Bool.{or-true}
 use Rattle.mst_key.proofs.SpanLaws.{contains-cases, contains-nothing, contains-first, contains-later}
-use Rattle.mst_node.specs.Tree.{Tree}
-use Rattle.mst_node.specs.Cost.{subtrees, same_tree, top_entries, new_rows}
 use Rattle.mst_node.proofs.Weights.{weigh, weigh_is}
-use Rattle.mst_node.proofs.SameTrees.{same_from_tree}
 
 -- each tree of a list is found in it
 found : (t : Tree) (ts : List Tree) → Contains ts t → list_any (same_tree t) ts ≡ true

@@ -1,18 +1,7 @@
 -- Entries cut at a key: the cells below it, and what follows them. What is made of them keeps these
 -- cells, and is made of what follows.
-use Rattle.std.proofs.Common.{◌≡◌, ℕ, List, [], ◌∷◌, refl, ap, ◌∙◌, Less, Equal, Greater}
-use Rattle.mst_key.specs.declared.format.Format.{Format}
-use Rattle.mst_key.specs.Map.{key_cmp}
-use Rattle.mst_key.proofs.KeyOrder.{greater_from_less}
-use Rattle.mst_node.specs.Tree.{Tree, Entries, last, entry}
-use Rattle.mst_node.specs.Shape.{TreeEntry, with_entries}
-use Rattle.mst_change.specs.Parts.{cells, last_child, first_child, with_first}
-use Rattle.mst_change.specs.Split.{below, entries_below, above, entries_above}
-use Rattle.mst_change.specs.Put.{put_among, put_at, put_in_gap}
-use Rattle.mst_change.specs.Join.{join}
-use Rattle.mst_change.specs.Remove.{tree_remove, entries_remove}
+use Rattle.mst_change.proofs.Names.{◌≡◌, ℕ, List, [], ◌∷◌, refl, ap, ◌∙◌, Less, Equal, Greater, Format, key_cmp, greater_from_less, Tree, Entries, last, entry, TreeEntry, with_entries, cells, last_child, first_child, with_first, below, entries_below, above, entries_above, put_among, put_at, put_in_gap, join, tree_remove, entries_remove, split_rows, gap_rows, put_rows, put_gap_rows, join_rows, remove_rows, entries_remove_rows}
 use Rattle.mst_change.specs.Gap.{CellsBelow, FallsFirst}
-use Rattle.mst_change.specs.Cost.{split_rows, gap_rows, put_rows, put_gap_rows, join_rows, remove_rows, entries_remove_rows}
 use Rattle.mst_change.proofs.Choices.{chosen}
 
 -- ---- the cells below the key

@@ -9,3 +9,4 @@ pub mod Cost
 pub mod Worked
 pub mod Formats
 pub mod Batch
+pub mod Names

@@ -1,17 +1,11 @@
 -- Worked puts and removes on trees, and what they cost. The first trees are given with their
 -- layers; those of the maps are computed, through SHA-256.
-use Rattle.std.proofs.Common.{◌≡◌, ℕ, List, [], ◌∷◌, true, false, refl}
+use Rattle.mst_change.proofs.Names.{◌≡◌, ℕ, List, [], ◌∷◌, true, false, refl, Pair, Tree, empty, node, last, entry, same_tree, is_subtree, new_rows, cost, weight, below, above, join, put_at, tree_remove, split_rows, put_rows, remove_rows, put_cost, remove_cost}
 use Rattle.sha2.specs.Sha256.{sha256, first_words, schedule, rounds, compress, hash_after, digest_bytes}
 use Rattle.mst_key.specs.declared.format.Format.TheVariants.{One, Two}
 use Rattle.mst_key.specs.Layer.{layer_in}
-use Rattle.mst_key.specs.Map.{Pair, put, remove}
-use Rattle.mst_node.specs.Tree.{Tree, empty, node, last, entry, entries_of, tree_within, tree}
-use Rattle.mst_node.specs.Cost.{same_tree, is_subtree, new_rows, cost, weight}
-use Rattle.mst_change.specs.Split.{below, above}
-use Rattle.mst_change.specs.Join.{join}
-use Rattle.mst_change.specs.Put.{put_at}
-use Rattle.mst_change.specs.Remove.{tree_remove}
-use Rattle.mst_change.specs.Cost.{split_rows, put_rows, remove_rows, put_cost, remove_cost}
+use Rattle.mst_key.specs.Map.{put, remove}
+use Rattle.mst_node.specs.Tree.{entries_of, tree_within, tree}
 
 abbrev a : List ℕ
 a = 97 ∷ []

@@ -1,7 +1,5 @@
 -- What holds of each pair or event of a list: by recursion on the list, as the definitions say it.
-use Rattle.std.proofs.Common.{◌≡◌, Bool, true, List, [], ◌∷◌, ◌++◌, filter, refl, ap, ◌∙◌}
-use Rattle.std.proofs.lemmas.Bool.{cond_both, cond-true, cond-false}
-use Rattle.std.specs.List.{AllByRecursion}
+use Rattle.mst_key.proofs.Names.{◌≡◌, Bool, true, List, [], ◌∷◌, ◌++◌, filter, refl, ap, ◌∙◌, cond_both, cond-true, cond-false, AllByRecursion}
 use mathlib.Core.Bool.{false}
 
 module _ {X : Type 0} where

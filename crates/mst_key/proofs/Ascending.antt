@@ -1,11 +1,6 @@
 -- The map after any history rises, whatever the sizes of its keys and values.
-use Rattle.std.proofs.Common.{List, [], ◌∷◌, not, is_eq}
-use Rattle.mst_key.specs.declared.history.Change.{Change}
-use Rattle.mst_key.specs.declared.history.Change.TheVariants.{Put, Remove, Migrate, Batch}
-use Rattle.mst_key.specs.declared.history.Edit.{Edit}
+use Rattle.mst_key.proofs.Names.{List, [], ◌∷◌, not, is_eq, Change, Put, Remove, Migrate, Batch, Edit, edited, batched, History, changed, after_from, after, Pair, key_cmp, IsAscending}
 use Rattle.mst_key.specs.declared.history.Edit.TheVariants as edit
-use Rattle.mst_key.specs.History.{edited, batched, History, changed, after_from, after}
-use Rattle.mst_key.specs.Map.{Pair, key_cmp, IsAscending}
 use Rattle.mst_key.proofs.MapLaws.{IsAscending-put, IsAscending-filter}
 
 pub IsAscending-edited : (m : List Pair) (e : Edit) → IsAscending m → IsAscending (edited m e)

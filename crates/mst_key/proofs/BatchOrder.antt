@@ -1,13 +1,9 @@
 -- What edits leave a key, one by one; edits of distinct keys leave one map in any order.
-use Rattle.std.proofs.Common.{◌≡◌, ◌≢◌, ℕ, zero, suc, cond, ◌⊎◌, inl, inr, List, [], ◌∷◌, ◌++◌, Option, Contains, is_eq, refl, sym, ap, ◌∙◌, arith}
-use Rattle.std.proofs.lemmas.Bool.{cond-true, cond-false}
-use Rattle.std.proofs.lemmas.List.Elements.{Contains-append_cases, Contains-append_right}
+use Rattle.mst_key.proofs.Names.{◌≡◌, ◌≢◌, ℕ, zero, suc, cond, ◌⊎◌, inl, inr, List, [], ◌∷◌, ◌++◌, Option, Contains, is_eq, refl, sym, ap, ◌∙◌, arith, cond-true, cond-false, Contains-append_right, Edit, batched, key_of, value_of, value_after, IsEdited, Pair, IsAscending, key_cmp, map_get}
+use Rattle.std.proofs.lemmas.List.Elements.{Contains-append_cases}
 use Rattle.std.proofs.lemmas.List.Sorted.{Contains-permutation, IsPermutation-sym}
 use Rattle.std.specs.List.Sorted.{IsPermutation}
-use Rattle.mst_key.specs.declared.history.Edit.{Edit}
-use Rattle.mst_key.specs.History.{batched, key_of, value_of, value_after, IsEdited}
 use Rattle.mst_key.specs.Edits.{HaveOwnKeys}
-use Rattle.mst_key.specs.Map.{Pair, IsAscending, key_cmp, map_get}
 use Rattle.mst_key.proofs.Batches.{batched_alike}
 use Rattle.mst_key.proofs.KeyOrder.{by_same, test_of_same, test_of_other}
 

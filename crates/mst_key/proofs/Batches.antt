@@ -1,10 +1,6 @@
 -- Batches: what a look-up finds after one, and which of them leave one map.
-use Rattle.std.proofs.Common.{◌≡◌, ℕ, cond, List, [], ◌∷◌, Option, Some, None, is_eq, refl, sym, ap, ◌∙◌}
-use Rattle.std.proofs.lemmas.Bool.{cond-true, cond-false}
-use Rattle.mst_key.specs.declared.history.Edit.{Edit}
+use Rattle.mst_key.proofs.Names.{◌≡◌, ℕ, cond, List, [], ◌∷◌, Option, Some, None, is_eq, refl, sym, ap, ◌∙◌, cond-true, cond-false, Edit, edited, batched, key_of, value_of, value_after, Pair, IsAscending, key_cmp, map_get, put, remove}
 use Rattle.mst_key.specs.declared.history.Edit.TheVariants as edit
-use Rattle.mst_key.specs.History.{edited, batched, key_of, value_of, value_after}
-use Rattle.mst_key.specs.Map.{Pair, IsAscending, key_cmp, map_get, put, remove}
 use Rattle.mst_key.proofs.Ascending.{IsAscending-batched}
 use Rattle.mst_key.proofs.KeyOrder.{by_same, test_of_same, test_of_other}
 use Rattle.mst_key.proofs.MapLaws.{map_get-put_same, map_get-put_other, map_get-remove_same, map_get-remove_other, map_determined}

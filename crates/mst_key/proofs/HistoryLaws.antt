@@ -1,17 +1,9 @@
 -- The laws of histories: the map after them, one history that begins another, and the events of a
 -- pass.
-use Rattle.std.proofs.Common.{◌≡◌, ℕ, Some, None, ◌+◌, ◌==◌, ◌⊎◌, inl, inr, List, [], ◌∷◌, ◌++◌, length, refl, sym, ap, ◌∙◌, subst, append_assoc, length-append, arith}
-use Rattle.std.proofs.lemmas.List.{append-nil}
-use Rattle.std.proofs.lemmas.List.Elements.{filter-append}
-use Rattle.mst_key.specs.declared.history.Change.{Change}
-use Rattle.mst_key.specs.declared.history.Change.TheVariants.{Put, Remove, Migrate, Batch}
+use Rattle.mst_key.proofs.Names.{◌≡◌, ℕ, Some, None, ◌+◌, ◌==◌, ◌⊎◌, inl, inr, List, [], ◌∷◌, ◌++◌, length, refl, sym, ap, ◌∙◌, subst, append_assoc, length-append, arith, append-nil, filter-append, Change, Put, Remove, Migrate, Batch, Edit, Format, AllByRecursion, edited, batched, had, reply, key_of, IsEdited, History, changed, format_after, after_from, after, events_of, IsPrefix, Pair, IsMap, map_get, put, remove}
 use Rattle.mst_key.specs.declared.history.Event.{Event}
-use Rattle.mst_key.specs.declared.history.Edit.{Edit}
 use Rattle.mst_key.specs.declared.history.Edit.TheVariants as edit
-use Rattle.mst_key.specs.declared.format.Format.{Format}
-use Rattle.std.specs.List.{AllByRecursion}
-use Rattle.mst_key.specs.History.{edited, batched, had, reply, change_of, key_of, IsEdited, IsSmall, singles, History, changed, changed_format, format_after, IsAbout, IsMigration, LeavesAlone, KeepsFormat, after_from, after, events_of, IsPrefix, IsWithinLimits, IsPossible}
-use Rattle.mst_key.specs.Map.{Pair, IsMap, map_get, put, remove}
+use Rattle.mst_key.specs.History.{change_of, IsSmall, singles, changed_format, IsAbout, IsMigration, LeavesAlone, KeepsFormat, IsWithinLimits, IsPossible}
 use Rattle.mst_key.proofs.Alls.{alls-append, alls-front}
 use Rattle.mst_key.proofs.MapLaws.{IsMap-nil, IsMap-put, IsMap-remove, map_get-put_same, map_get-remove_same, map_get-put_other, map_get-remove_other}
 

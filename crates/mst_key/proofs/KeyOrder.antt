@@ -1,11 +1,11 @@
 -- The order of keys is total, and two keys that it calls equal are one list of bytes.
-use Rattle.std.proofs.Common.{◌≡◌, ◌≢◌, ℕ, true, false, List, [], ◌∷◌, ◌++◌, ◌<◌, ◌==◌, nat_lt, cond, refl, sym, ap, ◌∙◌, Ordering, Less, Equal, Greater, is_eq, is_lt, is_gt, true≢false}
-use Rattle.std.proofs.lemmas.Bool.{cond-true, lt-ltb, false_from_ne_true}
+use Rattle.mst_key.proofs.Names.{◌≡◌, ◌≢◌, ℕ, true, false, List, [], ◌∷◌, ◌++◌, ◌<◌, ◌==◌, cond, refl, sym, ap, ◌∙◌, Ordering, Less, Equal, Greater, is_eq, is_lt, is_gt, true≢false, cond-true, key_cmp}
+use Rattle.std.proofs.Common.{nat_lt}
+use Rattle.std.proofs.lemmas.Bool.{lt-ltb, false_from_ne_true}
 use Rattle.std.proofs.lemmas.Cmp.{nat_cmp_total, nat_list_cmp_total, tied_itself}
 use Rattle.std.specs.Cmp.{IsTotalOrder}
 use Rattle.std.specs.Cmp.Lexicographic.{texts_ties, bytes_decides}
 use Rattle.std.specs.Ordering.{ordering_reverse, ordering_then}
-use Rattle.mst_key.specs.Map.{key_cmp}
 
 pub key_cmp-total : IsTotalOrder key_cmp
 key_cmp-total = nat_list_cmp_total

@@ -1,8 +1,7 @@
 -- The layers of keys, computed through SHA-256. The digests are from another program (Python's
 -- hashlib).
-use Rattle.std.proofs.Common.{◌≡◌, [], ◌∷◌, refl}
+use Rattle.mst_key.proofs.Names.{◌≡◌, [], ◌∷◌, refl, One, Two}
 use Rattle.sha2.specs.Sha256.{sha256, first_words, schedule, rounds, compress, hash_after, digest_bytes}
-use Rattle.mst_key.specs.declared.format.Format.TheVariants.{One, Two}
 use Rattle.mst_key.specs.Layer.{layer_in}
 
 -- the digest of `8` begins with the bytes 2c 62

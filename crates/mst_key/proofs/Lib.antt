@@ -10,3 +10,4 @@ pub mod Layers
 pub mod Zeros
 pub mod Batches
 pub mod BatchOrder
+pub mod Names

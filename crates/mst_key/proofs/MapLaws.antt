@@ -1,10 +1,5 @@
 -- The laws of `map_get`, `put` and `remove`, and that a map is determined by its look-ups.
-use Rattle.std.proofs.Common.{◌≡◌, ◌≢◌, ℕ, Bool, true, false, not, cond, List, [], ◌∷◌, ◌++◌, Option, Some, None, Contains, filter, refl, sym, ap, ◌∙◌, subst, Ordering, Less, Equal, Greater, is_eq, is_lt, is_gt, true≢false, arith}
-use Rattle.std.proofs.lemmas.Bool.{cond-true, cond-false, cond_both}
-use Rattle.std.proofs.lemmas.List.Elements.{All-from_recursion, All-contains, Contains-append_right}
-use Rattle.std.specs.List.{AllByRecursion}
-use Rattle.mst_key.specs.Bytes.{IsKey, IsValue}
-use Rattle.mst_key.specs.Map.{Pair, key_cmp, AllBelow, AllAbove, IsAscending, IsMap, map_get, put, remove}
+use Rattle.mst_key.proofs.Names.{◌≡◌, ◌≢◌, ℕ, Bool, true, false, not, cond, List, [], ◌∷◌, ◌++◌, Option, Some, None, Contains, filter, refl, sym, ap, ◌∙◌, subst, Ordering, Less, Equal, Greater, is_eq, is_lt, is_gt, true≢false, arith, cond-true, cond-false, cond_both, All-from_recursion, All-contains, Contains-append_right, AllByRecursion, IsKey, IsValue, Pair, key_cmp, AllBelow, AllAbove, IsAscending, IsMap, map_get, put, remove}
 use Rattle.mst_key.proofs.Alls.{alls-append, alls-weaker, alls-both, alls-filter, alls-passes}
 use Rattle.mst_key.proofs.KeyOrder.{key_cmp-itself, test_of_same, test_of_other, less_chain, less_from_greater, greater_from_less, other_from_less, less_from_test, greater_from_test, by_order, by_same}
 

@@ -1,12 +1,10 @@
 -- The laws of `map_next` and `map_range`.
-use Rattle.std.proofs.Common.{◌≡◌, ◌≢◌, ◌⊎◌, ℕ, zero, suc, Bool, true, false, not, cond, ◌&&◌, List, [], ◌∷◌, Option, Some, None, Contains, filter, find, take, length, IfSome, inl, inr, ⊎_elim, refl, sym, ap, ◌∙◌, subst, Ordering, Less, Equal, Greater, is_lt, is_gt, ◌≤◌, ◌<◌, arith}
+use Rattle.mst_key.proofs.Names.{◌≡◌, ◌≢◌, ◌⊎◌, ℕ, zero, suc, Bool, true, false, not, cond, List, [], ◌∷◌, Option, Some, None, Contains, filter, length, inl, inr, refl, sym, ap, ◌∙◌, subst, Ordering, Less, Equal, Greater, is_lt, is_gt, ◌≤◌, ◌<◌, arith, All-from_recursion, All-contains, Contains-append_right, AllByRecursion, IsKey, IsValue, Pair, key_cmp, AllBelow, IsAscending, IsMap}
+use Rattle.std.proofs.Common.{◌&&◌, find, take, IfSome, ⊎_elim}
 use Rattle.std.proofs.lemmas.List.{length-take}
-use Rattle.std.proofs.lemmas.List.Elements.{All-from_recursion, All-contains, Contains-append_right}
 use Rattle.std.proofs.lemmas.Bool.Decides.{Decides-and}
 use Rattle.std.specs.Bool.{Decides}
-use Rattle.std.specs.List.{AllByRecursion}
-use Rattle.mst_key.specs.Bytes.{IsKey, IsValue}
-use Rattle.mst_key.specs.Map.{Pair, key_cmp, AllBelow, IsAscending, IsMap, above, from_on, below, map_next, map_range}
+use Rattle.mst_key.specs.Map.{above, from_on, below, map_next, map_range}
 use Rattle.mst_key.proofs.Alls.{alls-filter}
 use Rattle.mst_key.proofs.KeyOrder.{less_from_greater, greater_from_test, greater_from_less, less_from_test}
 use Rattle.mst_key.proofs.MapLaws.{IsAscending-filter}

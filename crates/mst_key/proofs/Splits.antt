@@ -1,10 +1,6 @@
 -- What `map_get`, `put` and `remove` give at a place of the list: between the pairs below a key and
 -- the pairs above it.
-use Rattle.std.proofs.Common.{◌≡◌, ℕ, Bool, refl, subst, true, false, not, List, [], ◌∷◌, ◌++◌, Some, None, ◌+◌, length, length-append, arith, filter, sym, ap, ◌∙◌, append_assoc, Ordering, Less, Equal, is_eq, is_lt, is_gt}
-use Rattle.std.proofs.lemmas.List.{append-nil}
-use Rattle.std.proofs.lemmas.List.Elements.{filter-append}
-use Rattle.std.proofs.lemmas.Bool.{cond-true, cond-false}
-use Rattle.mst_key.specs.Map.{Pair, key_cmp, AllBelow, AllAbove, IsAscending, map_get, put, remove}
+use Rattle.mst_key.proofs.Names.{◌≡◌, ℕ, Bool, refl, subst, true, false, not, List, [], ◌∷◌, ◌++◌, Some, None, ◌+◌, length, length-append, arith, filter, sym, ap, ◌∙◌, append_assoc, Ordering, Less, Equal, is_eq, is_lt, is_gt, append-nil, filter-append, cond-true, cond-false, Pair, key_cmp, AllBelow, AllAbove, IsAscending, map_get, put, remove}
 use Rattle.mst_key.proofs.Alls.{alls-front, alls-back, alls-weaker, filter-whole, filter-nothing}
 use Rattle.mst_key.proofs.KeyOrder.{by_order, equal_from_same, same_from_equal, greater_from_less}
 use Rattle.mst_key.proofs.MapLaws.{put-unchanged, remove-unchanged, AllAbove-less, map_get-here, map_get-below, map_get-above, map_get-append_absent, map_get-append_nothing}

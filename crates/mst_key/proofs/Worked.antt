@@ -1,12 +1,8 @@
 -- Worked cases of the definitions, computed. The keys are `a`, `ab`, `b` and `c` in ASCII, the
 -- values `x`, `y` and `z`.
-use Rattle.std.proofs.Common.{◌≡◌, ℕ, ◌++◌, List, [], ◌∷◌, Some, None, refl, Less, Equal, Greater, arith}
-use Rattle.mst_key.specs.declared.history.Change.TheVariants.{Put, Remove, Migrate, Batch}
-use Rattle.mst_key.specs.declared.history.Edit.{Edit}
+use Rattle.mst_key.proofs.Names.{◌≡◌, ℕ, ◌++◌, List, [], ◌∷◌, Some, None, refl, Less, Equal, Greater, arith, Put, Remove, Migrate, Batch, Edit, One, Two, History, after, format_after, had, was, reply, events_of, IsPrefix, Pair, key_cmp, IsMap, map_get, put, remove}
 use Rattle.mst_key.specs.declared.history.Edit.TheVariants as edit
-use Rattle.mst_key.specs.declared.format.Format.TheVariants.{One, Two}
-use Rattle.mst_key.specs.History.{History, after, format_after, had, was, done, reply, events_of, IsPrefix}
-use Rattle.mst_key.specs.Map.{Pair, key_cmp, IsMap, map_get, put, remove}
+use Rattle.mst_key.specs.History.{done}
 
 abbrev a : List ℕ
 a = 97 ∷ []

@@ -1,10 +1,6 @@
 -- How great a layer is: no more digits begin a digest than it has.
-use Rattle.std.proofs.Common.{◌≡◌, ℕ, suc, ◌+◌, ◌*◌, ◌≤◌, ◌==◌, Bool, true, false, cond, List, [], ◌∷◌, length, refl, arith}
-use Rattle.sha2.specs.Sha256.{sha256}
-use Rattle.sha2.proofs.Facts256.{length-sha256}
-use Rattle.mst_key.specs.declared.format.Format.{Format}
-use Rattle.mst_key.specs.declared.format.Format.TheVariants.{One, Two}
-use Rattle.mst_key.specs.Layer.{digits, zeros_in_front, layer_in, digits_a_byte, most_layer}
+use Rattle.mst_key.proofs.Names.{◌≡◌, ℕ, suc, ◌+◌, ◌*◌, ◌≤◌, ◌==◌, Bool, true, false, cond, List, [], ◌∷◌, length, refl, arith, sha256, length-sha256, Format, One, Two, digits, zeros_in_front}
+use Rattle.mst_key.specs.Layer.{layer_in, digits_a_byte, most_layer}
 
 pub zeros_le : (ds : List ℕ) → zeros_in_front ds ≤ length ds
 zeros_le [] = omega arith

@@ -1,16 +1,7 @@
 -- How many puts of a load were made, worker by worker.
-use Rattle.std.proofs.Common.{◌≡◌, ◌≢◌, inl, inr, ℕ, zero, suc, ◌+◌, ◌-◌, ◌*◌, ◌<◌, ◌≤◌, Bool, cond, List, [], ◌∷◌, ◌++◌, length, length-append, get_or, refl, sym, ap, ◌∙◌, subst, eq-eqb, ne_eqb, arith}
-use Rattle.std.specs.List.{All, AllByRecursion}
-use Rattle.std.proofs.lemmas.Grind.{not_there}
+use Rattle.mst_load.proofs.Names.{◌≡◌, ◌≢◌, inl, inr, ℕ, zero, suc, ◌+◌, ◌-◌, ◌*◌, ◌<◌, ◌≤◌, Bool, cond, List, [], ◌∷◌, ◌++◌, length, length-append, get_or, refl, sym, ap, ◌∙◌, subst, eq-eqb, ne_eqb, arith, All, AllByRecursion, not_there, dite, ℕ_discrete, alls-append, Event, History, events_of, Known, new_pass, change_of, event_of, calls_of, HasPut, MadePuts, HasWorked, HasAllCalls}
 use Rattle.std.proofs.Math.Nat.{suc-mul, zero-mul}
-use mathlib.Core.Logic.{dite}
-use native.Mathlib.Decide.{ℕ_discrete}
-use Rattle.mst_key.proofs.Alls.{alls-append}
-use Rattle.mst_key.specs.declared.history.Event.{Event}
-use Rattle.mst_key.specs.History.{History, IsAbout, events_of}
-use Rattle.mst_store.specs.Passes.{Known, new_pass}
-use Rattle.mst_load.specs.Calls.{change_of, event_of, calls_of}
-use Rattle.mst_load.specs.Workers.{HasPut, MadePuts, HasWorked, HasAllCalls}
+use Rattle.mst_key.specs.History.{IsAbout}
 use Rattle.mst_load.proofs.Working.{put_same, refused_same}
 
 -- the byte at which a key begins: that of a writer's key is the writer's number

@@ -1,18 +1,11 @@
 -- The calls of the writers go round few keys: a map that any of them leave has at most 288 pairs.
-use Rattle.std.proofs.Common.{◌≡◌, ◌≢◌, ℕ, zero, suc, ◌+◌, ◌-◌, ◌*◌, ◌<◌, ◌≤◌, nat_lt, Bool, true, false, ◌&&◌, List, [], ◌∷◌, length, take, filter, sym, ap, subst, ◌∙◌, arith, true≢false}
-use Rattle.std.specs.List.{AllByRecursion}
+use Rattle.mst_load.proofs.Names.{◌≡◌, ◌≢◌, ℕ, zero, suc, ◌+◌, ◌-◌, ◌*◌, ◌<◌, ◌≤◌, Bool, true, false, List, [], ◌∷◌, length, take, filter, sym, ap, subst, ◌∙◌, arith, true≢false, AllByRecursion, Less, nat_tests, dite, ℕ_discrete, Change, Put, Remove, Migrate, Batch, History, after_from, after, changed, Pair, key_cmp, AllAbove, alls-append, IsAscending-after, equal_from_same, key_cmp-first_byte}
+use Rattle.std.proofs.Common.{nat_lt, ◌&&◌}
 use Rattle.std.specs.Ordering.{is_lt, is_gt}
-use Rattle.std.specs.declared.cmp.Ordering.TheVariants.{Less, Equal, Greater}
-use Rattle.std.proofs.lemmas.Bool.Decides.{nat_tests}
-use mathlib.Core.Logic.{dite}
-use native.Mathlib.Decide.{ℕ_discrete}
-use Rattle.mst_key.specs.declared.history.Change.{Change}
-use Rattle.mst_key.specs.declared.history.Change.TheVariants.{Put, Remove, Migrate, Batch}
-use Rattle.mst_key.specs.History.{History, after_from, after, changed}
-use Rattle.mst_key.specs.Map.{Pair, key_cmp, AllAbove, IsAscending}
-use Rattle.mst_key.proofs.Alls.{alls-append, alls-filter}
-use Rattle.mst_key.proofs.Ascending.{IsAscending-after}
-use Rattle.mst_key.proofs.KeyOrder.{equal_from_same, key_cmp-first_byte, greater_from_less}
+use Rattle.std.specs.declared.cmp.Ordering.TheVariants.{Equal, Greater}
+use Rattle.mst_key.specs.Map.{IsAscending}
+use Rattle.mst_key.proofs.Alls.{alls-filter}
+use Rattle.mst_key.proofs.KeyOrder.{greater_from_less}
 
 -- ---- the places that keys may have
 

@@ -1,9 +1,7 @@
 -- Rows of small maps: a version holds at most two rows for each pair, and so few versions hold at
 -- most that many times their number.
-use Rattle.std.proofs.Common.{◌≡◌, ℕ, zero, suc, ◌+◌, ◌*◌, ◌≤◌, ◌==◌, Bool, true, false, not, cond, ◌||◌, List, [], ◌∷◌, length, take, refl, ap, arith}
-use Rattle.std.proofs.lemmas.Bool.Decides.{nat_tests}
-use Rattle.mst_key.specs.declared.format.Format.{Format}
-use Rattle.mst_key.specs.History.{History, after, format_after}
+use Rattle.mst_load.proofs.Names.{◌≡◌, ℕ, zero, suc, ◌+◌, ◌*◌, ◌≤◌, ◌==◌, Bool, true, false, cond, List, [], ◌∷◌, length, take, refl, ap, arith, nat_tests, Format, History, after, format_after}
+use Rattle.std.proofs.Common.{not, ◌||◌}
 use Rattle.mst_node.specs.Cost.{subtrees}
 use Rattle.mst_node.specs.Stays.{tree_at, is_kept, has_stayed, rows_first_at, held_below, held}
 use Rattle.mst_node.proofs.Weights.{weigh_is}

@@ -1,23 +1,16 @@
 -- What the passes of a load have seen when they settle: no event came since, and none of the events
 -- is a migration, so that the version is one of the format that the store was opened with.
-use Rattle.std.proofs.Common.{◌≡◌, ℕ, zero, suc, ◌+◌, ◌<◌, ◌≤◌, Bool, true, false, cond, List, [], ◌∷◌, ◌++◌, length, length-append, append-nil, get_or, take, drop, take_all, refl, sym, ap, ◌∙◌, subst, eq-eqb, arith}
+use Rattle.mst_load.proofs.Names.{◌≡◌, ℕ, zero, suc, ◌+◌, ◌<◌, ◌≤◌, Bool, true, false, cond, List, [], ◌∷◌, ◌++◌, length, length-append, get_or, take, refl, sym, ap, ◌∙◌, subst, eq-eqb, arith, All, AllByRecursion, Contains, cond-true, nat_tests, Format, One, Event, History, IsMigration, KeepsFormat, after, events_of, IsPrefix, events_of-append, IsPrefix-chain, Known, Looks, format_seen, IsSamePass, numbers, AreAllPasses, Settled, none_held, HasSettled}
+use Rattle.std.proofs.Common.{append-nil, drop, take_all}
 use Rattle.std.specs.Prelude.{◌==◌, filter}
-use Rattle.std.specs.List.{All, AllByRecursion, Contains}
-use Rattle.std.proofs.lemmas.Bool.{cond-true}
-use Rattle.std.proofs.lemmas.Bool.Decides.{nat_tests}
 use Rattle.std.proofs.lemmas.List.{get_or-map, length-map, take-append-le}
 use Rattle.std.proofs.lemmas.List.Elements.{All-append, All-map}
 use Rattle.std.proofs.Math.ListN.{get_or-append}
-use Rattle.mst_key.specs.declared.format.Format.{Format}
-use Rattle.mst_key.specs.declared.format.Format.TheVariants.{One}
-use Rattle.mst_key.specs.declared.history.Event.{Event}
-use Rattle.mst_key.specs.History.{History, IsMigration, KeepsFormat, after, events_of, IsPrefix}
-use Rattle.mst_key.proofs.HistoryLaws.{format_after_none, events_of-append, IsPrefix-chain, IsPrefix-both_ways}
+use Rattle.mst_key.proofs.HistoryLaws.{format_after_none, IsPrefix-both_ways}
 use Rattle.mst_node.specs.Text as text
-use Rattle.mst_store.specs.Passes.{Known, Looks, format_seen, IsSamePass}
-use Rattle.mst_store.specs.Settling.{numbers, having_seen, IsOfOne, AreAllPasses, Settled}
-use Rattle.mst_store.proofs.AllPasses.{none_held, all_settled}
-use Rattle.mst_load.specs.Reports.{IsOneVersion, IsSettled, HasSettled}
+use Rattle.mst_store.specs.Settling.{having_seen, IsOfOne}
+use Rattle.mst_store.proofs.AllPasses.{all_settled}
+use Rattle.mst_load.specs.Reports.{IsOneVersion, IsSettled}
 use Rattle.mst_load.proofs.Returning.{all_same}
 
 -- ---- events one by one, and in a list

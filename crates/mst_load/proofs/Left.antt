@@ -1,18 +1,11 @@
 -- The map that the calls of the writers leave, pair by pair.
-use Rattle.std.proofs.Common.{◌≡◌, ◌≢◌, ℕ, zero, suc, ◌+◌, ◌-◌, ◌%◌, ◌<◌, ◌≤◌, ◌==◌, List, [], ◌∷◌, ◌++◌, Option, Some, None, refl, sym, ap, ◌∙◌, append_assoc, eq-eqb, ne_eqb, arith}
-use Rattle.std.specs.List.{AllByRecursion}
-use Rattle.std.proofs.lemmas.Bool.{cond-true, cond-false}
-use Rattle.std.proofs.lemmas.List.{append-nil}
-use Rattle.std.specs.declared.cmp.Ordering.TheVariants.{Less}
-use mathlib.Core.Logic.{dite}
-use native.Mathlib.Decide.{ℕ_discrete}
-use Rattle.mst_key.proofs.Alls.{alls-append}
-use Rattle.mst_key.proofs.HistoryLaws.{after_from-append, after-append}
-use Rattle.mst_key.proofs.KeyOrder.{key_cmp-first_byte, equal_from_same}
+use Rattle.mst_load.proofs.Names.{◌≡◌, ◌≢◌, ℕ, zero, suc, ◌+◌, ◌-◌, ◌%◌, ◌<◌, ◌≤◌, ◌==◌, List, [], ◌∷◌, ◌++◌, Option, Some, None, refl, sym, ap, ◌∙◌, eq-eqb, ne_eqb, arith, AllByRecursion, cond-true, append-nil, Less, dite, ℕ_discrete, alls-append, after-append, key_cmp-first_byte, equal_from_same, after_from, after, Pair, key_cmp, AllAbove, key_of, value_of, event_of, calls_of, all_calls, round_left}
+use Rattle.std.proofs.Common.{append_assoc}
+use Rattle.std.proofs.lemmas.Bool.{cond-false}
+use Rattle.mst_key.proofs.HistoryLaws.{after_from-append}
 use Rattle.mst_key.proofs.Splits.{put-right, put-left, put-first}
-use Rattle.mst_key.specs.History.{after_from, after}
-use Rattle.mst_key.specs.Map.{Pair, key_cmp, AllBelow, AllAbove, put}
-use Rattle.mst_load.specs.Calls.{key_of, value_of, event_of, calls_of, all_calls, map_left, last, pair_left, round_left}
+use Rattle.mst_key.specs.Map.{AllBelow, put}
+use Rattle.mst_load.specs.Calls.{map_left, last, pair_left}
 
 -- ---- the last call at a place
 

@@ -8,3 +8,4 @@ mod Merged
 mod FewRows
 mod FewKeys
 mod NoneRefused
+pub mod Names

@@ -1,11 +1,7 @@
 -- Calls of a reader, one after another.
-use Rattle.std.proofs.Common.{◌≡◌, ℕ, suc, ◌+◌, ◌≤◌, Bool, true, false, List, Option, Some, None, length, length-append, refl, sym, ap, subst, ◌∙◌, arith}
+use Rattle.mst_load.proofs.Names.{◌≡◌, ℕ, suc, ◌+◌, ◌≤◌, Bool, true, false, List, Option, Some, None, length, length-append, refl, sym, ap, subst, ◌∙◌, arith, History, after, map_get, Known, key_of, HasHeard}
 use Rattle.std.specs.Prelude.{◌%◌, ◌==◌, if◌then◌else◌}
-use Rattle.mst_key.specs.History.{History, after}
-use Rattle.mst_key.specs.Map.{map_get}
-use Rattle.mst_store.specs.Passes.{Known}
-use Rattle.mst_load.specs.Calls.{key_of}
-use Rattle.mst_load.specs.Listening.{HasAsked, HasHeard, MadeReads, found_in, having_fetched, having_read, nothing_heard}
+use Rattle.mst_load.specs.Listening.{HasAsked, MadeReads, found_in, having_fetched, having_read, nothing_heard}
 use Rattle.mst_load.specs.declared.worker.Heard.{Heard}
 use Rattle.mst_load.proofs.Working.{looked, not_read, read_more}
 

@@ -1,27 +1,15 @@
 -- The map that all calls of the writers leave, in whichever order they came.
-use Rattle.std.proofs.Common.{◌≡◌, ◌≢◌, ℕ, zero, suc, ◌+◌, ◌-◌, ◌*◌, ◌<◌, ◌≤◌, List, [], ◌∷◌, ◌++◌, length, get_or, Option, Some, None, refl, sym, ap, ◌∙◌, subst, arith, false, true, Bool}
-use Rattle.std.specs.List.{AllByRecursion}
+use Rattle.mst_load.proofs.Names.{◌≡◌, ◌≢◌, ℕ, zero, suc, ◌+◌, ◌-◌, ◌*◌, ◌<◌, ◌≤◌, List, [], ◌∷◌, ◌++◌, length, get_or, Option, Some, None, refl, sym, ap, ◌∙◌, subst, arith, false, true, Bool, AllByRecursion, append-nil, dite, ℕ_discrete, alls-append, IsAscending-after, events_of-append, One, Change, Put, Remove, Migrate, Batch, History, after, after_from, changed, events_of, Pair, map_get, Known, new_pass, event_of, calls_of, all_calls, HasSettled}
 use Rattle.std.specs.Str.{bytes_eq}
 use Rattle.std.proofs.lemmas.Bool.Decides.{not_from_Decides}
-use Rattle.std.proofs.lemmas.List.{append-nil}
 use Rattle.std.proofs.lemmas.Slice.Eq.{bytes_eq-Decides}
-use mathlib.Core.Logic.{dite}
-use native.Mathlib.Decide.{ℕ_discrete}
-use Rattle.mst_key.proofs.Alls.{alls-append}
-use Rattle.mst_key.proofs.Ascending.{IsAscending-after}
 use Rattle.mst_key.proofs.Batches.{map_get-batched}
-use Rattle.mst_key.proofs.HistoryLaws.{map_get-changed_other, events_of-append}
+use Rattle.mst_key.proofs.HistoryLaws.{map_get-changed_other}
 use Rattle.mst_key.proofs.KeyOrder.{by_same}
 use Rattle.mst_key.proofs.MapLaws.{map_get-put_same, map_get-put_other, map_get-remove_same, map_get-remove_other, map_determined}
-use Rattle.mst_key.specs.declared.format.Format.TheVariants.{One}
-use Rattle.mst_key.specs.declared.history.Change.{Change}
-use Rattle.mst_key.specs.declared.history.Change.TheVariants.{Put, Remove, Migrate, Batch}
-use Rattle.mst_key.specs.History.{History, after, after_from, changed, events_of, value_after}
-use Rattle.mst_key.specs.Map.{Pair, map_get}
+use Rattle.mst_key.specs.History.{value_after}
 use Rattle.mst_node.specs.Text as text
-use Rattle.mst_store.specs.Passes.{Known, new_pass}
-use Rattle.mst_load.specs.Calls.{event_of, calls_of, all_calls, map_left}
-use Rattle.mst_load.specs.Reports.{HasSettled}
+use Rattle.mst_load.specs.Calls.{map_left}
 use Rattle.mst_load.proofs.Counting.{first_of, IsOwn, IsOfFirst, Counted, AreCounted, by_all, call_own, counted, kept_event, left_event, few_events, full_events}
 use Rattle.mst_load.proofs.Kept.{each_of, pass_at}
 

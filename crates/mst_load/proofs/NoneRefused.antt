@@ -1,26 +1,11 @@
 -- No put of a load is refused: its few keys never need as many rows as the store has, however many
 -- versions the passes pin, and there are fewer events than versions.
-use Rattle.std.proofs.Common.{◌≡◌, ◌≢◌, inl, inr, ℕ, zero, suc, ◌+◌, ◌-◌, ◌*◌, ◌%◌, ◌<◌, ◌≤◌, Bool, true, false, List, [], ◌∷◌, ◌++◌, length, length-append, get_or, refl, sym, ap, ◌∙◌, subst, arith, true≢false}
-use Rattle.std.proofs.lemmas.Bool.Decides.{nat_tests}
-use Rattle.std.proofs.lemmas.Grind.{not_there}
+use Rattle.mst_load.proofs.Names.{◌≡◌, ◌≢◌, inl, inr, ℕ, zero, suc, ◌+◌, ◌-◌, ◌*◌, ◌%◌, ◌<◌, ◌≤◌, Bool, true, false, List, [], ◌∷◌, ◌++◌, length, length-append, get_or, refl, sym, ap, ◌∙◌, subst, arith, true≢false, nat_tests, not_there, dite, ℕ_discrete, alls-append, after-append, IsPrefix-chain, Format, Event, History, after, changed, format_after, events_of, IsPrefix, Pair, ChangeFault, VersionsSpent, NoRoom, StoreId, Known, IsSamePass, new_pass, RefusesAfter, change_of, event_of, HasSettled, HasPut, MadePuts, HasWorked, HasAllCalls}
 use Rattle.std.proofs.lemmas.Nat.{mul-le}
-use mathlib.Core.Logic.{dite}
-use native.Mathlib.Decide.{ℕ_discrete}
-use Rattle.mst_key.proofs.Alls.{alls-append, alls-front}
-use Rattle.mst_key.proofs.HistoryLaws.{after-append, IsPrefix-chain}
-use Rattle.mst_key.specs.declared.format.Format.{Format}
-use Rattle.mst_key.specs.declared.history.Event.{Event}
-use Rattle.mst_key.specs.History.{History, after, changed, changed_format, format_after, events_of, IsPrefix}
-use Rattle.mst_key.specs.Map.{Pair}
+use Rattle.mst_key.proofs.Alls.{alls-front}
+use Rattle.mst_key.specs.History.{changed_format}
 use Rattle.mst_node.specs.Tree.{tree}
-use Rattle.mst_store.specs.declared.faults.ChangeFault.{ChangeFault}
-use Rattle.mst_store.specs.declared.faults.ChangeFault.TheVariants.{VersionsSpent, NoRoom}
-use Rattle.mst_store.specs.Passes.{StoreId, Known, IsSamePass, new_pass}
-use Rattle.mst_store.specs.Waiting.{RefusesAfter}
 use Rattle.mst_versions.specs.Writes.{LacksRoomBeside}
-use Rattle.mst_load.specs.Calls.{change_of, event_of}
-use Rattle.mst_load.specs.Reports.{HasSettled}
-use Rattle.mst_load.specs.Workers.{HasPut, MadePuts, HasWorked, HasAllCalls}
 use Rattle.mst_load.proofs.Counting.{by_all, to_all, nat_stable, all_events}
 use Rattle.mst_load.proofs.FewKeys.{is_call, AreCalls, few_pairs, each_few}
 use Rattle.mst_versions.proofs.FewRows.{few_new}

@@ -1,11 +1,8 @@
 -- All passes of a store, when the workers that had them have returned.
-use Rattle.std.proofs.Common.{◌≡◌, ℕ, suc, ◌+◌, ◌<◌, List, [], ◌∷◌, length, get_or, refl, sym, ap, ◌∙◌, subst, arith}
-use Rattle.std.specs.List.{Contains}
+use Rattle.mst_load.proofs.Names.{◌≡◌, ℕ, suc, ◌+◌, ◌<◌, List, [], ◌∷◌, length, get_or, refl, sym, ap, ◌∙◌, subst, arith, Contains, StoreId, Known, IsSamePass, AreAllPasses, numbers, IsNewOf}
 use Rattle.std.proofs.lemmas.Grind.{merely}
-use Rattle.mst_store.specs.Passes.{StoreId, Known, IsSamePass, new_passes}
-use Rattle.mst_store.specs.Settling.{AreAllPasses, numbers}
+use Rattle.mst_store.specs.Passes.{new_passes}
 use Rattle.mst_store.proofs.AllPasses.{all_new, first_length, first_at}
-use Rattle.mst_load.specs.Workers.{IsNewOf}
 
 same_numbers : (ps qs : List Known) → length qs ≡ length ps
     → ((k : ℕ) (d : Known) → k < length ps → IsSamePass (get_or ps k d) (get_or qs k d))

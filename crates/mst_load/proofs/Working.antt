@@ -1,21 +1,14 @@
 -- Calls of a worker, one after another.
-use Rattle.std.proofs.Common.{◌≡◌, ◌⊎◌, inl, inr, ℕ, zero, suc, ◌+◌, ◌-◌, ◌<◌, ◌≤◌, List, [], ◌∷◌, length, length-append, Result, Ok, Err, IfOk, IfErr, refl, sym, ap, ◌∙◌, subst, arith}
+use Rattle.mst_load.proofs.Names.{◌≡◌, inl, inr, ℕ, zero, suc, ◌+◌, ◌-◌, ◌<◌, ◌≤◌, List, [], ◌∷◌, length, length-append, refl, sym, ap, ◌∙◌, subst, arith, dite, ℕ_discrete, alls-append, History, KeepsFormat, IsMigration, Change, Put, Event, ChangeFault, VersionsSpent, NoRoom, StoreId, Known, IsSamePass, Looks, new_pass, RefusesAfter, key_of, value_of, change_of, event_of, HasPut, MadePuts, HasWritten, HasWorked, IsNewOf, IsWorkerOf}
+use Rattle.std.proofs.Common.{◌⊎◌, Result, Ok, Err, IfOk, IfErr}
 use Rattle.std.specs.Prelude.{Option}
-use mathlib.Core.Logic.{dite, ∥∥₁_map}
-use native.Mathlib.Decide.{ℕ_discrete}
-use Rattle.mst_key.proofs.Alls.{alls-append}
-use Rattle.mst_key.specs.History.{History, KeepsFormat, IsMigration, had}
-use Rattle.mst_key.specs.declared.history.Change.{Change}
-use Rattle.mst_key.specs.declared.history.Change.TheVariants.{Put}
-use Rattle.mst_key.specs.declared.history.Event.{Event}
-use Rattle.mst_store.specs.declared.faults.ChangeFault.{ChangeFault}
-use Rattle.mst_store.specs.declared.faults.ChangeFault.TheVariants.{VersionsSpent, NoRoom}
-use Rattle.mst_store.specs.Passes.{StoreId, Known, IsSamePass, Looks, made_by, new_pass}
-use Rattle.mst_store.specs.Waiting.{WroteAfter, RefusesAfter}
+use mathlib.Core.Logic.{∥∥₁_map}
+use Rattle.mst_key.specs.History.{had}
+use Rattle.mst_store.specs.Passes.{made_by}
+use Rattle.mst_store.specs.Waiting.{WroteAfter}
 use Rattle.mst_load.proofs.Kept.{each_keeps, all_keep}
-use Rattle.mst_load.specs.Calls.{key_of, value_of, change_of, event_of}
 use Rattle.mst_load.specs.declared.worker.Plan.{Plan}
-use Rattle.mst_load.specs.Workers.{HasPut, MadePuts, HasWritten, HasRead, HasWorked, IsNewOf, IsWorkerOf}
+use Rattle.mst_load.specs.Workers.{HasRead}
 
 same_then : (p q r : Known) → IsSamePass p q → IsSamePass q r → IsSamePass p r
 same_then p q r a b = (b.0 ∙ a.0, b.1 ∙ a.1)

@@ -1,13 +1,6 @@
 -- What lies after entries, and the body that is read through it.
-use Rattle.std.proofs.Common.{◌≡◌, ℕ, zero, suc, ◌≤◌, ◌-◌, List, [], ◌∷◌, length, take, drop, get_or, Option, Some, None, true, false, cond, ◌==◌, refl, sym, ◌∙◌, ap, arith}
-use Rattle.std.specs.Prelude.{option_map, is_some}
-use Rattle.std.specs.Int.{w16, from_be_bytes}
-use Rattle.std.proofs.lemmas.Bool.Decides.{nat_tests}
-use Rattle.std.proofs.Math.Seq.{take-length}
-use Rattle.mst_key.specs.declared.format.Format.{Format}
-use Rattle.mst_key.specs.declared.format.Format.TheVariants.{One}
-use Rattle.mst_node.specs.Text.{FlatEntry}
-use Rattle.mst_node.specs.Reading.{◌>>=◌, child_at, entry_at, entries_at, behind_at, whole, body_at, node_of, node_at}
+use Rattle.mst_node.proofs.Names.{◌≡◌, ℕ, zero, suc, ◌≤◌, ◌-◌, List, [], ◌∷◌, length, take, drop, get_or, Option, Some, None, true, false, cond, ◌==◌, refl, sym, ◌∙◌, ap, arith, option_map, is_some, w16, from_be_bytes, nat_tests, take-length, Format, One, FlatEntry, ◌>>=◌, child_at, entry_at, whole, node_of, node_at}
+use Rattle.mst_node.specs.Reading.{entries_at, behind_at, body_at}
 use Rattle.mst_node.proofs.ReadIsSpelled.{some_same}
 
 pub behind_more : (format : Format) (n k : ℕ) (bytes : List ℕ) (p : FlatEntry × List ℕ) → n ≡ suc k

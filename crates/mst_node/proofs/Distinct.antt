@@ -1,12 +1,8 @@
 -- No subtree stands twice in the tree of a map: each has a key, and the keys rise.
-use Rattle.std.proofs.Common.{◌≡◌, ℕ, zero, suc, ◌+◌, ◌<◌, ◌≤◌, Bool, true, false, inl, inr, List, [], ◌∷◌, ◌++◌, length, length-append, refl, sym, ap, subst, arith, Less}
-use Rattle.std.specs.List.{AllByRecursion}
-use Rattle.mst_key.specs.declared.format.Format.{Format}
-use Rattle.mst_key.specs.Map.{Pair, key_cmp, IsAscending}
+use Rattle.mst_node.proofs.Names.{◌≡◌, ℕ, zero, suc, ◌+◌, ◌<◌, ◌≤◌, Bool, true, false, inl, inr, List, [], ◌∷◌, ◌++◌, length, length-append, refl, sym, ap, subst, arith, AllByRecursion, Format, Pair, key_cmp, IsAscending, IsAscending-back, Tree, empty, node, Entries, last, entry, entry_count, pairs, entries_pairs, IsMst, IsMstEntries, subtrees, entries_subtrees, same_tree}
+use Rattle.std.proofs.Common.{Less}
 use Rattle.mst_key.proofs.KeyOrder.{less_chain, other_from_less}
-use Rattle.mst_key.proofs.Splits.{IsAscending-front, IsAscending-back, IsAscending-below, IsAscending-above}
-use Rattle.mst_node.specs.Tree.{Tree, empty, node, Entries, last, entry, entry_count, pairs, entries_pairs, IsMst, IsMstEntries}
-use Rattle.mst_node.specs.Cost.{subtrees, entries_subtrees, same_tree}
+use Rattle.mst_key.proofs.Splits.{IsAscending-front, IsAscending-below, IsAscending-above}
 use Rattle.mst_node.proofs.InTrees.{InTree, InEntries, pairs_hold, entries_pairs_hold}
 use Rattle.mst_node.proofs.SameTrees.{tree_from_same}
 

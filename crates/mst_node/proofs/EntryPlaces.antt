@@ -1,9 +1,8 @@
 -- The entries of a body, place by place.
-use Rattle.std.proofs.Common.{◌≡◌, ℕ, zero, suc, ◌<◌, ◌≤◌, List, [], ◌∷◌, length, map, Option, Some, None, refl, sym, ◌∙◌, ap, subst, arith, rules}
-use Rattle.std.specs.Prelude.{option_map, unwrap_or, IsSome, slice_get}
-use Rattle.mst_key.specs.declared.format.Format.{Format}
-use Rattle.mst_node.specs.Text.{FlatEntry, child_before}
-use Rattle.mst_node.specs.Reading.{◌>>=◌, child_at, entry_at, entries_at, behind_at, whole, body_at, body_or_empty}
+use Rattle.mst_node.proofs.Names.{◌≡◌, ℕ, zero, suc, ◌<◌, ◌≤◌, List, [], ◌∷◌, length, map, Option, Some, None, refl, sym, ◌∙◌, ap, subst, arith, rules, option_map, IsSome, Format, FlatEntry, ◌>>=◌, child_at, entry_at, whole, body_or_empty}
+use Rattle.std.specs.Prelude.{unwrap_or, slice_get}
+use Rattle.mst_node.specs.Text.{child_before}
+use Rattle.mst_node.specs.Reading.{entries_at, behind_at, body_at}
 use Rattle.mst_node.proofs.ReadIsSpelled.{bind_ok, some_same}
 use Rattle.mst_node.proofs.BytesAfterEntries.{behind-entries}
 

@@ -1,15 +1,6 @@
 -- Keys that fit a node, tested from left to right.
-use Rattle.std.proofs.Common.{◌≡◌, ℕ, zero, suc, ◌<◌, List, [], ◌∷◌, Option, Some, None, sym, ◌∙◌, ap, arith, ◌↔◌}
-use Rattle.std.specs.Prelude.{IfSome}
-use Rattle.std.specs.List.{AllByRecursion}
-use Rattle.std.specs.declared.cmp.Ordering.TheVariants.{Less}
-use Rattle.std.proofs.lemmas.Cmp.{nat_list_cmp_total}
-use Rattle.mst_key.specs.declared.format.Format.{Format}
-use Rattle.mst_key.specs.Layer.{layer_in}
-use Rattle.mst_key.specs.Map.{Pair, key_cmp, IsAscending}
-use Rattle.mst_node.specs.Text.{FlatEntry}
-use Rattle.mst_node.specs.Grammar.{KeysFit, flat_pairs}
-use Rattle.mst_node.specs.Reading.{entry_at, entries_at, node_of}
+use Rattle.mst_node.proofs.Names.{◌≡◌, ℕ, zero, suc, ◌<◌, List, [], ◌∷◌, Option, Some, None, sym, ◌∙◌, ap, arith, ◌↔◌, IfSome, AllByRecursion, Less, nat_list_cmp_total, Format, layer_in, Pair, key_cmp, IsAscending, FlatEntry, KeysFit, flat_pairs, entry_at, node_of}
+use Rattle.mst_node.specs.Reading.{entries_at}
 use Rattle.mst_node.proofs.ReadIsSpelled.{bind_ok, some_same}
 
 -- the keys of the entries have the layer, and rise from the low one on

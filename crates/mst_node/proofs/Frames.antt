@@ -1,11 +1,9 @@
 -- The first text of a proof is read exactly if the bytes frame it.
-use Rattle.std.proofs.Common.{◌≡◌, ℕ, zero, suc, ◌<◌, ◌^◌, false, ◌==◌, List, [], ◌∷◌, ◌++◌, length, get_or, Some, refl, sym, ◌∙◌, ap, arith}
-use Rattle.std.specs.Int.{w32, to_be_bytes, from_be_bytes}
-use Rattle.std.proofs.lemmas.Bool.Decides.{nat_tests}
+use Rattle.mst_node.proofs.Names.{◌≡◌, ℕ, zero, suc, ◌<◌, false, ◌==◌, List, [], ◌∷◌, ◌++◌, length, get_or, Some, refl, sym, ◌∙◌, ap, arith, w32, to_be_bytes, from_be_bytes, nat_tests, IsBytes, part_at}
+use Rattle.std.proofs.Common.{◌^◌}
 use Rattle.std.proofs.lemmas.Nat.{be_bytes_4, from_be_bytes-to_be_bytes_4}
-use Rattle.mst_key.specs.Bytes.{IsBytes}
 use Rattle.mst_node.specs.Frame.{FramesFirst}
-use Rattle.mst_node.specs.Reading.{part_at, first_text_at}
+use Rattle.mst_node.specs.Reading.{first_text_at}
 use Rattle.mst_node.proofs.ReadIsSpelled.{guard_ok, part_takes}
 use Rattle.mst_node.proofs.SpelledIsRead.{part_again}
 

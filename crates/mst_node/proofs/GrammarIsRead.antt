@@ -1,10 +1,5 @@
 -- The texts of the grammar are those that are read, with keys that fit.
-use Rattle.std.proofs.Common.{◌≡◌, ℕ, List, Some, sym, ◌∙◌, ap}
-use Rattle.mst_key.specs.declared.format.Format.{Format}
-use Rattle.mst_key.specs.Bytes.{IsBytes}
-use Rattle.mst_node.specs.Text.{FlatNode, spelling}
-use Rattle.mst_node.specs.Grammar.{KeysFit, IsFlatNode, InGrammar}
-use Rattle.mst_node.specs.Reading.{node_at}
+use Rattle.mst_node.proofs.Names.{◌≡◌, ℕ, List, Some, sym, ◌∙◌, ap, Format, IsBytes, FlatNode, spelling, KeysFit, IsFlatNode, InGrammar, node_at}
 use Rattle.mst_node.proofs.ReadIsSpelled.{node_takes}
 use Rattle.mst_node.proofs.SpelledIsRead.{node_again}
 

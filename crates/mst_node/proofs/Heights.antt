@@ -1,8 +1,5 @@
 -- How many layers a list of pairs spans: what builds or hashes its tree nests no deeper.
-use Rattle.std.proofs.Common.{◌≡◌, ◌≢◌, ℕ, suc, zero, ◌+◌, ◌<◌, ◌≤◌, max, List, [], ◌∷◌, ◌++◌, length, get_or, ap, arith}
-use Rattle.std.specs.Prelude.{slice_range}
-use Rattle.mst_key.specs.Map.{Pair}
-use Rattle.mst_node.specs.Tree.{layers, greatest}
+use Rattle.mst_node.proofs.Names.{◌≡◌, ◌≢◌, ℕ, suc, zero, ◌+◌, ◌<◌, ◌≤◌, max, List, [], ◌∷◌, ◌++◌, length, get_or, ap, arith, slice_range, Pair, layers, greatest}
 use Rattle.mst_node.proofs.TreeEquation.{gap_more, gap_none}
 
 -- how many layers there are up to the greatest of the keys, 0 if there is no pair

@@ -1,19 +1,11 @@
 -- What kept versions hold: the last alone, the same versions in another list, and more versions.
-use Rattle.std.proofs.Common.{◌≡◌, ℕ, zero, suc, ◌+◌, ◌<◌, ◌≤◌, ◌==◌, nat_lt, Bool, true, false, not, cond, ◌&&◌, ◌||◌, inl, inr, List, [], ◌∷◌, length, take, filter, refl, sym, ap, subst, ◌∙◌, arith, true≢false}
-use Rattle.std.specs.Prelude.{◌↔◌, Contains}
-use Rattle.std.specs.List.{sum_by}
-use Rattle.std.proofs.lemmas.Bool.Decides.{nat_tests}
-use Rattle.std.proofs.lemmas.List.{take_all}
-use Rattle.mst_key.specs.declared.format.Format.{Format}
-use Rattle.mst_key.specs.History.{History, after, format_after}
-use Rattle.mst_key.specs.Map.{IsAscending}
+use Rattle.mst_node.proofs.Names.{◌≡◌, ℕ, zero, suc, ◌+◌, ◌<◌, ◌≤◌, ◌==◌, nat_lt, Bool, true, false, not, cond, ◌&&◌, ◌||◌, inl, inr, List, [], ◌∷◌, length, take, filter, refl, sym, ap, subst, ◌∙◌, arith, true≢false, Contains, sum_by, nat_tests, take_all, Format, History, IsAscending, Tree, pairs, tree, subtrees, is_subtree, top_entries, held, and_parts, and_from, or_cases}
+use Rattle.std.specs.Prelude.{◌↔◌}
+use Rattle.mst_key.specs.History.{after, format_after}
 use Rattle.mst_key.proofs.Ascending.{IsAscending-after}
-use Rattle.mst_node.specs.Tree.{Tree, pairs, tree}
-use Rattle.mst_node.specs.Cost.{subtrees, is_subtree, top_entries}
-use Rattle.mst_node.specs.Stays.{tree_at, lasts, is_kept, has_stayed, rows_first_at, held_below, held}
+use Rattle.mst_node.specs.Stays.{tree_at, lasts, is_kept, has_stayed, rows_first_at, held_below}
 use Rattle.mst_node.proofs.UniqueTree.{pairs_tree, tree_mst}
 use Rattle.mst_node.proofs.Distinct.{copies, once}
-use Rattle.std.proofs.lemmas.Bool.{and_parts, and_from, or_cases}
 use Rattle.mst_node.proofs.VersionLists.{true_or, up_to, any_in, in_any, any_more, any_same, and_true_same, not_from, from_not}
 use Rattle.mst_node.proofs.Weights.{weigh, weigh_is, all, weigh_all, weigh_none, weigh_weaker, weigh_split, weigh_common}
 

@@ -1,12 +1,7 @@
 -- What stands in a tree: the tree itself and all trees below its nodes.
-use Rattle.std.proofs.Common.{◌≡◌, Bool, true, false, ◌||◌, ◌⊎◌, inl, inr, ◌∷◌, refl, sym, subst, ◌∙◌, true≢false}
-use Rattle.std.proofs.lemmas.List.Folds.{list_any-append}
-use Rattle.std.proofs.lemmas.Bool.{false_from_ne_true, or_cases}
-use Rattle.std.specs.List.{AllByRecursion, list_any}
-use Rattle.mst_key.specs.Map.{Pair}
-use Rattle.mst_key.proofs.Alls.{alls-front, alls-back}
-use Rattle.mst_node.specs.Tree.{Tree, empty, node, Entries, last, entry, pairs, entries_pairs}
-use Rattle.mst_node.specs.Cost.{subtrees, entries_subtrees, same_tree, is_subtree}
+use Rattle.mst_node.proofs.Names.{◌≡◌, Bool, true, false, ◌||◌, ◌⊎◌, inl, inr, ◌∷◌, refl, sym, subst, ◌∙◌, true≢false, list_any-append, or_cases, AllByRecursion, list_any, Pair, alls-back, Tree, empty, node, Entries, last, entry, pairs, entries_pairs, subtrees, entries_subtrees, same_tree, is_subtree}
+use Rattle.std.proofs.lemmas.Bool.{false_from_ne_true}
+use Rattle.mst_key.proofs.Alls.{alls-front}
 use Rattle.mst_node.proofs.SameTrees.{tree_from_same, same_from_tree}
 use Rattle.mst_node.proofs.VersionLists.{true_or}
 

@@ -1,12 +1,5 @@
 -- The place of a key among entries, one entry after another.
-use Rattle.std.proofs.Common.{◌≡◌, ℕ, List, ◌∷◌, Option, Some, sym, ◌∙◌, ap}
-use Rattle.std.specs.declared.cmp.Ordering.{Ordering}
-use Rattle.mst_key.specs.Map.{key_cmp}
-use Rattle.mst_node.specs.Text.{FlatEntry}
-use Rattle.mst_node.specs.declared.key_place.KeyPlace.{KeyPlace}
-use Rattle.mst_node.specs.declared.key_place.KeyPlace.TheVariants.{Found, Gap}
-use Rattle.mst_node.specs.Trail.{by_order}
-use Rattle.mst_node.specs.KeyPlace.{place_among}
+use Rattle.mst_node.proofs.Names.{◌≡◌, ℕ, List, ◌∷◌, Option, Some, sym, ◌∙◌, ap, Ordering, key_cmp, FlatEntry, KeyPlace, Found, Gap, by_order, place_among}
 
 -- what the order of the key to the next entry's key chooses
 abbrev pub chosen : List ℕ → Option (List ℕ) → Option (List ℕ) → FlatEntry → List FlatEntry

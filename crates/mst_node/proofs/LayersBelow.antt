@@ -1,9 +1,8 @@
 -- The layers of all nodes below a node.
-use Rattle.std.proofs.Common.{◌≡◌, ℕ, ◌<◌, Contains, ⊎_elim, subst, arith}
+use Rattle.mst_node.proofs.Names.{◌≡◌, ℕ, ◌<◌, ⊎_elim, subst, arith, contains-cases, contains-nothing, Tree, empty, node, Entries, last, entry, IsUnder, LayersFall, LayersFallIn}
+use Rattle.std.proofs.Common.{Contains}
 use Rattle.std.proofs.lemmas.List.Elements.{Contains-append_cases}
-use Rattle.mst_key.proofs.SpanLaws.{contains-cases, contains-nothing}
-use Rattle.mst_node.specs.Tree.{Tree, empty, node, Entries, last, entry, subtrees, entries_subtrees, IsUnder}
-use Rattle.mst_node.specs.Gaps.{LayersFall, LayersFallIn}
+use Rattle.mst_node.specs.Tree.{subtrees, entries_subtrees}
 
 under_weaker : (l m : ℕ) (t : Tree) → m < l → IsUnder m t → IsUnder l t
 under_weaker l m empty lt is = tt

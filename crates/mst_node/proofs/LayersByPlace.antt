@@ -1,9 +1,6 @@
 -- The layers of a list's keys, place by place.
-use Rattle.std.proofs.Common.{◌≡◌, ℕ, ◌-◌, ◌<◌, List, length, get_or, take, drop, sym, ◌∙◌, ap}
-use Rattle.std.specs.Prelude.{slice_range}
-use Rattle.std.proofs.lemmas.List.{take-map, drop-map, get_or-map, length-map}
-use Rattle.mst_key.specs.Map.{Pair}
-use Rattle.mst_node.specs.Tree.{layers}
+use Rattle.mst_node.proofs.Names.{◌≡◌, ℕ, ◌-◌, ◌<◌, List, length, get_or, take, drop, sym, ◌∙◌, ap, slice_range, length-map, Pair, layers}
+use Rattle.std.proofs.lemmas.List.{take-map, drop-map, get_or-map}
 
 -- the layers of a part are the part of the layers
 pub layers-part : (layer : List ℕ → ℕ) (m : List Pair) (ls : List ℕ) (a b : ℕ) → ls ≡ layers layer m

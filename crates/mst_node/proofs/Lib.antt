@@ -31,3 +31,4 @@ mod VersionLists
 pub mod Weights
 pub mod HeldLaws
 pub mod FormatsShareNothing
+pub mod Names

@@ -1,21 +1,11 @@
 -- The text of a node of a map's tree is in the grammar.
-use Rattle.std.proofs.Common.{◌≡◌, ℕ, zero, suc, ◌<◌, ◌≤◌, List, [], ◌∷◌, ◌++◌, length, refl, sym, subst, arith, length-append, append_assoc}
-use Rattle.std.specs.Prelude.{IfSome, slice_index}
-use Rattle.std.specs.Int.{w32, to_be_bytes}
-use Rattle.std.specs.List.{AllByRecursion, flat_map}
+use Rattle.mst_node.proofs.Names.{◌≡◌, ℕ, zero, suc, ◌<◌, ◌≤◌, List, [], ◌∷◌, ◌++◌, length, refl, sym, subst, arith, length-append, append_assoc, IfSome, w32, to_be_bytes, AllByRecursion, flat_map, Format, One, Two, IsBytes, IsKey, IsValue, layer_in, Pair, key_cmp, IsAscending, Less, IsAscending-back, Tree, empty, node, Entries, last, entry, pairs, entries_pairs, entry_count, IsMst, IsMstEntries, FlatEntry, FlatNode, child_text, counted, held_text, entry_text, child_digest, flat_entries, tail_digest, held_of, text, spelling, IsDigest, IsHeld, IsFlatEntry, IsFlatNode, InGrammar, flat_pairs}
+use Rattle.std.specs.Prelude.{slice_index}
 use Rattle.sha2.specs.Sha256.{sha256, digest_bytes, final_hash, initial_hash_256}
 use Rattle.sha2.proofs.Facts256.{length-sha256}
-use Rattle.mst_key.specs.declared.format.Format.{Format}
-use Rattle.mst_key.specs.declared.format.Format.TheVariants.{One, Two}
-use Rattle.mst_key.specs.Bytes.{IsBytes, IsKey, IsValue}
-use Rattle.mst_key.specs.Layer.{layer_in}
-use Rattle.mst_key.specs.Map.{Pair, key_cmp, IsAscending, IsMap}
-use Rattle.std.specs.declared.cmp.Ordering.TheVariants.{Less}
-use Rattle.mst_key.proofs.Splits.{IsAscending-back}
+use Rattle.mst_key.specs.Map.{IsMap}
 use Rattle.mst_node.proofs.ReadIsSpelled.{bytes-split}
-use Rattle.mst_node.specs.Tree.{Tree, empty, node, Entries, last, entry, pairs, entries_pairs, entry_count, IsMst, IsMstEntries}
-use Rattle.mst_node.specs.Text.{FlatEntry, FlatNode, child_text, counted, held_text, entry_text, child_digest, flat_entries, tail_digest, flat, held_of, text, spelling}
-use Rattle.mst_node.specs.Grammar.{IsDigest, IsHeld, IsFlatEntry, IsFlatNode, InGrammar, flat_pairs}
+use Rattle.mst_node.specs.Text.{flat}
 
 bytes-append : (xs ys : List ℕ) → IsBytes xs → IsBytes ys → IsBytes (xs ++ ys)
 bytes-append [] ys a b = b

@@ -1,17 +1,10 @@
 -- A node of the program as a tree, one level at a time.
-use Rattle.std.proofs.Common.{◌≡◌, ℕ, zero, suc, ◌+◌, ◌<◌, ◌≤◌, List, [], ◌∷◌, ◌++◌, length, map, get_or, take, Option, Some, refl, sym, ◌∙◌, ap, subst, arith, rules, length-append, append_assoc}
-use Rattle.std.specs.List.{flat_map}
-use Rattle.std.proofs.lemmas.List.{length-map, take_more, append-nil}
+use Rattle.mst_node.proofs.Names.{◌≡◌, ℕ, zero, suc, ◌+◌, ◌<◌, ◌≤◌, List, [], ◌∷◌, ◌++◌, length, map, get_or, take, Option, Some, refl, sym, ◌∙◌, ap, subst, arith, rules, length-append, append_assoc, flat_map, length-map, take_more, append-nil, Format, Node, out-Node, the_lemmas, Tree, node, Entries, last, pairs, entries_pairs, TreeEntry, with_entries, tree_of_child, tree_entry, FlatEntry, entry_text, spelling, child_digest, child_text, counted, held_of, held_text, flat_entries, tail_digest, text, digest, heading}
 use Rattle.std.proofs.lemmas.List.Folds.{flat_map-map}
 use Rattle.std.proofs.lemmas.Grind.{flat_map-append}
-use Rattle.mst_key.specs.declared.format.Format.{Format}
-use Rattle.mst_node.specs.declared.node.Node.{Node, out-Node}
 use Rattle.mst_node.specs.declared.node.Entry.{Entry, out-Entry}
-use Rattle.mst_node.specs.declared.node.Entry.TheViews.{the_lemmas}
 use Rattle.mst_node.specs.declared.node.Entry.TheFolds.{fold_out-Node, fold_out-Entry}
-use Rattle.mst_node.specs.Tree.{Tree, node, Entries, last, pairs, entries_pairs}
-use Rattle.mst_node.specs.Shape.{TreeEntry, with_entries, tree_of, tree_of_child, tree_entry, entry_step, node_step}
-use Rattle.mst_node.specs.Text.{FlatEntry, entry_text, spelling, child_digest, child_text, counted, held_of, held_text, flat_entries, tail_digest, text, digest, heading}
+use Rattle.mst_node.specs.Shape.{tree_of, entry_step, node_step}
 
 -- ---- the tree of a node, from its fields
 

@@ -1,18 +1,10 @@
 -- What is read is spelled so: each reading takes the text of what it gives off the front, and no
 -- other bytes.
-use Rattle.std.proofs.Common.{◌≡◌, ℕ, zero, suc, ◌<◌, ◌≤◌, Bool, true, false, cond, ◌==◌, List, [], ◌∷◌, ◌++◌, length, take, drop, get_or, Option, Some, None, refl, sym, ◌∙◌, ap, subst, arith, append_assoc}
-use Rattle.std.specs.Prelude.{nat_lt, IfSome}
-use Rattle.std.specs.Int.{w16, to_be_bytes, from_be_bytes}
-use Rattle.std.specs.List.{flat_map, AllByRecursion}
-use Rattle.std.proofs.lemmas.Bool.Decides.{nat_tests}
-use Rattle.std.proofs.lemmas.List.{take-append-drop, length-take, append-nil}
+use Rattle.mst_node.proofs.Names.{◌≡◌, ℕ, zero, suc, ◌<◌, ◌≤◌, Bool, true, false, cond, ◌==◌, List, [], ◌∷◌, ◌++◌, length, take, drop, get_or, Option, Some, None, refl, sym, ◌∙◌, ap, subst, arith, append_assoc, IfSome, w16, to_be_bytes, from_be_bytes, flat_map, AllByRecursion, nat_tests, length-take, append-nil, Format, One, Two, IsBytes, FlatEntry, FlatNode, child_text, counted, held_text, entry_text, spelling, format_byte, IsDigest, IsHeld, IsFlatEntry, ◌>>=◌, held_at, whole, node_of}
+use Rattle.std.specs.Prelude.{nat_lt}
+use Rattle.std.proofs.lemmas.List.{take-append-drop}
 use Rattle.std.proofs.lemmas.Nat.{be_bytes_2}
-use Rattle.mst_key.specs.declared.format.Format.{Format}
-use Rattle.mst_key.specs.declared.format.Format.TheVariants.{One, Two}
-use Rattle.mst_key.specs.Bytes.{IsBytes}
-use Rattle.mst_node.specs.Text.{FlatEntry, FlatNode, child_text, counted, held_text, entry_text, spelling, format_byte}
-use Rattle.mst_node.specs.Grammar.{IsDigest, IsHeld, IsFlatEntry}
-use Rattle.mst_node.specs.Reading.{◌>>=◌, part_at, child_at, counted_at, held_at, entry_at, entries_at, whole, body_at, node_of, node_at}
+use Rattle.mst_node.specs.Reading.{part_at, child_at, counted_at, entry_at, entries_at, body_at, node_at}
 
 -- ---- steps that succeeded
 

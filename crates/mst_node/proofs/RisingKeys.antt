@@ -1,11 +1,5 @@
 -- Keys that rise strictly.
-use Rattle.std.proofs.Common.{◌≡◌, ℕ, zero, suc, ◌+◌, ◌-◌, ◌<◌, List, [], ◌∷◌, ◌++◌, length, get_or, take, sym, ◌∙◌, ap, subst, arith}
-use Rattle.std.specs.List.{AllByRecursion}
-use Rattle.std.specs.declared.cmp.Ordering.TheVariants.{Less}
-use Rattle.std.proofs.lemmas.Cmp.{nat_list_cmp_total}
-use Rattle.std.proofs.lemmas.List.{take_more}
-use Rattle.mst_key.specs.Map.{Pair, key_cmp, IsAscending}
-use Rattle.mst_key.proofs.Alls.{alls-append, alls-back}
+use Rattle.mst_node.proofs.Names.{◌≡◌, ℕ, zero, suc, ◌+◌, ◌-◌, ◌<◌, List, [], ◌∷◌, ◌++◌, length, get_or, take, sym, ◌∙◌, ap, subst, arith, AllByRecursion, Less, nat_list_cmp_total, take_more, Pair, key_cmp, IsAscending, alls-append, alls-back}
 
 pub rising-push : (m : List Pair) (x y : Pair) → IsAscending (m ++ x ∷ []) → key_cmp x.0 y.0 ≡ Less
     → IsAscending ((m ++ x ∷ []) ++ y ∷ [])

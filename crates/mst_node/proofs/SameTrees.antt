@@ -1,12 +1,7 @@
 -- The test of two trees returns whether they are the same.
-use Rattle.std.proofs.Common.{◌≡◌, ℕ, Bool, true, false, ◌&&◌, ◌==◌, refl, sym, ap, ◌∙◌, arith, true≢false}
-use Rattle.std.proofs.lemmas.Bool.{and_parts, and_from}
-use Rattle.std.proofs.lemmas.Bool.Decides.{nat_tests}
-use Rattle.mst_key.specs.declared.format.Format.{Format}
-use Rattle.mst_key.specs.declared.format.Format.TheVariants.{One, Two}
+use Rattle.mst_node.proofs.Names.{◌≡◌, ℕ, Bool, true, false, ◌&&◌, ◌==◌, refl, sym, ap, ◌∙◌, arith, true≢false, and_parts, and_from, nat_tests, Format, One, Two, Tree, empty, node, Entries, last, entry, same_format, same_tree, same_entries}
 use Rattle.mst_key.proofs.KeyOrder.{same_from_test, test_of_same}
-use Rattle.mst_node.specs.Tree.{Tree, empty, node, Entries, last, entry}
-use Rattle.mst_node.specs.Cost.{same_bytes, same_format, same_tree, same_entries}
+use Rattle.mst_node.specs.Cost.{same_bytes}
 
 same_number : (a b : ℕ) → (a == b) ≡ true → a ≡ b
 same_number a b e = grind (arith, nat_tests)

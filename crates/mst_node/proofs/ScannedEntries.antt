@@ -1,18 +1,10 @@
 -- Entries whose keys fit, scanned one after another.
-use Rattle.std.proofs.Common.{◌≡◌, ℕ, zero, suc, ◌<◌, ◌==◌, Bool, true, false, cond, List, [], ◌∷◌, Option, Some, None, refl, sym, ◌∙◌, ap, subst, arith}
-use Rattle.std.specs.Prelude.{IfSome}
-use Rattle.std.specs.Bool.{Decides}
+use Rattle.mst_node.proofs.Names.{◌≡◌, ℕ, zero, suc, ◌<◌, ◌==◌, Bool, true, false, cond, List, [], ◌∷◌, Option, Some, None, refl, sym, ◌∙◌, ap, subst, arith, IfSome, Decides, Ordering, Less, Equal, Greater, Format, layer_in, key_cmp, FlatEntry, ◌>>=◌, entry_at, Passing, pass_at, fits_behind}
 use Rattle.std.specs.Option.{option_map_or}
 use Rattle.std.specs.Ordering.{is_lt}
-use Rattle.std.specs.declared.cmp.Ordering.{Ordering}
-use Rattle.std.specs.declared.cmp.Ordering.TheVariants.{Less, Equal, Greater}
 use Rattle.std.proofs.lemmas.Bool.Decides.{Decides-and, Decides-eqb}
-use Rattle.mst_key.specs.declared.format.Format.{Format}
-use Rattle.mst_key.specs.Layer.{layer_in}
-use Rattle.mst_key.specs.Map.{key_cmp}
-use Rattle.mst_node.specs.Text.{FlatEntry}
-use Rattle.mst_node.specs.Reading.{◌>>=◌, entry_at, entries_at}
-use Rattle.mst_node.specs.Scan.{Passing, pass_at, fits_behind, scan_at}
+use Rattle.mst_node.specs.Reading.{entries_at}
+use Rattle.mst_node.specs.Scan.{scan_at}
 use Rattle.mst_node.proofs.FittingKeys.{FitsFrom}
 use Rattle.mst_node.proofs.ReadIsSpelled.{bind_ok, some_same}
 

@@ -1,24 +1,9 @@
 -- One reading of a node text says what reading it, testing its keys and searching it say.
-use Rattle.std.proofs.Common.{◌≡◌, ◌↔◌, ℕ, zero, suc, ◌<◌, ◌==◌, Bool, true, false, cond, List, [], ◌∷◌, length, Option, Some, None, refl, sym, ◌∙◌, ap, subst, arith}
-use Rattle.std.specs.Prelude.{IfSome, option_map}
-use Rattle.std.specs.Int.{w16, from_be_bytes}
-use Rattle.std.specs.List.{AllByRecursion}
+use Rattle.mst_node.proofs.Names.{◌≡◌, ◌↔◌, ℕ, zero, suc, ◌<◌, ◌==◌, Bool, true, false, cond, List, [], ◌∷◌, length, Option, Some, None, refl, sym, ◌∙◌, ap, subst, arith, IfSome, option_map, w16, from_be_bytes, AllByRecursion, Ordering, Less, Equal, Greater, nat_tests, nat_list_cmp_total, Format, key_cmp, FlatEntry, FlatNode, format_byte, IsBetween, KeysFit, place_among, place_of, ◌>>=◌, child_at, entry_at, whole, node_of, Stopped, Passing, stop_at, pass_at, scan_at, by_order, KeyPlace, Found, Gap}
 use Rattle.std.specs.Option.{option_or}
-use Rattle.std.specs.declared.cmp.Ordering.{Ordering}
-use Rattle.std.specs.declared.cmp.Ordering.TheVariants.{Less, Equal, Greater}
-use Rattle.std.proofs.lemmas.Bool.Decides.{nat_tests}
-use Rattle.std.proofs.lemmas.Cmp.{nat_list_cmp_total}
-use Rattle.mst_key.specs.declared.format.Format.{Format}
-use Rattle.mst_key.specs.Map.{key_cmp}
-use Rattle.mst_node.specs.Text.{FlatEntry, FlatNode, format_byte}
-use Rattle.mst_node.specs.Gaps.{IsBetween}
-use Rattle.mst_node.specs.Grammar.{KeysFit}
-use Rattle.mst_node.specs.KeyPlace.{place_among, place_of, LiesWithin}
-use Rattle.mst_node.specs.Reading.{◌>>=◌, child_at, entry_at, entries_at, whole, body_at, node_of, node_at}
-use Rattle.mst_node.specs.Scan.{Stopped, Passing, start, stop_at, pass_at, scan_at, body_scan_at, text_scan_at, first_at, EndsLieIn, place_by}
-use Rattle.mst_node.specs.Trail.{by_order}
-use Rattle.mst_node.specs.declared.key_place.KeyPlace.{KeyPlace}
-use Rattle.mst_node.specs.declared.key_place.KeyPlace.TheVariants.{Found, Gap}
+use Rattle.mst_node.specs.KeyPlace.{LiesWithin}
+use Rattle.mst_node.specs.Reading.{entries_at, body_at, node_at}
+use Rattle.mst_node.specs.Scan.{start, body_scan_at, text_scan_at, first_at, EndsLieIn, place_by}
 use Rattle.mst_node.specs.declared.key_place.Span.{Span}
 use Rattle.mst_node.proofs.FittingKeys.{FitsFrom, fits-all}
 use Rattle.mst_node.proofs.EntryPlaces.{entries-count, none-some}

@@ -1,19 +1,11 @@
 -- What is spelled so is read: each reading gives back what a text was spelled from, whatever
 -- follows it.
-use Rattle.std.proofs.Common.{◌≡◌, ℕ, ◌≤◌, true, false, ◌==◌, List, [], ◌∷◌, ◌++◌, length, take, drop, Option, Some, None, refl, sym, ◌∙◌, ap, arith, append_assoc, length-append}
-use Rattle.std.specs.Prelude.{nat_lt, IfSome}
-use Rattle.std.specs.Int.{w16, to_be_bytes, from_be_bytes}
-use Rattle.std.specs.List.{flat_map, AllByRecursion}
-use Rattle.std.proofs.lemmas.Bool.Decides.{nat_tests}
-use Rattle.std.proofs.lemmas.List.{append-nil}
+use Rattle.mst_node.proofs.Names.{◌≡◌, ℕ, ◌≤◌, true, false, ◌==◌, List, [], ◌∷◌, ◌++◌, length, take, drop, Option, Some, None, refl, sym, ◌∙◌, ap, arith, append_assoc, length-append, IfSome, w16, to_be_bytes, from_be_bytes, flat_map, AllByRecursion, nat_tests, append-nil, Format, One, Two, FlatEntry, FlatNode, child_text, counted, held_text, entry_text, spelling, format_byte, IsDigest, IsHeld, IsFlatEntry, IsFlatNode, held_at}
+use Rattle.std.specs.Prelude.{nat_lt}
 use Rattle.std.proofs.Math.Seq.{take-append_seam, drop-append_seam}
 use Rattle.std.proofs.lemmas.Nat.{from_be_bytes-to_be_bytes_2}
-use Rattle.mst_key.specs.declared.format.Format.{Format}
-use Rattle.mst_key.specs.declared.format.Format.TheVariants.{One, Two}
-use Rattle.mst_node.specs.Text.{FlatEntry, FlatNode, child_text, counted, held_text, entry_text, spelling, format_byte}
-use Rattle.mst_node.specs.Grammar.{IsDigest, IsHeld, IsFlatEntry, IsFlatNode}
 use Rattle.mst_node.proofs.ReadIsSpelled.{some_same}
-use Rattle.mst_node.specs.Reading.{part_at, child_at, counted_at, held_at, entry_at, entries_at, body_at, node_at}
+use Rattle.mst_node.specs.Reading.{part_at, child_at, counted_at, entry_at, entries_at, body_at, node_at}
 
 pub part_again : (n : ℕ) (xs rest : List ℕ) → length xs ≡ n → part_at n (xs ++ rest) ≡ Some
     (xs, rest)

@@ -1,17 +1,9 @@
 -- A search that goes over entries, and where it stops.
-use Rattle.std.proofs.Common.{◌≡◌, ℕ, zero, suc, ◌<◌, ◌≤◌, Bool, true, false, cond, List, [], ◌∷◌, Option, Some, None, refl, sym, ◌∙◌, ap, arith, not, option_copied}
-use Rattle.std.specs.Prelude.{IfNone, IsSome}
-use Rattle.std.specs.Bool.{Decides}
-use Rattle.std.specs.declared.cmp.Ordering.{Ordering}
-use Rattle.std.specs.declared.cmp.Ordering.TheVariants.{Less, Equal, Greater}
+use Rattle.mst_node.proofs.Names.{◌≡◌, ℕ, zero, suc, ◌<◌, ◌≤◌, Bool, true, false, cond, List, [], ◌∷◌, Option, Some, None, refl, sym, ◌∙◌, ap, arith, not, IsSome, Decides, Ordering, Less, Equal, Greater, Format, IsKey, key_cmp, FlatEntry, ◌>>=◌, entry_at, Stopped, Passing, seen_stop, key_before, passing_from, stop_at, pass_at, fits_behind, scan_from, seen}
+use Rattle.std.proofs.Common.{option_copied}
+use Rattle.std.specs.Prelude.{IfNone}
 use Rattle.std.proofs.lemmas.Bool.{false≢true}
-use Rattle.mst_key.specs.declared.format.Format.{Format}
-use Rattle.mst_key.specs.Bytes.{IsKey}
-use Rattle.mst_key.specs.Map.{key_cmp}
-use Rattle.mst_node.specs.Text.{FlatEntry}
-use Rattle.mst_node.specs.Reading.{◌>>=◌, entry_at}
-use Rattle.mst_node.specs.Scan.{Stopped, Passing, seen_stop, key_before, passing_from, stop_at, pass_at, fits_behind, scan_at, scan_from, Halts}
-use Rattle.mst_node.specs.Seen.{seen}
+use Rattle.mst_node.specs.Scan.{scan_at, Halts}
 use Rattle.mst_node.specs.declared.finding.Coming.{Coming}
 use Rattle.mst_node.specs.declared.finding.Stop.{Stop}
 use Rattle.mst_key.proofs.KeyOrder.{greater_from_less, less_from_greater}

@@ -1,6 +1,5 @@
 -- A text in memory, from the bytes that it took to those that it gives.
-use Rattle.std.proofs.Common.{◌≡◌, ℕ, List, [], Option, Some, refl, sym, subst}
-use Rattle.std.specs.Prelude.{IfSome, IfOk, Result}
+use Rattle.mst_node.proofs.Names.{◌≡◌, ℕ, List, [], Option, Some, refl, sym, subst, IfSome, IfOk, Result}
 use Rattle.std.proofs.lemmas.Result.{IfOk-weaker}
 
 -- it begins with no bytes

@@ -1,16 +1,8 @@
 -- The top of a list's tree, and the text of the node there.
-use Rattle.std.proofs.Common.{◌≡◌, ◌≢◌, ℕ, suc, ◌+◌, ◌<◌, ◌≤◌, max, Bool, true, false, ◌==◌, cond, List, [], ◌∷◌, ◌++◌, length, length-append, filter, get_or, drop, Option, Some, refl, sym, ◌∙◌, ap, arith, append_assoc}
-use Rattle.std.proofs.lemmas.Bool.Decides.{nat_tests}
+use Rattle.mst_node.proofs.Names.{◌≡◌, ◌≢◌, ℕ, suc, ◌+◌, ◌<◌, ◌≤◌, max, Bool, true, false, ◌==◌, cond, List, [], ◌∷◌, ◌++◌, length, length-append, filter, get_or, drop, Option, Some, refl, sym, ◌∙◌, ap, arith, append_assoc, nat_tests, flat_map, slice_range, Format, layer_in, Pair, Tree, node, Entries, entry, layers, greatest, tree, entry_text, child_text, counted, child_digest, flat_entries, tail_digest, held_of, held_text, text, digest, heading, IsTop}
 use Rattle.std.proofs.lemmas.List.Elements.{filter-append}
 use Rattle.std.proofs.lemmas.List.Sums.{length-filter, count_by-le-length}
-use Rattle.std.specs.List.{flat_map}
-use Rattle.std.specs.Prelude.{slice_range}
-use Rattle.mst_key.specs.declared.format.Format.{Format}
-use Rattle.mst_key.specs.Layer.{layer_in}
-use Rattle.mst_key.specs.Map.{Pair}
-use Rattle.mst_node.specs.Tree.{Tree, node, Entries, entry, layers, greatest, entries_of, tree}
-use Rattle.mst_node.specs.Text.{entry_text, child_text, counted, child_digest, flat_entries, tail_digest, held_of, held_text, text, digest, heading}
-use Rattle.mst_node.specs.Top.{IsTop}
+use Rattle.mst_node.specs.Tree.{entries_of}
 use Rattle.mst_node.specs.declared.root.Top.{Top}
 use Rattle.mst_node.proofs.TreeEquation.{tree_some, step_at, step_other, last_gap}
 

@@ -1,16 +1,10 @@
 -- The tree of a map by its equation.
-use Rattle.std.proofs.Common.{◌≡◌, ℕ, zero, suc, ◌+◌, ◌<◌, ◌≤◌, max, Bool, true, false, ◌==◌, cond, ◌⊎◌, inl, inr, List, [], ◌∷◌, ◌++◌, length, refl, sym, ◌∙◌, ap, subst, arith, length-append, eq-eqb}
-use Rattle.std.proofs.lemmas.Bool.Decides.{nat_tests}
-use Rattle.std.proofs.Common.{◌≢◌, ◌-◌, get_or, take, drop, add-one, length-drop}
-use Rattle.std.specs.Prelude.{slice_range}
+use Rattle.mst_node.proofs.Names.{◌≡◌, ℕ, zero, suc, ◌+◌, ◌<◌, ◌≤◌, max, Bool, true, false, ◌==◌, cond, ◌⊎◌, inl, inr, List, [], ◌∷◌, ◌++◌, length, refl, sym, ◌∙◌, ap, subst, arith, length-append, nat_tests, ◌≢◌, ◌-◌, get_or, take, drop, length-drop, slice_range, common_steps, take_more, TreeEntry, with_entries, layer_in, Pair, Format, Tree, empty, node, Entries, last, entry, layers, greatest}
+use Rattle.std.proofs.Common.{eq-eqb}
+use Rattle.std.proofs.Common.{add-one}
 use Rattle.std.proofs.Math.Seq.{drop-cons}
-use Rattle.std.proofs.lemmas.Grind.{common_steps}
-use Rattle.std.proofs.lemmas.List.{take_more, get_or-drop}
-use Rattle.mst_node.specs.Shape.{TreeEntry, with_entries}
-use Rattle.mst_key.specs.Layer.{layer_in}
-use Rattle.mst_key.specs.Map.{Pair}
-use Rattle.mst_key.specs.declared.format.Format.{Format}
-use Rattle.mst_node.specs.Tree.{Tree, empty, node, Entries, last, entry, layers, greatest, entries_of, tree_within, tree}
+use Rattle.std.proofs.lemmas.List.{get_or-drop}
+use Rattle.mst_node.specs.Tree.{entries_of, tree_within, tree}
 
 -- a pair of the list has the layer
 abbrev pub Has : (List ℕ → ℕ) → ℕ → List Pair → Type 0

@@ -1,12 +1,7 @@
 -- How the layers and the keys of a tree lie: what holds of each Merkle search tree, and of each
 -- tree whose pairs ascend.
-use Rattle.std.proofs.Common.{◌≡◌, ℕ, List, [], ◌∷◌, ◌++◌, Option, Some, None}
-use Rattle.std.specs.List.{AllByRecursion}
-use Rattle.std.specs.declared.cmp.Ordering.TheVariants.{Less}
-use Rattle.mst_key.specs.declared.format.Format.{Format}
-use Rattle.mst_key.specs.Map.{Pair, key_cmp, IsAscending}
-use Rattle.mst_node.specs.Tree.{Tree, empty, node, Entries, last, entry, pairs, entries_pairs, IsMst, IsMstEntries}
-use Rattle.mst_node.specs.Gaps.{LayersFall, LayersFallIn, IsBetween, LiesBetween, EntriesLieBetween}
+use Rattle.mst_node.proofs.Names.{◌≡◌, ℕ, List, [], ◌∷◌, ◌++◌, Option, Some, None, AllByRecursion, Less, Format, Pair, key_cmp, IsAscending, Tree, empty, node, Entries, last, entry, pairs, entries_pairs, IsMst, IsMstEntries, LayersFall, LayersFallIn, IsBetween}
+use Rattle.mst_node.specs.Gaps.{LiesBetween, EntriesLieBetween}
 
 mutual
   pub layers_fall : (t : Tree) (format : Format) → IsMst format t → LayersFall t

@@ -1,12 +1,6 @@
 -- The tree of a map has the map's pairs, and it is the one Merkle search tree that has them.
-use Rattle.std.proofs.Common.{◌≡◌, ◌≢◌, ℕ, zero, suc, ◌+◌, ◌<◌, ◌≤◌, Bool, true, false, ◌==◌, cond, ◌⊎◌, inl, inr, List, [], ◌∷◌, ◌++◌, length, refl, sym, ◌∙◌, ap, arith, length-append, append_assoc}
-use Rattle.std.proofs.lemmas.Bool.Decides.{nat_tests}
-use Rattle.std.proofs.lemmas.List.{append-nil}
-use Rattle.std.specs.List.{AllByRecursion}
-use Rattle.mst_key.specs.Layer.{layer_in}
-use Rattle.mst_key.specs.Map.{Pair}
-use Rattle.mst_key.specs.declared.format.Format.{Format}
-use Rattle.mst_node.specs.Tree.{Tree, empty, node, Entries, last, entry, layers, greatest, entries_of, tree_within, tree, pairs, entries_pairs, entry_count, IsMst, IsMstEntries, IsUnder}
+use Rattle.mst_node.proofs.Names.{◌≡◌, ◌≢◌, ℕ, zero, suc, ◌+◌, ◌<◌, ◌≤◌, Bool, true, false, ◌==◌, cond, ◌⊎◌, inl, inr, List, [], ◌∷◌, ◌++◌, length, refl, sym, ◌∙◌, ap, arith, length-append, append_assoc, nat_tests, append-nil, AllByRecursion, layer_in, Pair, Format, Tree, empty, node, Entries, last, entry, layers, greatest, pairs, entries_pairs, entry_count, IsMst, IsMstEntries, IsUnder}
+use Rattle.mst_node.specs.Tree.{entries_of, tree_within, tree}
 use Rattle.mst_node.proofs.TreeEquation.{Has, has_greatest, tree_some, tree-no_pairs, entries_at_layer, entries_other}
 
 -- ---- the pairs of the tree

@@ -1,10 +1,7 @@
 -- How many rows some of the nodes of a list take, for lists put together, weaker tests, and nodes
 -- that stand in another list.
-use Rattle.std.proofs.Common.{◌≡◌, ℕ, ◌+◌, ◌≤◌, Bool, true, false, not, cond, ◌&&◌, ◌||◌, List, [], ◌∷◌, ◌++◌, length, length-append, filter, refl, sym, ap, ◌∙◌, arith, true≢false}
-use Rattle.std.specs.List.{list_any, sum_by}
+use Rattle.mst_node.proofs.Names.{◌≡◌, ℕ, ◌+◌, ◌≤◌, Bool, true, false, not, cond, ◌&&◌, ◌||◌, List, [], ◌∷◌, ◌++◌, length, length-append, filter, refl, sym, ap, ◌∙◌, arith, true≢false, list_any, sum_by, Tree, empty, node, Entries, last, entry, entry_count, pairs, entries_pairs, subtrees, entries_subtrees, same_tree, top_entries}
 use Rattle.std.proofs.lemmas.List.Sums.{sum_by-cons}
-use Rattle.mst_node.specs.Tree.{Tree, empty, node, Entries, last, entry, entry_count, pairs, entries_pairs}
-use Rattle.mst_node.specs.Cost.{subtrees, entries_subtrees, same_tree, top_entries}
 use Rattle.mst_node.proofs.SameTrees.{tree_from_same}
 use Rattle.mst_node.proofs.Distinct.{bit, copies}
 

@@ -1,14 +1,11 @@
 -- Worked examples of what kept versions hold, computed here through SHA-256. The keys are `1` and
 -- `a`, of layer 0, and `39`, of layer 1.
-use Rattle.std.proofs.Common.{◌≡◌, ℕ, List, [], ◌∷◌, refl}
+use Rattle.mst_node.proofs.Names.{◌≡◌, ℕ, List, [], ◌∷◌, refl, One, Two, History, held}
 use Rattle.sha2.specs.Sha256.{sha256, first_words, schedule, rounds, compress, hash_after, digest_bytes}
-use Rattle.mst_key.specs.declared.format.Format.TheVariants.{One, Two}
 use Rattle.mst_key.specs.declared.history.Change.TheVariants.{Put, Migrate}
 use Rattle.mst_key.specs.declared.history.Event.{Event}
-use Rattle.mst_key.specs.History.{History}
 use Rattle.mst_key.specs.Layer.{layer_in}
 use Rattle.mst_node.specs.Tree.{entries_of, tree_within, tree}
-use Rattle.mst_node.specs.Stays.{held}
 
 abbrev puts : List ℕ → List ℕ → Event
 puts k v = record { pass = 1; change = Put k v }

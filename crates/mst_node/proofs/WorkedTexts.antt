@@ -1,11 +1,9 @@
 -- Worked examples, computed here through SHA-256: of format 2, and proofs. The values are from
 -- another program (Python's hashlib).
-use Rattle.std.proofs.Common.{◌≡◌, [], ◌∷◌, refl}
+use Rattle.mst_node.proofs.Names.{◌≡◌, [], ◌∷◌, refl, One, Two, text}
 use Rattle.sha2.specs.Sha256.{sha256, first_words, schedule, rounds, compress, hash_after, digest_bytes}
-use Rattle.mst_key.specs.declared.format.Format.TheVariants.{One, Two}
 use Rattle.mst_key.specs.Layer.{layer_in}
 use Rattle.mst_node.specs.Tree.{entries_of, tree_within, tree}
-use Rattle.mst_node.specs.Text.{text}
 use Rattle.mst_node.specs.Trail.{proof_text}
 
 layer_of_39 : layer_in Two (0x33 ∷ 0x39 ∷ []) ≡ 2

@@ -1,15 +1,8 @@
 -- A block that is taken back: the writer that began it has made nothing.
-use Rattle.std.proofs.Common.{◌≡◌, ℕ, List, refl, sym, ap, ◌∙◌, subst}
-use Rattle.mst_store.specs.Passes.{Known}
-use Rattle.mst_shards.specs.BlockHistory.{Blocks, Whole, whole}
-use Rattle.mst_shards.specs.Opening.{Shards}
-use Rattle.mst_shards.specs.Sharding.{AllStep}
-use Rattle.mst_blocks.specs.Blocks.{MakesNothing, LeavesAll}
-use Rattle.mst_blocks.specs.Writing.{block_map, IsWriterOf, HasMade}
-use Rattle.mst_blocks.proofs.Blocked.{writes_still, map_still, made_no_block}
+use Rattle.mst_parts.proofs.Names.{◌≡◌, ℕ, List, refl, sym, ap, ◌∙◌, subst, Known, Blocks, Whole, whole, Shards, AllStep, MakesNothing, LeavesAll, IsWriterOf, HasMade, writes_still, made_no_block, left_keeps, Origin, Begun, begun, passes_of, IsBlockOf}
+use Rattle.mst_blocks.specs.Writing.{block_map}
+use Rattle.mst_blocks.proofs.Blocked.{map_still}
 use Rattle.mst_blocks.proofs.Committing.{same_nothing}
-use Rattle.mst_blocks.proofs.Kept.{left_keeps}
-use Rattle.mst_parts.specs.Origins.{Origin, Begun, begun, passes_of, IsBlockOf}
 
 module _ (s : Shards) (os given : List Origin) (qs : List Known) (d : Known) (self : Begun)
     (as_given : given ≡ os) (as_self : begun s.splits os d ≡ self)

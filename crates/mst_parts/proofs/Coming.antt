@@ -1,13 +1,10 @@
 -- The parts of a block that was begun: what each has of its origin, and of which store it is.
-use Rattle.std.proofs.Common.{◌≡◌, ℕ, ◌<◌, List, [], ◌∷◌, ◌++◌, length, get_or, Option, Some, None, true≢false, refl, sym, ap, ◌∙◌, arith}
-use Rattle.std.specs.Prelude.{IfSome, IsNone}
-use Rattle.std.proofs.lemmas.List.{length-map, get_or-map}
-use Rattle.mst_key.specs.declared.history.Edit.{Edit}
-use Rattle.mst_store.specs.Passes.{Known, StoreId}
-use Rattle.mst_store.specs.Preparing.{Waiting}
+use Rattle.mst_parts.proofs.Names.{◌≡◌, ℕ, ◌<◌, List, [], ◌∷◌, ◌++◌, length, get_or, refl, sym, ap, ◌∙◌, arith, IsNone, length-map, Edit, Known, StoreId, Waiting, PreparesNext, Origin, passes_of, edits_of, IsStoreAt}
+use Rattle.std.proofs.Common.{Option, Some, None, true≢false}
+use Rattle.std.specs.Prelude.{IfSome}
+use Rattle.std.proofs.lemmas.List.{get_or-map}
 use Rattle.mst_shards.specs.Laid.{AreOf}
-use Rattle.mst_blocks.specs.Staging.{PreparesNext, Staged}
-use Rattle.mst_parts.specs.Origins.{Origin, passes_of, edits_of, IsStoreAt}
+use Rattle.mst_blocks.specs.Staging.{Staged}
 use Rattle.mst_blocks.specs.declared.blocks.Stage.TheVariants as stage
 use Rattle.mst_shards.proofs.HandingOut.{next_at}
 use Rattle.mst_shards.proofs.Owned.{next_low, next_own}

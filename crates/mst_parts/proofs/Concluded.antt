@@ -1,18 +1,9 @@
 -- What came of a block, said of its edits.
-use Rattle.std.proofs.Common.{◌≡◌, ℕ, List, subst}
-use Rattle.std.specs.List.{AllByRecursion}
-use Rattle.std.specs.Prelude.{OnOk, IfErr}
-use Rattle.std.specs.declared.result.Result.{Result}
-use Rattle.mst_key.specs.declared.history.Edit.{Edit}
+use Rattle.mst_parts.proofs.Names.{◌≡◌, ℕ, List, subst, AllByRecursion, OnOk, IfErr, Result, Edit, Known, whole, parts_of, LeavesAll, Concludes, IsWriter, AddsBlock, RefusesBlock, KeepStores, BlockFault, writes_still, left_keeps, on_ok}
 use Rattle.mst_key.specs.History.{IsSmall}
-use Rattle.mst_store.specs.Passes.{Known}
-use Rattle.mst_shards.specs.BlockHistory.{whole}
-use Rattle.mst_blocks.specs.Blocks.{parts_of, MakesBlock, LeavesAll, RefusesParts}
-use Rattle.mst_blocks.specs.Staging.{Concludes}
-use Rattle.mst_blocks.specs.Writing.{IsWriter, AddsBlock, RefusesBlock, KeepStores}
-use Rattle.mst_blocks.specs.declared.faults.BlockFault.{BlockFault}
-use Rattle.mst_blocks.proofs.Blocked.{writes_again, adds_block, writes_still, refuses_block}
-use Rattle.mst_blocks.proofs.Kept.{made_keeps, left_keeps, either_way, on_ok, if_err}
+use Rattle.mst_blocks.specs.Blocks.{MakesBlock, RefusesParts}
+use Rattle.mst_blocks.proofs.Blocked.{writes_again, adds_block, refuses_block}
+use Rattle.mst_blocks.proofs.Kept.{made_keeps, either_way, if_err}
 
 module _ {D : Type 0} (splits : List (List ℕ)) (edits : List Edit) (parts : List (List Edit))
     (ps qs : List Known) (d e : Known) (r : Result D BlockFault) (w : IsWriter (whole splits ps d))

@@ -4,3 +4,4 @@ pub mod Concluded
 pub mod PartsCommitted
 pub mod Rooms
 pub mod Sent
+pub mod Names

@@ -1,24 +1,15 @@
 -- A block that is made of its parts, or refused: from the writer that began it to the one that is
 -- laid down.
-use Rattle.std.proofs.Common.{◌≡◌, ℕ, List, [], ◌∷◌, ◌++◌, length, map, refl, sym, ap, ◌∙◌, subst}
-use Rattle.std.specs.Prelude.{OnOk, OnErr, IfOk, IfErr}
-use Rattle.std.specs.declared.result.Result.{Result}
+use Rattle.mst_parts.proofs.Names.{◌≡◌, ℕ, List, [], ◌∷◌, ◌++◌, length, map, refl, sym, ap, ◌∙◌, subst, OnOk, IfErr, Result, length-map, Edit, Known, StoreId, Blocks, Whole, whole, Shards, LeavesAll, Origin, Begun, begun, passes_of, edits_of, IsOf, IsBlockOf, Concludes, IsWriter, IsWriterOf, AddsBlock, RefusesBlock, HasMade, KeepStores, BlockFault, made_no_block, from_ok, from_err_of, on_ok}
+use Rattle.std.specs.Prelude.{OnErr, IfOk}
 use Rattle.std.specs.declared.result.Result.TheVariants.{Ok, Err}
-use Rattle.std.proofs.lemmas.List.{length-map}
-use Rattle.mst_key.specs.declared.history.Edit.{Edit}
 use Rattle.mst_key.specs.History.{after}
 use Rattle.mst_node.specs.Text.{root as root_of}
-use Rattle.mst_store.specs.Passes.{Known, StoreId, format_seen}
-use Rattle.mst_shards.specs.BlockHistory.{Blocks, Whole, whole}
-use Rattle.mst_shards.specs.Opening.{Shards}
-use Rattle.mst_blocks.specs.Blocks.{LeavesAll}
-use Rattle.mst_parts.specs.Origins.{Origin, Begun, begun, passes_of, edits_of, IsOf, IsBlockOf}
-use Rattle.mst_blocks.specs.Staging.{Concludes}
-use Rattle.mst_blocks.specs.Writing.{IsWriter, IsWriterOf, IsLastRoot, AddsBlock, RefusesBlock, HasMade, KeepStores}
-use Rattle.mst_blocks.specs.declared.faults.BlockFault.{BlockFault}
-use Rattle.mst_blocks.proofs.Blocked.{made_more_blocks, made_no_block, rooted_now, rooted_still, from_ok, from_ok_of, from_err_of}
+use Rattle.mst_store.specs.Passes.{format_seen}
+use Rattle.mst_blocks.specs.Writing.{IsLastRoot}
+use Rattle.mst_blocks.proofs.Blocked.{made_more_blocks, rooted_now, rooted_still, from_ok_of}
 use Rattle.mst_parts.proofs.Concluded.{concluded_ok, concluded_err, concluded_writer, concluded_own}
-use Rattle.mst_blocks.proofs.Kept.{store, lifted_as, on_ok, either_root}
+use Rattle.mst_blocks.proofs.Kept.{store, lifted_as, either_root}
 
 on_err : {T P Q : Type 0} (r : Result T BlockFault) → OnErr r P → (P → Q) → OnErr r Q
 on_err (Ok u) left f = tt

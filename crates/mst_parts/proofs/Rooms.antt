@@ -1,5 +1,5 @@
 -- Room in a list for what is left in a queue.
-use Rattle.std.proofs.Common.{◌≡◌, ℕ, ◌+◌, ◌<◌, ◌≤◌, List, [], length, ap, arith}
+use Rattle.mst_parts.proofs.Names.{◌≡◌, ℕ, ◌+◌, ◌<◌, ◌≤◌, List, [], length, ap, arith}
 
 -- an empty list has it if it has room for all
 pub room_for_all : {X : Type 0} (xs : List X) (n left all room : ℕ) → n ≡ length xs → xs ≡ []

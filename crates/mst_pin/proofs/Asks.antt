@@ -1,9 +1,5 @@
 -- What an ask is answered.
-use Rattle.std.proofs.Common.{◌≡◌, ◌≢◌, ◌⊎◌, inl, inr, ℕ, Some}
-use Rattle.mst_pin.specs.declared.event.Event.TheVariants.{Publish, Ask}
-use Rattle.mst_pin.specs.declared.event.Answer.{Answer}
-use Rattle.mst_pin.specs.declared.event.Answer.TheVariants.{Yes, No}
-use Rattle.mst_pin.specs.State.{State, row_set, AreUsable, IsDrained, IsPinned, IsTaken, Steps}
+use Rattle.mst_pin.proofs.Names.{◌≡◌, ◌≢◌, ◌⊎◌, inl, inr, ℕ, Some, Publish, Ask, Answer, Yes, No, State, row_set, AreUsable, IsDrained, IsPinned, IsTaken, Steps}
 
 taken_yes : (s t : State) (r : ℕ) → Steps s (Ask r) Yes t → IsTaken s (Ask r) × IsDrained s r
 taken_yes s t r (inl (taken, inl (is, drained), same)) = (taken, drained)

@@ -1,11 +1,7 @@
 -- One bit of a mask, and of CURRENT.
-use Rattle.std.proofs.Common.{◌≡◌, ℕ, ◌+◌, ◌-◌, ◌*◌, ◌/◌, ◌%◌, ◌^◌, ◌<◌, ◌≤◌, ◌≢◌, sym, ap, ◌∙◌, arith, bit_xor}
-use Rattle.std.specs.Int.{bit_at}
-use native.Mathlib.Decide.{dec_le}
-use Rattle.std.proofs.lemmas.Nat.{xor_lt}
-use Rattle.std.proofs.Math.Pow.{pow-lt}
-use Rattle.std.proofs.lemmas.Nat.Bits.{bit_at_xor, bit_at-pow_same, bit_at-pow_other, bit_at_cat_low, bit_at_cat_high, bit_at-lt, same_from_bits}
-use Rattle.mst_pin.specs.WordParts.{masks}
+use Rattle.mst_pin.proofs.Names.{◌≡◌, ℕ, ◌+◌, ◌-◌, ◌*◌, ◌%◌, ◌^◌, ◌<◌, ◌≤◌, ◌≢◌, sym, ap, ◌∙◌, arith, bit_xor, bit_at, dec_le, xor_lt, pow-lt, bit_at-lt, masks}
+use Rattle.std.proofs.Common.{◌/◌}
+use Rattle.std.proofs.lemmas.Nat.Bits.{bit_at_xor, bit_at-pow_same, bit_at-pow_other, bit_at_cat_low, bit_at_cat_high, same_from_bits}
 
 bit_mod : (n i : ℕ) → (bit_at n i + 0) % 2 ≡ bit_at n i
 bit_mod n i = let b : ℕ = bit_at n i in let l : b < 2 = bit_at-lt n i in let g : (b + 0) % 2 ≡ b =

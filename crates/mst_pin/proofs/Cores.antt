@@ -1,19 +1,6 @@
 -- What each step makes of the core's state, and that it keeps what the words keep.
-use Rattle.std.proofs.Common.{◌≡◌, ℕ, ◌+◌, ◌-◌, ◌^◌, ◌<◌, ◌≤◌, ◌≢◌, Bool, cond, eqb, eq-eqb, Some, None, List, length, get_or, set, replicate, sym, refl, ap, ◌∙◌, subst, arith, bit_xor, get_or-set_same, get_or-set_other, pow_pos}
-use Rattle.std.specs.Int.{bit_at}
-use Rattle.std.proofs.lemmas.Nat.{xor_lt}
-use Rattle.std.proofs.Math.Pow.{pow-lt}
-use Rattle.std.proofs.lemmas.Nat.Bits.{bit_at-zero, bit_at_above, bit_at-trailing_zeros}
-use mathlib.Core.Logic.{dite}
-use native.Mathlib.Decide.{ℕ_discrete, dec_le}
-use Rattle.std.specs.Int.{trailing_zeros, w64}
-use Rattle.mst_pin.specs.declared.words.Words.{Words}
-use Rattle.mst_pin.specs.declared.words.Returned.{Returned}
-use Rattle.mst_pin.specs.declared.event.Event.TheVariants.{Pin, Unpin, Publish, Transfer}
-use Rattle.mst_pin.specs.State.{after, row_set, opening, IsDrained, IsPinned}
-use Rattle.mst_pin.specs.WordParts.{record_of}
-use Rattle.mst_pin.specs.Words.{counted_mask, pinned_mask, pinned_by, record_with_bit, IsKept}
-use Rattle.mst_pin.specs.Core.{state_of}
+use Rattle.mst_pin.proofs.Names.{◌≡◌, ℕ, ◌+◌, ◌-◌, ◌^◌, ◌<◌, ◌≤◌, ◌≢◌, Bool, cond, eqb, eq-eqb, Some, None, List, length, get_or, set, replicate, sym, refl, ap, ◌∙◌, subst, arith, bit_xor, get_or-set_same, get_or-set_other, bit_at, xor_lt, pow-lt, bit_at-zero, bit_at_above, bit_at-trailing_zeros, dite, ℕ_discrete, dec_le, trailing_zeros, w64, Words, Returned, Pin, Unpin, Publish, Transfer, after, row_set, opening, IsDrained, IsPinned, record_of, counted_mask, pinned_mask, pinned_by, record_with_bit, IsKept, state_of}
+use Rattle.std.proofs.Common.{pow_pos}
 use Rattle.mst_pin.proofs.States.{same_state}
 use Rattle.mst_pin.proofs.Masks.{pin_adds, pin_one, unpin_drops, unpin_one, pinned_bit, pinned_some, pinned_none, pinned_same, with_here, with_else}
 use Rattle.std.proofs.lemmas.List.{get_or-replicate, get_or_past, length-replicate}

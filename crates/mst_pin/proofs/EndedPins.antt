@@ -1,13 +1,7 @@
 -- A record is drained exactly if each pin of it has ended.
-use Rattle.std.proofs.Common.{◌≡◌, ◌≢◌, ◌⊎◌, inl, inr, ⊎_elim, ◌↔◌, ℕ, List, [], ◌∷◌, None, Some, sym, ap, ◌∙◌, subst, is_some}
-use mathlib.Core.Logic.{dite}
-use native.Mathlib.Decide.{ℕ_discrete}
-use Rattle.mst_pin.specs.declared.event.Event.{Event}
-use Rattle.mst_pin.specs.declared.event.Event.TheVariants.{Pin, Unpin, Write, Publish, Transfer, Ask}
-use Rattle.mst_pin.specs.declared.event.Answer.{Answer}
-use Rattle.mst_pin.specs.declared.event.Answer.TheVariants.{Record, Yes, No}
-use Rattle.mst_pin.specs.Laws.{KeepsPin, HasPinOf}
-use Rattle.mst_pin.specs.State.{State, opening, after, Answers, IsTaken, Steps, Runs}
+use Rattle.mst_pin.proofs.Names.{◌≡◌, ◌≢◌, ◌⊎◌, inl, inr, ⊎_elim, ◌↔◌, ℕ, List, [], ◌∷◌, None, Some, sym, ap, ◌∙◌, subst, is_some, dite, ℕ_discrete, Event, Pin, Unpin, Write, Publish, Transfer, Ask, Answer, Record, Yes, No, KeepsPin, State, opening, after, IsTaken, Steps, Runs}
+use Rattle.mst_pin.specs.Laws.{HasPinOf}
+use Rattle.mst_pin.specs.State.{Answers}
 use Rattle.mst_pin.proofs.Asks.{drained_at_yes, pinned_at_no, one_or_other}
 use Rattle.mst_pin.proofs.Masks.{with_here, with_else}
 use Rattle.mst_pin.proofs.Pinned.{since_pin}

@@ -11,3 +11,4 @@ pub mod Sound
 pub mod States
 pub mod WordSteps
 pub mod Worked
+pub mod Names

@@ -1,11 +1,6 @@
 -- The record that a pass pins, by the masks of the records.
-use Rattle.std.proofs.Common.{◌≡◌, ℕ, suc, zero, ◌+◌, ◌-◌, ◌%◌, ◌^◌, ◌<◌, ◌≢◌, Bool, cond, eqb, eq-eqb, ne_eqb, Option, Some, None, sym, refl, ap, ◌∙◌, subst, arith, bit_xor}
-use Rattle.std.specs.Int.{bit_at}
-use mathlib.Core.Logic.{dite}
-use native.Mathlib.Decide.{ℕ_discrete}
-use Rattle.std.proofs.lemmas.Nat.Bits.{bit_at-lt}
+use Rattle.mst_pin.proofs.Names.{◌≡◌, ℕ, suc, zero, ◌+◌, ◌-◌, ◌%◌, ◌^◌, ◌<◌, ◌≢◌, Bool, cond, eqb, eq-eqb, ne_eqb, Option, Some, None, sym, refl, ap, ◌∙◌, subst, arith, bit_xor, bit_at, dite, ℕ_discrete, bit_at-lt, record_with_bit, pinned_by}
 use Rattle.mst_pin.specs.State.{with_value}
-use Rattle.mst_pin.specs.Words.{record_with_bit, pinned_by}
 use Rattle.mst_pin.proofs.Bits.{bit_other, bit_same}
 
 test_true : {A : Type 0} (a b : ℕ) (x y : A) → a ≡ b → cond (eqb a b) x y ≡ x

@@ -1,8 +1,7 @@
 -- An option that is none is `None`, and one that is some has a value.
-use Rattle.std.proofs.Common.{◌≡◌, ℕ, Bool, true, false, Option, Some, None, refl, sym, ◌∙◌, ◌≢◌, eqb, eq-eqb}
+use Rattle.mst_pin.proofs.Names.{◌≡◌, ℕ, Bool, true, false, Option, Some, None, refl, sym, ◌∙◌, ◌≢◌, eqb, eq-eqb, Returned}
 use Rattle.std.specs.Bool.{OnFalse}
 use Rattle.std.specs.Prelude.{IsSome, IsNone, IsTrue, ◌↔◌, is_some}
-use Rattle.mst_pin.specs.declared.words.Returned.{Returned}
 use Rattle.mst_pin.specs.Words.{due_of}
 
 pub none_is : {A : Type 0} (o : Option A) → IsNone o → o ≡ None

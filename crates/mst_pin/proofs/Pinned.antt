@@ -1,13 +1,6 @@
 -- What stays as it is while a pass keeps its pin.
-use Rattle.std.proofs.Common.{◌≡◌, ℕ, ◌≢◌, inl, inr, ⊎_elim, Bool, true, false, List, [], ◌∷◌, Some, None, sym, refl, ap, ◌∙◌, subst}
-use mathlib.Core.Logic.{dite}
-use native.Mathlib.Decide.{ℕ_discrete}
-use Rattle.mst_pin.specs.declared.event.Event.{Event}
-use Rattle.mst_pin.specs.declared.event.Event.TheVariants.{Pin, Unpin, Write, Publish, Transfer, Ask}
-use Rattle.mst_pin.specs.declared.event.Answer.{Answer}
-use Rattle.mst_pin.specs.declared.event.Answer.TheVariants.{Record, Done, Refused}
-use Rattle.mst_pin.specs.Laws.{KeepsPin}
-use Rattle.mst_pin.specs.State.{State, after, row_set, IsBlank, IsTaken, Steps, Runs}
+use Rattle.mst_pin.proofs.Names.{◌≡◌, ℕ, ◌≢◌, inl, inr, ⊎_elim, Bool, true, false, List, [], ◌∷◌, Some, None, sym, refl, ap, ◌∙◌, subst, dite, ℕ_discrete, Event, Pin, Unpin, Write, Publish, Transfer, Ask, Answer, Record, Done, KeepsPin, State, after, row_set, IsBlank, IsTaken, Steps, Runs}
+use Rattle.mst_pin.specs.declared.event.Answer.TheVariants.{Refused}
 use Rattle.mst_pin.proofs.Masks.{with_here, with_else}
 use Rattle.mst_pin.proofs.Options.{none_is}
 use Rattle.mst_pin.proofs.Rows.{bool_cases, not_both}

@@ -1,11 +1,8 @@
 -- Sets of rows as the bits of a number.
-use Rattle.std.proofs.Common.{◌≡◌, ℕ, ◌-◌, ◌^◌, ◌<◌, ◌≢◌, ◌⊎◌, inl, inr, ⊎_elim, Bool, true, false, eq-eqb, Some, sym, refl, ap, ◌∙◌, arith, bit_or, bit_and, eqb-true, min}
-use Rattle.std.specs.Int.{bit_at, trailing_zeros, w64}
-use Rattle.std.proofs.lemmas.Nat.Bits.{bit_at_or, bit_at_and, bit_at_not, bit_at-lt, bit_at-zero, bit_at_above, bit_at-trailing_zeros}
+use Rattle.mst_pin.proofs.Names.{◌≡◌, ℕ, ◌-◌, ◌^◌, ◌<◌, ◌≢◌, ◌⊎◌, inl, inr, ⊎_elim, Bool, true, false, eq-eqb, Some, sym, refl, ap, ◌∙◌, arith, bit_or, bit_and, eqb-true, bit_at, trailing_zeros, w64, bit_at-lt, bit_at-zero, bit_at_above, bit_at-trailing_zeros, dite, ℕ_discrete, dec_le, State, IsBlank, IsHeld, AreUsable, row_set}
+use Rattle.std.proofs.Common.{min}
+use Rattle.std.proofs.lemmas.Nat.Bits.{bit_at_or, bit_at_and, bit_at_not}
 use Rattle.std.specs.Int.Bits.{and_lt}
-use mathlib.Core.Logic.{dite}
-use native.Mathlib.Decide.{ℕ_discrete, dec_le}
-use Rattle.mst_pin.specs.State.{State, IsBlank, IsHeld, AreUsable, row_set}
 
 pub row_bit : (set x : ℕ) → row_set set x ≡ true → bit_at set x ≡ 1
 row_bit set x e = eqb-true (bit_at set x) 1 e

@@ -1,8 +1,5 @@
 -- One step more after a run.
-use Rattle.std.proofs.Common.{List, [], ◌∷◌, ◌++◌, subst, refl}
-use Rattle.mst_pin.specs.declared.event.Event.{Event}
-use Rattle.mst_pin.specs.declared.event.Answer.{Answer}
-use Rattle.mst_pin.specs.State.{State, Steps, Runs}
+use Rattle.mst_pin.proofs.Names.{List, [], ◌∷◌, ◌++◌, subst, refl, Event, Answer, State, Steps, Runs}
 
 pub runs_more : (s m t : State) (events : List Event) (answers : List Answer) (e : Event)
     (a : Answer) → Runs s events answers m → Steps m e a t → Runs s (events ++ e ∷ [])

@@ -1,13 +1,9 @@
 -- What every state that a list of events leads to keeps, and that some record of it is free.
-use Rattle.std.proofs.Common.{◌≡◌, ℕ, zero, suc, ◌+◌, ◌<◌, ◌≤◌, ◌≢◌, ◌⊎◌, inl, inr, ⊎_elim, Bool, true, false, ◌||◌, eqb, ne_eqb, List, [], ◌∷◌, length, Option, Some, None, sym, refl, ap, ◌∙◌, subst, arith}
+use Rattle.mst_pin.proofs.Names.{◌≡◌, ℕ, zero, suc, ◌+◌, ◌<◌, ◌≤◌, ◌≢◌, ◌⊎◌, inl, inr, ⊎_elim, Bool, true, false, eqb, ne_eqb, List, [], ◌∷◌, length, Option, Some, None, sym, refl, ap, ◌∙◌, subst, arith, dite, ℕ_discrete, Event, Pin, Unpin, Write, Publish, Transfer, Ask, Answer, State, opening, after, IsPinned, IsDrained, IsTaken, Steps, Runs}
+use Rattle.std.proofs.Common.{◌||◌}
 use Rattle.std.specs.List.{list_any, IsDistinct, AllByRecursion}
 use Rattle.std.proofs.lemmas.Map.Steps.{length-le_from_distinct_below}
-use mathlib.Core.Logic.{dite}
-use native.Mathlib.Decide.{ℕ_discrete}
-use Rattle.mst_pin.specs.declared.event.Event.{Event}
-use Rattle.mst_pin.specs.declared.event.Event.TheVariants.{Pin, Unpin, Write, Publish, Transfer, Ask}
-use Rattle.mst_pin.specs.declared.event.Answer.{Answer}
-use Rattle.mst_pin.specs.State.{State, opening, after, IsPinned, IsDrained, IsLive, IsTaken, Steps, Runs}
+use Rattle.mst_pin.specs.State.{IsLive}
 use Rattle.mst_pin.proofs.Masks.{with_here, with_else}
 
 -- only passes of the core pin, and the current record is one of the core

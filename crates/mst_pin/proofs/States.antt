@@ -1,6 +1,5 @@
 -- Two states are equal by their parts.
-use Rattle.std.proofs.Common.{◌≡◌, ℕ}
-use Rattle.mst_pin.specs.State.{State}
+use Rattle.mst_pin.proofs.Names.{◌≡◌, ℕ, State}
 
 pub same_state : (s t : State) → s.passes ≡ t.passes → s.current ≡ t.current
     → ((r x : ℕ) → s.rows r x ≡ t.rows r x) → ((p : ℕ) → s.pins p ≡ t.pins p) → s.due ≡ t.due

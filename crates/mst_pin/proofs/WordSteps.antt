@@ -1,13 +1,8 @@
 -- What each step makes of the words: the masks of pins, and what the words keep.
-use Rattle.std.proofs.Common.{◌≡◌, ℕ, ◌*◌, ◌^◌, ◌<◌, ◌≢◌, Bool, cond, eqb, eq-eqb, ne_eqb, Option, Some, None, length, get_or, set, sym, refl, ap, ◌∙◌, arith, bit_xor, get_or-set_same, get_or-set_other}
+use Rattle.mst_pin.proofs.Names.{◌≡◌, ℕ, ◌*◌, ◌^◌, ◌<◌, ◌≢◌, Bool, cond, eqb, eq-eqb, ne_eqb, Option, Some, None, length, get_or, set, sym, refl, ap, ◌∙◌, arith, bit_xor, get_or-set_same, get_or-set_other, dite, ℕ_discrete, Words, Returned, record_of, mask_of, masks, counted_mask, pinned_mask}
 use Rattle.std.specs.Int.Bits.{xor_zero_l}
 use Rattle.std.proofs.lemmas.Nat.{xor_comm}
-use mathlib.Core.Logic.{dite}
-use native.Mathlib.Decide.{ℕ_discrete}
-use Rattle.mst_pin.specs.declared.words.Words.{Words}
-use Rattle.mst_pin.specs.declared.words.Returned.{Returned}
-use Rattle.mst_pin.specs.WordParts.{record_of, mask_of, masks}
-use Rattle.mst_pin.specs.Words.{returned_mask, counted_mask, pinned_mask}
+use Rattle.mst_pin.specs.Words.{returned_mask}
 use Rattle.mst_pin.proofs.Bits.{xor_current, xor_assoc}
 
 if_true : {A : Type 0} (a b : ℕ) (x y : A) → a ≡ b → cond (eqb a b) x y ≡ x

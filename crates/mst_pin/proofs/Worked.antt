@@ -1,10 +1,5 @@
 -- The core at events that were worked by hand.
-use Rattle.std.proofs.Common.{◌≡◌, ◌≢◌, inl, inr, ℕ, [], ◌∷◌, Bool, true, false, cond, eqb, Option, None, Some, refl, sym, ap, ◌∙◌, ne_eqb, arith}
-use Rattle.std.specs.Int.{bit_at}
-use Rattle.std.proofs.lemmas.Nat.Bits.{bit_at-zero}
-use Rattle.mst_pin.specs.declared.event.Event.TheVariants.{Pin, Unpin, Publish, Transfer, Ask}
-use Rattle.mst_pin.specs.declared.event.Answer.TheVariants.{Record, Done, Yes, No}
-use Rattle.mst_pin.specs.State.{State, opening, after, row_set, AreUsable, Runs}
+use Rattle.mst_pin.proofs.Names.{◌≡◌, ◌≢◌, inl, inr, ℕ, [], ◌∷◌, Bool, true, false, cond, eqb, Option, None, Some, refl, sym, ap, ◌∙◌, ne_eqb, arith, bit_at, bit_at-zero, Pin, Unpin, Publish, Transfer, Ask, Record, Done, Yes, No, State, opening, after, row_set, AreUsable, Runs}
 
 -- the set of no rows may be published anywhere
 no_rows : (s : State) → AreUsable s (row_set 0)

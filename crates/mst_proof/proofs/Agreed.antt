@@ -1,27 +1,6 @@
 -- The verdict is an answer exactly if the proof is accepted with it.
-use Rattle.mst_key.specs.declared.format.Format.{Format}
-use Rattle.std.proofs.Common.{◌≡◌, ℕ, suc, ◌<◌, Bool, true, false, List, [], ◌∷◌, ◌++◌, length, map, Option, Some, None, refl, sym, ◌∙◌, ap, subst}
-use Rattle.std.specs.List.{list_all, AllByRecursion}
-use Rattle.std.specs.Str.{bytes_eq}
-use Rattle.std.specs.declared.result.Result.{Result}
-use Rattle.std.specs.declared.result.Result.TheVariants.{Ok}
-use Rattle.std.proofs.lemmas.Slice.Eq.{bytes_eq-Decides}
-use Rattle.mst_key.specs.Bytes.{IsBytes}
-use Rattle.mst_node.specs.Text.{FlatNode, spelling, digest_of, format_byte}
-use Rattle.mst_node.specs.Grammar.{IsFlatNode}
-use Rattle.mst_node.specs.Trail.{framed, framing}
-use Rattle.mst_node.specs.KeyPlace.{place_of}
-use Rattle.mst_proof.specs.declared.fault.ProofFault.{ProofFault}
-use Rattle.mst_proof.specs.declared.fault.ProofFault.TheVariants.{OtherDigest, LayerNotBelow, KeyOutside, OtherValue}
-use Rattle.mst_proof.specs.declared.expected.Expected.{Expected}
-use Rattle.mst_proof.specs.declared.expected.Step.{Step}
-use Rattle.mst_proof.specs.declared.expected.Step.TheVariants.{Decided, Onward}
-use Rattle.mst_proof.specs.Frame.{◌>>◌, claim_at, frame_at}
-use Rattle.mst_key.specs.declared.format.Format.TheVariants.{One, Two}
-use Rattle.mst_proof.specs.declared.claim.Claim.{Claim}
-use Rattle.mst_proof.specs.declared.claim.Claim.TheVariants.{Nothing, Absence, Given, Unfit}
-use Rattle.mst_proof.specs.Accepted.{held_answer}
-use Rattle.mst_proof.specs.Verdict.{unless, node_in, is_under, is_inside, step_of, step_in_node, step_at, first_expected, answer_at_end, by_step, followed, judgement, settled, verdict}
+use Rattle.mst_proof.proofs.Names.{Format, ◌≡◌, ℕ, suc, ◌<◌, Bool, true, false, List, [], ◌∷◌, ◌++◌, length, map, Option, Some, None, refl, sym, ◌∙◌, ap, subst, list_all, AllByRecursion, bytes_eq, Result, Ok, bytes_eq-Decides, IsBytes, FlatNode, spelling, digest_of, format_byte, IsFlatNode, framed, framing, place_of, ProofFault, OtherDigest, LayerNotBelow, KeyOutside, OtherValue, Expected, Step, Decided, Onward, ◌>>◌, claim_at, frame_at, One, Two, Claim, Nothing, Absence, Given, Unfit, held_answer, unless, node_in, is_under, is_inside, step_of, step_in_node, first_expected, answer_at_end, by_step, followed, judgement, settled, verdict}
+use Rattle.mst_proof.specs.Verdict.{step_at}
 use Rattle.mst_proof.proofs.Stepwise.{IsExpected, Says, Leads, LeadsFrom, Accepted}
 use Rattle.mst_proof.proofs.Decisions.{node_in-spelt, node_in-read, under-Decides, within-Decides}
 use Rattle.mst_proof.proofs.Steps.{step-passed}

@@ -1,18 +1,10 @@
 -- A search for a key meets the nodes in whose span the key falls.
-use Rattle.std.proofs.Common.{◌≡◌, ℕ, Bool, true, false, List, [], ◌∷◌, ◌++◌, map, Option, Some, ◌⊎◌, inl, inr, refl, sym, ◌∙◌, ap, subst, append-nil}
+use Rattle.mst_proof.proofs.Names.{◌≡◌, ℕ, Bool, true, false, List, [], ◌∷◌, ◌++◌, map, Option, Some, ◌⊎◌, inl, inr, refl, sym, ◌∙◌, ap, subst, Ordering, Less, is_lt, is_gt, map-append, key_cmp, above, below, less_chain, greater_from_less, equal_from_same, Tree, empty, node, Entries, last, entry, LiesBetween, EntriesLieBetween, nodes_met, met_in_gap, Span, is_inside}
+use Rattle.std.proofs.Common.{append-nil}
 use Rattle.std.specs.Prelude.{filter, ◌&&◌, if◌then◌else◌}
-use Rattle.std.specs.declared.cmp.Ordering.{Ordering}
-use Rattle.std.specs.declared.cmp.Ordering.TheVariants.{Less}
-use Rattle.std.specs.Ordering.{is_lt, is_gt}
-use Rattle.std.proofs.lemmas.List.{map-append}
 use Rattle.std.proofs.lemmas.List.Elements.{filter-append}
-use Rattle.mst_key.specs.Map.{key_cmp, above, below}
-use Rattle.mst_key.proofs.KeyOrder.{by_order, less_chain, greater_from_less, equal_from_same}
-use Rattle.mst_node.specs.Tree.{Tree, empty, node, Entries, last, entry}
-use Rattle.mst_node.specs.Gaps.{LiesBetween, EntriesLieBetween}
-use Rattle.mst_node.specs.Trail.{by_order as chosen, nodes_met, met_in_gap}
-use Rattle.mst_node.specs.declared.key_place.Span.{Span}
-use Rattle.mst_proof.specs.Verdict.{is_inside}
+use Rattle.mst_key.proofs.KeyOrder.{by_order}
+use Rattle.mst_node.specs.Trail.{by_order as chosen}
 use Rattle.mst_proof.specs.Spans.{spans, spans_in}
 
 abbrev pub Stay : Type 0

@@ -1,18 +1,11 @@
 -- A proof beside the tree of the map: where the search goes in a node of the program, and the value
 -- of the entry at which it ends.
-use Rattle.mst_key.specs.declared.format.Format.{Format}
-use Rattle.std.proofs.Common.{◌≡◌, ℕ, suc, ◌+◌, ◌<◌, List, [], ◌∷◌, length, map, get_or, drop, Option, Some, None, sym, ◌∙◌, ap, subst, arith, add-one}
+use Rattle.mst_proof.proofs.Names.{Format, ◌≡◌, ℕ, suc, ◌+◌, ◌<◌, List, [], ◌∷◌, length, map, drop, Option, Some, None, sym, ◌∙◌, ap, subst, arith, common_steps, Ordering, key_cmp, Node, out-Node, Tree, empty, last, tree_of, tree_of_child, by_order, tree_of_out, gap_in, gap_tree, held_in, held_value}
+use Rattle.std.proofs.Common.{get_or, add-one}
 use Rattle.std.proofs.Math.Seq.{drop-cons}
-use Rattle.std.proofs.lemmas.Grind.{common_steps}
-use Rattle.std.specs.declared.cmp.Ordering.{Ordering}
-use Rattle.mst_key.specs.Map.{key_cmp}
-use Rattle.mst_node.specs.declared.node.Node.{Node, out-Node}
 use Rattle.mst_node.specs.declared.node.Entry.{Entry, out-Entry}
-use Rattle.mst_node.specs.Tree.{Tree, empty, last}
-use Rattle.mst_node.specs.Shape.{TreeEntry, with_entries, tree_of, tree_of_child, tree_entry}
-use Rattle.mst_node.specs.Trail.{by_order}
-use Rattle.mst_node.proofs.NodeShapes.{tree_of_out, tree_entry_out}
-use Rattle.mst_proof.specs.Beside.{gap_in, gap_tree, held_in, held_value}
+use Rattle.mst_node.specs.Shape.{TreeEntry, with_entries, tree_entry}
+use Rattle.mst_node.proofs.NodeShapes.{tree_entry_out}
 
 -- ---- entries of the program
 

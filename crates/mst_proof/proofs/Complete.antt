@@ -1,24 +1,6 @@
 -- The texts of a key's trail lead to the map's answer.
-use Rattle.std.proofs.Common.{◌≡◌, ℕ, zero, suc, ◌<◌, ◌≤◌, List, [], ◌∷◌, map, Option, Some, None, inl, inr, refl, sym, ap, subst, arith}
-use Rattle.std.specs.Prelude.{IfSome}
-use Rattle.std.specs.List.{AllByRecursion}
-use Rattle.mst_key.specs.declared.format.Format.{Format}
-use Rattle.mst_key.proofs.KeyOrder.{less_chain}
-use Rattle.mst_node.specs.Tree.{Tree, empty, node, Entries, last, entry, pairs, entries_pairs, IsUnder}
-use Rattle.mst_node.specs.Text.{FlatEntry, child_digest, flat_entries, flat, text, digest}
-use Rattle.mst_node.specs.Gaps.{IsBetween, LiesBetween, EntriesLieBetween}
-use Rattle.mst_node.specs.Trail.{nodes_met, met_in_gap}
-use Rattle.mst_node.specs.declared.key_place.KeyPlace.{KeyPlace}
-use Rattle.mst_node.specs.declared.key_place.KeyPlace.TheVariants.{Gap}
-use Rattle.mst_node.specs.declared.key_place.Span.{Span}
-use Rattle.mst_node.proofs.ReadIsSpelled.{some_same}
-use Rattle.mst_node.proofs.MapTextsInGrammar.{flat_is}
-use Rattle.mst_proof.specs.declared.expected.Expected.{Expected}
-use Rattle.mst_proof.specs.declared.expected.Step.{Step}
-use Rattle.mst_proof.specs.Verdict.{step_of}
+use Rattle.mst_proof.proofs.Names.{◌≡◌, ℕ, zero, suc, ◌<◌, ◌≤◌, List, [], ◌∷◌, map, Option, Some, None, inl, inr, refl, sym, ap, subst, arith, IfSome, AllByRecursion, Format, less_chain, Tree, empty, node, Entries, last, entry, pairs, entries_pairs, IsUnder, FlatEntry, child_digest, flat_entries, flat, text, digest, IsBetween, LiesBetween, EntriesLieBetween, nodes_met, met_in_gap, KeyPlace, Gap, Span, some_same, flat_is, Expected, Step, step_of, held_answer, looked, IsSmall}
 use Rattle.mst_proof.proofs.Stepwise.{IsExpected, Says, Leads}
-use Rattle.mst_proof.specs.Accepted.{held_answer}
-use Rattle.mst_proof.specs.Beside.{looked, IsSmall}
 use Rattle.mst_proof.proofs.Framed.{AllBytes}
 use Rattle.mst_proof.proofs.Agreed.{Spells}
 use Rattle.mst_proof.proofs.Falls.{place, falls}

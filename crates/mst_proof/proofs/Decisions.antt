@@ -1,26 +1,14 @@
 -- Each test of a text decides what it asks.
-use Rattle.mst_key.specs.declared.format.Format.{Format}
-use Rattle.std.proofs.Common.{◌≡◌, ℕ, Bool, true, false, ◌==◌, ◌<◌, cond, List, [], ◌∷◌, map, Option, Some, None, refl, ◌∙◌, ap, subst}
-use Rattle.std.specs.Prelude.{IfSome}
+use Rattle.mst_proof.proofs.Names.{Format, ◌≡◌, ℕ, Bool, true, false, ◌==◌, ◌<◌, cond, List, [], ◌∷◌, map, Option, Some, None, refl, ◌∙◌, ap, subst, IfSome, list_all, AllByRecursion, is_lt, is_gt, Less, IsBytes, Pair, key_cmp, above, below, IsAscending, less_from_greater, greater_from_less, FlatEntry, FlatNode, spelling, flat_pairs, IsFlatNode, IsBetween, ◌>>=◌, LiesWithin, Span, bind_ok, some_same, node_in, is_under, is_inside}
 use Rattle.std.specs.Bool.{Decides}
-use Rattle.std.specs.List.{list_all, AllByRecursion}
-use Rattle.std.specs.Ordering.{is_lt, is_gt}
-use Rattle.std.specs.declared.cmp.Ordering.TheVariants.{Less}
 use Rattle.std.proofs.lemmas.Bool.Decides.{Decides-and, Decides-eqb, Decides-ltb, same_from_decides}
-use Rattle.mst_key.specs.Bytes.{IsBytes}
 use Rattle.mst_key.specs.Layer.{layer_in}
-use Rattle.mst_key.specs.Map.{Pair, key_cmp, above, below, IsAscending}
-use Rattle.mst_key.proofs.KeyOrder.{greater_from_test, less_from_greater, greater_from_less}
-use Rattle.mst_node.specs.Text.{FlatEntry, FlatNode, spelling}
-use Rattle.mst_node.specs.Grammar.{KeysFit, flat_pairs, IsFlatNode, InGrammar}
-use Rattle.mst_node.specs.Gaps.{IsBetween}
-use Rattle.mst_node.specs.Reading.{◌>>=◌, node_at}
-use Rattle.mst_node.specs.KeyPlace.{LiesWithin}
-use Rattle.mst_node.specs.declared.key_place.Span.{Span}
-use Rattle.mst_node.proofs.ReadIsSpelled.{bind_ok, some_same}
+use Rattle.mst_key.proofs.KeyOrder.{greater_from_test}
+use Rattle.mst_node.specs.Grammar.{KeysFit, InGrammar}
+use Rattle.mst_node.specs.Reading.{node_at}
 use Rattle.mst_node.proofs.ScannedEntries.{lt-Decides}
 use Rattle.mst_node.proofs.GrammarIsRead.{read_in_grammar, grammar_read}
-use Rattle.mst_proof.specs.Verdict.{are_rising, do_fit, node_in, is_under, is_inside}
+use Rattle.mst_proof.specs.Verdict.{are_rising, do_fit}
 
 -- a test of each element decides what holds of each
 pub all-Decides : {X : Type 0} (test : X → Bool) (P : X → Type 0)

@@ -1,35 +1,9 @@
 -- A proof that has passed the tests before a fault's, and fails that one, has this fault for its
 -- verdict.
-use Rattle.mst_key.specs.declared.format.Format.{Format}
-use Rattle.mst_key.specs.declared.format.Format.TheVariants.{One, Two}
-use Rattle.std.proofs.Common.{◌≡◌, ◌≢◌, ℕ, Bool, true, false, ◌==◌, cond, List, [], ◌∷◌, ◌++◌, length, map, Option, Some, None, ◌⊎◌, inl, inr, refl, sym, ◌∙◌, ap, subst, arith, length-append, take, drop}
-use Rattle.std.specs.Prelude.{nat_lt}
-use Rattle.std.specs.List.{list_all}
-use Rattle.std.specs.Str.{bytes_eq}
-use Rattle.std.specs.declared.result.Result.{Result}
-use Rattle.std.specs.declared.result.Result.TheVariants.{Ok, Err}
+use Rattle.mst_proof.proofs.Names.{Format, One, Two, ◌≡◌, ◌≢◌, ℕ, Bool, true, false, ◌==◌, cond, List, [], ◌∷◌, ◌++◌, length, map, Option, Some, None, ◌⊎◌, inl, inr, refl, sym, ◌∙◌, ap, subst, arith, length-append, take, drop, nat_lt, list_all, bytes_eq, Result, Ok, Err, nat_tests, append-nil, bytes_eq-Decides, IsBytes, FlatNode, FlatEntry, spelling, digest_of, format_byte, IsFlatNode, place_of, answer_text, KeyPlace, Gap, ProofFault, FormatByte, CutShort, LeftOver, NoNode, OtherDigest, LayerNotBelow, KeyOutside, Unfinished, TextBehind, OtherValue, Claim, Nothing, Absence, Unfit, Expected, Step, ◌>>◌, alone, given, value_at, claim_at, claimed_at, frame_at, unless, is_under, is_inside, step_of, step_at, first_expected, answer_at_end, by_step, followed, judgement, settled, verdict, IsInGap, gap_child, gap_low, gap_high, LeadsOn, LeadsFrom, held_answer, IsAnswer, IsTail, Frames, FrameFails, FailsBy, Decides, FailAt, TextsFail, SettleFails, ProofFails}
 use Rattle.std.proofs.Math.Seq.{take-append_seam, drop-append_seam}
 use Rattle.std.proofs.lemmas.Bool.{false_from_ne_true}
-use Rattle.std.proofs.lemmas.Bool.Decides.{nat_tests}
-use Rattle.std.proofs.lemmas.List.{append-nil}
-use Rattle.std.proofs.lemmas.Slice.Eq.{bytes_eq-Decides}
-use Rattle.mst_key.specs.Bytes.{IsBytes}
-use Rattle.mst_node.specs.Text.{FlatNode, FlatEntry, spelling, digest_of, format_byte}
-use Rattle.mst_node.specs.Grammar.{IsFlatNode}
-use Rattle.mst_node.specs.KeyPlace.{place_of}
-use Rattle.mst_node.specs.Trail.{answer_text}
-use Rattle.mst_node.specs.declared.key_place.KeyPlace.{KeyPlace}
-use Rattle.mst_node.specs.declared.key_place.KeyPlace.TheVariants.{Gap}
-use Rattle.mst_proof.specs.declared.fault.ProofFault.{ProofFault}
-use Rattle.mst_proof.specs.declared.fault.ProofFault.TheVariants.{FormatByte, CutShort, LeftOver, NoNode, OtherDigest, LayerNotBelow, KeyOutside, Unfinished, TextBehind, OtherValue}
-use Rattle.mst_proof.specs.declared.claim.Claim.{Claim}
-use Rattle.mst_proof.specs.declared.claim.Claim.TheVariants.{Nothing, Absence, Unfit}
-use Rattle.mst_proof.specs.declared.expected.Expected.{Expected}
-use Rattle.mst_proof.specs.declared.expected.Step.{Step}
-use Rattle.mst_proof.specs.Frame.{◌>>◌, alone, given, value_at, claim_at, claimed_at, frame_at}
-use Rattle.mst_proof.specs.Verdict.{unless, is_under, is_inside, step_of, step_at, first_expected, answer_at_end, by_step, followed, judgement, settled, verdict}
-use Rattle.mst_proof.specs.Accepted.{IsExpected, IsInGap, gap_child, gap_low, gap_high, LeadsOn, LeadsFrom, held_answer, IsAnswer}
-use Rattle.mst_proof.specs.Faults.{IsTail, Frames, FrameFails, FailsBy, Decides, FailAt, TextsFail, SettleFails, ProofFails}
+use Rattle.mst_proof.specs.Accepted.{IsExpected}
 use Rattle.mst_proof.proofs.Agreed.{AllFlat, step_expected, follows, settled_done, claim_is}
 use Rattle.mst_proof.proofs.Decisions.{node_in-read, node_in-none, under-Decides, within-Decides}
 use Rattle.mst_proof.proofs.Faults.{Follows, settled_fault}

@@ -1,25 +1,11 @@
 -- Where a key falls in a node of a map's tree: at an entry, or in the gap of a child that holds
 -- what the map says of the key.
-use Rattle.mst_key.specs.declared.format.Format.{Format}
-use Rattle.std.proofs.Common.{◌≡◌, ℕ, ◌≤◌, List, [], ◌∷◌, ◌++◌, length, Option, Some, None, ◌⊎◌, inl, inr, refl, sym, ◌∙◌, ap, subst, arith, length-append}
-use Rattle.std.specs.List.{Contains}
-use Rattle.std.specs.declared.cmp.Ordering.{Ordering}
-use Rattle.std.specs.declared.cmp.Ordering.TheVariants.{Less, Equal, Greater}
-use Rattle.std.proofs.lemmas.List.Elements.{Contains-append_left, Contains-append_right}
-use Rattle.mst_key.specs.Bytes.{IsKey, IsValue}
-use Rattle.mst_key.specs.Map.{Pair, key_cmp, AllBelow, AllAbove, IsMap, map_get}
-use Rattle.mst_key.proofs.KeyOrder.{same_from_equal, less_from_greater, other_from_less}
+use Rattle.mst_proof.proofs.Names.{Format, ◌≡◌, ℕ, ◌≤◌, List, [], ◌∷◌, ◌++◌, length, Option, Some, None, ◌⊎◌, inl, inr, refl, sym, ◌∙◌, ap, subst, arith, length-append, Contains, Ordering, Less, Equal, Greater, Contains-append_left, Contains-append_right, IsKey, IsValue, Pair, key_cmp, AllAbove, IsMap, map_get, less_from_greater, gap_in, held_in, Tree, empty, Entries, last, entry, pairs, entries_pairs, subtrees, entries_subtrees, IsUnder, IsMst, IsMstEntries, child_digest, flat_entries, held_of, LiesBetween, EntriesLieBetween, by_order, nodes_met, met_in_gap, place_among, KeyPlace, Found, Gap, Span}
+use Rattle.mst_key.specs.Map.{AllBelow}
+use Rattle.mst_key.proofs.KeyOrder.{same_from_equal, other_from_less}
 use Rattle.mst_key.proofs.MapLaws.{AllBelow-less, AllAbove-less, map_get-here, map_get-past}
 use Rattle.mst_key.proofs.Splits.{map_get-left, map_get-right}
-use Rattle.mst_proof.specs.Beside.{gap_in, held_in}
-use Rattle.mst_node.specs.Tree.{Tree, empty, Entries, last, entry, pairs, entries_pairs, subtrees, entries_subtrees, IsUnder, IsMst, IsMstEntries}
-use Rattle.mst_node.specs.Text.{child_digest, flat_entries, tail_digest, held_of}
-use Rattle.mst_node.specs.Gaps.{LiesBetween, EntriesLieBetween}
-use Rattle.mst_node.specs.Trail.{by_order, nodes_met, met_in_gap}
-use Rattle.mst_node.specs.KeyPlace.{place_among}
-use Rattle.mst_node.specs.declared.key_place.KeyPlace.{KeyPlace}
-use Rattle.mst_node.specs.declared.key_place.KeyPlace.TheVariants.{Found, Gap}
-use Rattle.mst_node.specs.declared.key_place.Span.{Span}
+use Rattle.mst_node.specs.Text.{tail_digest}
 use Rattle.mst_node.proofs.TreeOrder.{all-front, split}
 
 -- the place of the key among the entries

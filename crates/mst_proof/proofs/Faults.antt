@@ -1,30 +1,6 @@
 -- Which tests a proof has passed when its verdict is a fault.
-use Rattle.mst_key.specs.declared.format.Format.{Format}
-use Rattle.mst_key.specs.declared.format.Format.TheVariants.{One, Two}
-use Rattle.std.proofs.Common.{◌≡◌, ◌≢◌, ℕ, Bool, true, false, List, [], ◌∷◌, Option, Some, None, ◌⊎◌, inl, inr, refl, sym, ◌∙◌, ap, subst}
-use Rattle.std.specs.List.{list_all}
-use Rattle.std.specs.Str.{bytes_eq}
-use Rattle.std.specs.declared.result.Result.{Result}
-use Rattle.std.specs.declared.result.Result.TheVariants.{Ok, Err}
-use Rattle.std.proofs.lemmas.Bool.Decides.{not_from_Decides}
-use Rattle.std.proofs.lemmas.Slice.Eq.{bytes_eq-Decides}
-use Rattle.mst_key.specs.Bytes.{IsBytes}
-use Rattle.mst_node.specs.Text.{FlatNode, FlatEntry, digest_of}
-use Rattle.mst_node.specs.KeyPlace.{place_of}
-use Rattle.mst_node.specs.Trail.{answer_text}
-use Rattle.mst_node.specs.declared.key_place.KeyPlace.{KeyPlace}
-use Rattle.mst_node.specs.declared.key_place.KeyPlace.TheVariants.{Gap}
-use Rattle.mst_node.proofs.EntryPlaces.{none-some}
-use Rattle.mst_proof.specs.declared.fault.ProofFault.{ProofFault}
-use Rattle.mst_proof.specs.declared.fault.ProofFault.TheVariants.{NoNode, OtherDigest, LayerNotBelow, KeyOutside, Unfinished, TextBehind, OtherValue}
-use Rattle.mst_proof.specs.declared.claim.Claim.{Claim}
-use Rattle.mst_proof.specs.declared.claim.Claim.TheVariants.{Nothing, Absence, Given, Unfit}
-use Rattle.mst_proof.specs.declared.expected.Expected.{Expected}
-use Rattle.mst_proof.specs.declared.expected.Step.{Step}
-use Rattle.mst_proof.specs.Frame.{◌>>◌, claim_at, frame_at}
-use Rattle.mst_proof.specs.Verdict.{unless, node_in, is_under, is_inside, step_of, step_in_node, step_at, first_expected, answer_at_end, by_step, followed, judgement, settled, verdict}
-use Rattle.mst_proof.specs.Accepted.{IsInGap, gap_child, gap_low, gap_high, LeadsOn, held_answer, IsAnswer}
-use Rattle.mst_proof.specs.Faults.{FrameFails, FailsBy, Decides, FailAt, TextsFail, SettleFails, ProofFails}
+use Rattle.mst_proof.proofs.Names.{Format, One, Two, ◌≡◌, ◌≢◌, ℕ, Bool, true, false, List, [], ◌∷◌, Option, Some, None, ◌⊎◌, inl, inr, refl, sym, ◌∙◌, ap, subst, list_all, bytes_eq, Result, Ok, Err, not_from_Decides, bytes_eq-Decides, IsBytes, FlatNode, FlatEntry, digest_of, place_of, answer_text, KeyPlace, Gap, none-some, ProofFault, NoNode, OtherDigest, LayerNotBelow, KeyOutside, Unfinished, TextBehind, OtherValue, Claim, Nothing, Absence, Given, Unfit, Expected, Step, ◌>>◌, claim_at, frame_at, unless, node_in, is_under, is_inside, step_of, step_in_node, first_expected, answer_at_end, by_step, followed, judgement, settled, verdict, IsInGap, gap_child, gap_low, gap_high, LeadsOn, held_answer, IsAnswer, FrameFails, FailsBy, Decides, FailAt, TextsFail, SettleFails, ProofFails}
+use Rattle.mst_proof.specs.Verdict.{step_at}
 use Rattle.mst_proof.proofs.Agreed.{passes, judged, settles}
 use Rattle.mst_proof.proofs.Decisions.{node_in-spelt, node_in-read, under-Decides, within-Decides}
 use Rattle.mst_proof.proofs.Framed.{AllBytes, ok_same, frame_takes, claim_of, claim_again}

@@ -1,23 +1,5 @@
 -- If no texts and no claim are read from a proof, its frame fails the test whose fault is returned.
-use Rattle.mst_key.specs.declared.format.Format.{Format}
-use Rattle.mst_key.specs.declared.format.Format.TheVariants.{One, Two}
-use Rattle.std.proofs.Common.{◌≡◌, ◌≤◌, ◌<◌, ℕ, Bool, true, false, ◌==◌, cond, List, [], ◌∷◌, ◌++◌, length, Option, Some, None, ◌⊎◌, inl, inr, refl, sym, ◌∙◌, ap, subst, arith, length-append, take, drop}
-use Rattle.std.specs.Prelude.{nat_lt}
-use Rattle.std.specs.declared.result.Result.{Result}
-use Rattle.std.specs.declared.result.Result.TheVariants.{Ok, Err}
-use Rattle.std.proofs.lemmas.Bool.Decides.{nat_tests}
-use Rattle.std.proofs.lemmas.List.{append-nil, take-append-drop, length-take}
-use Rattle.mst_key.specs.Bytes.{IsBytes}
-use Rattle.mst_node.specs.Text.{format_byte}
-use Rattle.mst_node.specs.Trail.{framed}
-use Rattle.mst_node.proofs.EntryPlaces.{none-some}
-use Rattle.mst_node.proofs.ReadIsSpelled.{some_same}
-use Rattle.mst_proof.specs.declared.fault.ProofFault.{ProofFault}
-use Rattle.mst_proof.specs.declared.fault.ProofFault.TheVariants.{FormatByte, CutShort, LeftOver}
-use Rattle.mst_proof.specs.declared.claim.Claim.{Claim}
-use Rattle.mst_proof.specs.declared.claim.Claim.TheVariants.{Nothing, Absence, Unfit}
-use Rattle.mst_proof.specs.Frame.{◌>>◌, texts_at, alone, given, value_at, claim_at, claimed_at, count_at, frame_at}
-use Rattle.mst_proof.specs.Faults.{IsTail, Frames, FrameFails}
+use Rattle.mst_proof.proofs.Names.{Format, One, Two, ◌≡◌, ◌≤◌, ◌<◌, ℕ, Bool, true, false, ◌==◌, cond, List, [], ◌∷◌, ◌++◌, length, Option, Some, None, ◌⊎◌, inl, inr, refl, sym, ◌∙◌, ap, subst, arith, length-append, take, drop, nat_lt, Result, Ok, Err, nat_tests, append-nil, take-append-drop, length-take, IsBytes, format_byte, framed, none-some, some_same, ProofFault, FormatByte, CutShort, LeftOver, Claim, Nothing, Absence, Unfit, ◌>>◌, texts_at, alone, given, value_at, claim_at, claimed_at, count_at, frame_at, IsTail, Frames, FrameFails}
 use Rattle.mst_proof.proofs.Framed.{texts_takes, texts_again, IsFrame, alone_done}
 
 abbrev pub err : {A : Type 0} → ProofFault → Result A ProofFault

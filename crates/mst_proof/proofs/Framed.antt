@@ -1,29 +1,17 @@
 -- The texts that are cut out of bytes are those that the bytes frame.
-use Rattle.std.proofs.Common.{◌≡◌, ℕ, zero, suc, ◌+◌, ◌*◌, ◌<◌, ◌≤◌, ◌^◌, Bool, true, false, ◌==◌, cond, List, [], ◌∷◌, ◌++◌, length, map, Option, Some, None, refl, sym, ◌∙◌, ap, subst, arith, append_assoc, length-append, take, drop}
-use Rattle.std.specs.Prelude.{IfSome, nat_lt, nat_le}
+use Rattle.mst_proof.proofs.Names.{◌≡◌, ℕ, zero, suc, ◌+◌, ◌<◌, ◌≤◌, Bool, true, false, ◌==◌, cond, List, [], ◌∷◌, ◌++◌, length, map, Option, Some, None, refl, sym, ◌∙◌, ap, subst, arith, length-append, take, drop, IfSome, nat_lt, AllByRecursion, Result, Ok, Err, nat_tests, append-nil, take-append-drop, length-take, Format, One, Two, IsBytes, FlatEntry, FlatNode, spelling, format_byte, IsFlatNode, framed, framing, answer_text, bind_ok, some_same, ProofFault, ◌>>◌, alone, given, value_at, claim_at, claimed_at, count_at, frame_at, CutShort, Claim, Nothing, Absence, Given, Unfit, IsAnswer}
+use Rattle.std.proofs.Common.{◌*◌, ◌^◌, append_assoc}
+use Rattle.std.specs.Prelude.{nat_le}
 use Rattle.std.specs.Int.{w32, to_be_bytes, from_be_bytes}
-use Rattle.std.specs.List.{flat_map, AllByRecursion}
-use Rattle.std.specs.declared.result.Result.{Result}
-use Rattle.std.specs.declared.result.Result.TheVariants.{Ok, Err}
-use Rattle.std.proofs.lemmas.Bool.Decides.{nat_tests}
-use Rattle.std.proofs.lemmas.List.{append-nil, take-append-drop, length-take}
+use Rattle.std.specs.List.{flat_map}
 use Rattle.std.proofs.Math.Seq.{take-length, drop-length}
 use Rattle.std.proofs.lemmas.Nat.{be_bytes_4, from_be_bytes-to_be_bytes_4}
-use Rattle.mst_key.specs.declared.format.Format.{Format}
-use Rattle.mst_key.specs.declared.format.Format.TheVariants.{One, Two}
-use Rattle.mst_key.specs.Bytes.{IsBytes}
-use Rattle.mst_node.specs.Text.{FlatEntry, FlatNode, child_text, counted, held_text, entry_text, spelling, format_byte}
-use Rattle.mst_node.specs.Grammar.{IsDigest, IsHeld, IsFlatEntry, IsFlatNode}
-use Rattle.mst_node.specs.Trail.{framed, framing, answer_text}
-use Rattle.mst_node.proofs.ReadIsSpelled.{bind_ok, some_same, part_takes}
+use Rattle.mst_node.specs.Text.{child_text, counted, held_text, entry_text}
+use Rattle.mst_node.specs.Grammar.{IsDigest, IsHeld, IsFlatEntry}
+use Rattle.mst_node.proofs.ReadIsSpelled.{part_takes}
 use Rattle.mst_node.proofs.SpelledIsRead.{part_again}
 use Rattle.mst_node.proofs.Frames.{four_fit}
-use Rattle.mst_proof.specs.declared.fault.ProofFault.{ProofFault}
-use Rattle.mst_proof.specs.Frame.{◌>>◌, text_at, texts_at, alone, given, value_at, claim_at, claimed_at, count_at, heading_at, frame_at}
-use Rattle.mst_proof.specs.declared.fault.ProofFault.TheVariants.{CutShort}
-use Rattle.mst_proof.specs.declared.claim.Claim.{Claim}
-use Rattle.mst_proof.specs.declared.claim.Claim.TheVariants.{Nothing, Absence, Given, Unfit}
-use Rattle.mst_proof.specs.Accepted.{IsAnswer}
+use Rattle.mst_proof.specs.Frame.{text_at, texts_at, heading_at}
 use Rattle.mst_proof.specs.Faults.{IsShort}
 
 -- ---- what is cut out was framed

@@ -1,13 +1,7 @@
 -- Texts cut out of bytes, one after another.
-use Rattle.std.proofs.Common.{◌≡◌, ℕ, zero, suc, ◌==◌, List, [], ◌∷◌, length, Option, Some, None, refl, sym, ◌∙◌, ap, arith, take, drop}
+use Rattle.mst_proof.proofs.Names.{◌≡◌, ℕ, zero, suc, ◌==◌, List, [], ◌∷◌, length, Option, Some, None, refl, sym, ◌∙◌, ap, arith, take, drop, IsBytes, ◌>>=◌, bind_ok, some_same, Err, Format, CutShort, text_at, texts_or_none, claimed_at}
 use Rattle.std.specs.Prelude.{option_map, unwrap_or}
-use Rattle.mst_key.specs.Bytes.{IsBytes}
-use Rattle.mst_node.specs.Reading.{◌>>=◌}
-use Rattle.mst_node.proofs.ReadIsSpelled.{bind_ok, some_same}
-use Rattle.std.specs.declared.result.Result.TheVariants.{Err}
-use Rattle.mst_key.specs.declared.format.Format.{Format}
-use Rattle.mst_proof.specs.declared.fault.ProofFault.TheVariants.{CutShort}
-use Rattle.mst_proof.specs.Frame.{text_at, texts_at, rest_at, texts_or_none, claimed_at}
+use Rattle.mst_proof.specs.Frame.{texts_at, rest_at}
 
 -- as many texts are read as were asked for
 pub texts-count : (n : ℕ) (bytes : List ℕ) (p : List (List ℕ) × List ℕ) → texts_at n bytes ≡ Some p

@@ -1,16 +1,10 @@
 -- How many nodes a trail has: layers fall from node to node, from the format's greatest.
-use Rattle.mst_key.specs.declared.format.Format.{Format}
-use Rattle.std.proofs.Common.{◌≤◌, ◌<◌, ◌+◌, ℕ, List, [], length, arith}
-use Rattle.std.specs.declared.cmp.Ordering.{Ordering}
-use Rattle.std.specs.declared.cmp.Ordering.TheVariants.{Less, Equal, Greater}
+use Rattle.mst_proof.proofs.Names.{Format, ◌≤◌, ◌<◌, ◌+◌, ℕ, List, [], length, arith, Ordering, Less, Equal, Greater, Pair, key_cmp, Tree, empty, node, Entries, last, entry, tree, IsUnder, IsMst, IsMstEntries, by_order, nodes_met, met_in_gap, trail, tree_mst}
 use Rattle.mst_key.specs.Layer.{most_layer}
 use Rattle.mst_key.proofs.Zeros.{layer_few}
-use Rattle.mst_key.specs.Map.{Pair, key_cmp}
-use Rattle.mst_node.specs.Tree.{Tree, empty, node, Entries, last, entry, entry_count, tree, IsUnder, IsMst, IsMstEntries}
+use Rattle.mst_node.specs.Tree.{entry_count}
 use Rattle.mst_node.specs.Gaps.{LayersFall, LayersFallIn}
-use Rattle.mst_node.specs.Trail.{by_order, nodes_met, met_in_gap, trail}
 use Rattle.mst_node.proofs.TreeOrder.{layers_fall}
-use Rattle.mst_node.proofs.UniqueTree.{tree_mst}
 
 mutual
   met_few : (t : Tree) (k : List ℕ) (l : ℕ) → IsUnder l t → LayersFall t → length (nodes_met k t)

@@ -19,3 +19,4 @@ pub mod FrameFaults
 pub mod Faults
 pub mod Heights
 pub mod Failing
+pub mod Names

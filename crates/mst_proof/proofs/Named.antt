@@ -1,26 +1,6 @@
 -- The texts and values of which two are a collision behind a false answer.
-use Rattle.std.proofs.Common.{◌≡◌, ℕ, Bool, true, false, cond, List, [], ◌∷◌, ◌++◌, map, Some, ◌⊎◌, inl, inr, refl, sym, ◌∙◌, ap, subst, arith}
-use Rattle.std.specs.List.{Contains}
-use Rattle.std.specs.Ordering.{is_eq}
-use Rattle.std.specs.declared.cmp.Ordering.{Ordering}
-use Rattle.std.specs.declared.cmp.Ordering.TheVariants.{Less, Equal, Greater}
-use Rattle.std.proofs.lemmas.List.{map-append}
-use Rattle.std.proofs.lemmas.List.Elements.{Contains-append_left, Contains-append_right, Contains-append_cases, Contains-push_cases}
-use Rattle.mst_key.specs.declared.format.Format.{Format}
-use Rattle.mst_key.specs.declared.format.Format.TheVariants.{One, Two}
-use Rattle.mst_key.specs.Map.{Pair, key_cmp, map_get}
-use Rattle.mst_node.specs.Tree.{Tree, empty, node, Entries, last, entry, tree, pairs, subtrees, entries_subtrees}
-use Rattle.mst_node.specs.Text.{text}
-use Rattle.mst_node.specs.Trail.{by_order, nodes_met, met_in_gap, trail}
-use Rattle.mst_node.proofs.ReadIsSpelled.{some_same}
-use Rattle.mst_node.proofs.UniqueTree.{pairs_tree}
-use Rattle.mst_proof.specs.declared.claim.Claim.{Claim}
-use Rattle.mst_proof.specs.declared.claim.Claim.TheVariants.{Given}
-use Rattle.mst_proof.specs.declared.fault.ProofFault.{ProofFault}
-use Rattle.std.specs.declared.result.Result.{Result}
-use Rattle.std.specs.declared.result.Result.TheVariants.{Ok, Err}
-use Rattle.mst_proof.specs.Frame.{frame_at}
-use Rattle.mst_proof.specs.Theorem.{or_nothing, claim_in, or_empty, texts_of, TextsCollide, ValuesCollide, CollidesWith}
+use Rattle.mst_proof.proofs.Names.{◌≡◌, ℕ, Bool, true, false, cond, List, [], ◌∷◌, ◌++◌, map, Some, ◌⊎◌, inl, inr, refl, sym, ◌∙◌, ap, subst, arith, Contains, is_eq, Ordering, Less, Equal, Greater, map-append, Contains-append_left, Contains-append_right, Format, One, Two, Pair, key_cmp, map_get, Tree, empty, node, Entries, last, entry, tree, pairs, subtrees, entries_subtrees, text, by_order, nodes_met, met_in_gap, trail, some_same, pairs_tree, Claim, Given, ProofFault, Result, Ok, Err, frame_at, or_nothing, claim_in, or_empty, texts_of, TextsCollide, ValuesCollide, CollidesWith}
+use Rattle.std.proofs.lemmas.List.Elements.{Contains-append_cases, Contains-push_cases}
 use Rattle.mst_proof.specs.Beside.{claimed, values_named, texts_named, CollidesAmong}
 use Rattle.mst_proof.proofs.Framed.{nothing_claimed}
 use Rattle.mst_proof.proofs.Sound.{has_first, has_later}

@@ -1,26 +1,6 @@
 -- Texts beside the nodes of a tree: if no text differs from its node's text with one digest, nor
 -- the claimed value from the map's, no other answer is shown.
-use Rattle.std.proofs.Common.{◌≡◌, ◌≢◌, ℕ, List, [], ◌∷◌, Option, Some, None, ◌⊎◌, inl, inr, refl, sym, ◌∙◌, ap, subst}
-use Rattle.std.specs.declared.result.Result.{Result}
-use Rattle.std.specs.declared.result.Result.TheVariants.{Ok}
-use Rattle.mst_key.specs.declared.format.Format.{Format}
-use Rattle.mst_key.specs.declared.format.Format.TheVariants.{One, Two}
-use Rattle.mst_key.specs.Bytes.{IsBytes}
-use Rattle.mst_key.specs.Map.{map_get}
-use Rattle.mst_node.specs.Tree.{Tree, empty, node, pairs, entries_pairs}
-use Rattle.mst_node.specs.Text.{FlatNode, digest_of, child_digest, held_of, text, digest}
-use Rattle.mst_node.specs.KeyPlace.{place_of}
-use Rattle.mst_node.specs.declared.key_place.KeyPlace.{KeyPlace}
-use Rattle.mst_node.specs.declared.key_place.KeyPlace.TheVariants.{Gap}
-use Rattle.mst_node.specs.declared.key_place.Span.{Span}
-use Rattle.mst_proof.specs.declared.claim.Claim.{Claim}
-use Rattle.mst_proof.specs.declared.expected.Step.{Step}
-use Rattle.mst_proof.specs.declared.fault.ProofFault.{ProofFault}
-use Rattle.mst_proof.specs.Accepted.{held_answer}
-use Rattle.mst_proof.specs.Frame.{◌>>◌}
-use Rattle.mst_proof.specs.Verdict.{step_of, step_at, answer_at_end, by_step, followed, settled}
-use Rattle.mst_proof.specs.Theorem.{ValuesCollide}
-use Rattle.mst_proof.specs.Beside.{gap_tree, IsSmall, NoOther}
+use Rattle.mst_proof.proofs.Names.{◌≡◌, ◌≢◌, ℕ, List, [], ◌∷◌, Option, Some, None, ◌⊎◌, inl, inr, refl, sym, ◌∙◌, ap, subst, Result, Ok, Format, One, Two, IsBytes, map_get, Tree, empty, node, pairs, entries_pairs, FlatNode, digest_of, child_digest, held_of, text, digest, place_of, KeyPlace, Gap, Span, Claim, Step, ProofFault, held_answer, ◌>>◌, step_of, step_at, answer_at_end, by_step, followed, settled, ValuesCollide, gap_tree, IsSmall, NoOther}
 use Rattle.mst_proof.proofs.Framed.{ok_same, bind_done, claim_of}
 use Rattle.mst_proof.proofs.Agreed.{held_one, passes, settled_done}
 use Rattle.mst_proof.proofs.Falls.{place, falls}

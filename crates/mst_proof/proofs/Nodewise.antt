@@ -1,21 +1,8 @@
 -- Nodes that lead to an answer, one after another, do so step by step as they are judged, and back.
-use Rattle.mst_key.specs.declared.format.Format.{Format}
-use Rattle.std.proofs.Common.{◌≡◌, ℕ, List, [], ◌∷◌, ◌++◌, Option, Some, None, ◌⊎◌, inl, inr, refl, sym, ◌∙◌, ap, subst}
-use Rattle.std.specs.List.{AllByRecursion}
-use Rattle.std.specs.declared.cmp.Ordering.{Ordering}
-use Rattle.std.specs.declared.cmp.Ordering.TheVariants.{Less}
-use Rattle.mst_key.specs.Map.{key_cmp, IsAscending, AllAbove}
-use Rattle.mst_key.proofs.KeyOrder.{by_order, less_chain, greater_from_less, equal_from_same}
-use Rattle.mst_node.specs.Text.{FlatEntry, FlatNode}
-use Rattle.mst_node.specs.Grammar.{IsFlatNode, flat_pairs}
+use Rattle.mst_proof.proofs.Names.{Format, ◌≡◌, ℕ, List, [], ◌∷◌, ◌++◌, Option, Some, None, ◌⊎◌, inl, inr, refl, sym, ◌∙◌, ap, subst, AllByRecursion, Ordering, Less, key_cmp, IsAscending, AllAbove, less_chain, greater_from_less, equal_from_same, FlatEntry, FlatNode, IsFlatNode, flat_pairs, place_among, place_of, KeyPlace, Found, Gap, Span, Expected, step_of, first_expected, IsInGap, gap_child, gap_low, gap_high, LeadsOn, LeadsFrom, held_answer}
+use Rattle.mst_key.proofs.KeyOrder.{by_order}
 use Rattle.mst_node.specs.Trail.{by_order as chosen}
-use Rattle.mst_node.specs.KeyPlace.{place_among, place_of}
-use Rattle.mst_node.specs.declared.key_place.KeyPlace.{KeyPlace}
-use Rattle.mst_node.specs.declared.key_place.KeyPlace.TheVariants.{Found, Gap}
-use Rattle.mst_node.specs.declared.key_place.Span.{Span}
-use Rattle.mst_proof.specs.declared.expected.Expected.{Expected}
-use Rattle.mst_proof.specs.Verdict.{step_of, first_expected}
-use Rattle.mst_proof.specs.Accepted.{IsInGap, gap_child, gap_low, gap_high, ShowsValue, ShowsAbsence, LeadsOn, Leads, LeadsFrom, Accepted, held_answer}
+use Rattle.mst_proof.specs.Accepted.{ShowsValue, ShowsAbsence, Leads, Accepted}
 use Rattle.mst_proof.proofs.Stepwise as step
 use Rattle.mst_proof.proofs.Agreed.{AllFlat}
 

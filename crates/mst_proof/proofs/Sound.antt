@@ -1,31 +1,8 @@
 -- A proof that is accepted for a map's root digest with an answer that the map does not give has a
 -- collision.
-use Rattle.std.proofs.Common.{◌≡◌, ℕ, Bool, true, false, List, [], ◌∷◌, map, Option, Some, ◌⊎◌, inl, inr, refl, sym, ◌∙◌, ap, subst, arith}
-use Rattle.std.specs.List.{Contains}
-use Rattle.std.specs.Str.{bytes_eq}
-use Rattle.std.proofs.lemmas.Bool.Decides.{not_from_Decides}
-use Rattle.std.proofs.lemmas.List.Elements.{Contains-append_right}
-use Rattle.std.proofs.lemmas.Slice.Eq.{bytes_eq-Decides}
-use Rattle.mst_key.specs.declared.format.Format.{Format}
-use Rattle.mst_key.specs.Bytes.{IsBytes}
-use Rattle.mst_node.specs.Tree.{Tree, empty, node, Entries, pairs}
-use Rattle.mst_node.specs.Text.{FlatNode, spelling, digest_of, child_digest, flat, text, digest}
-use Rattle.mst_node.specs.Grammar.{IsFlatNode}
-use Rattle.mst_node.specs.Collision.{Collision}
-use Rattle.mst_node.specs.Trail.{nodes_met, met_in_gap}
-use Rattle.mst_node.specs.KeyPlace.{place_of}
-use Rattle.mst_node.specs.declared.key_place.KeyPlace.{KeyPlace}
-use Rattle.mst_node.specs.declared.key_place.KeyPlace.TheVariants.{Gap}
-use Rattle.mst_node.specs.declared.key_place.Span.{Span}
-use Rattle.mst_node.proofs.ReadIsSpelled.{some_same}
+use Rattle.mst_proof.proofs.Names.{◌≡◌, ℕ, Bool, true, false, List, [], ◌∷◌, map, Option, Some, ◌⊎◌, inl, inr, refl, sym, ◌∙◌, ap, subst, arith, Contains, bytes_eq, not_from_Decides, Contains-append_right, bytes_eq-Decides, Format, IsBytes, Tree, empty, node, Entries, pairs, FlatNode, spelling, digest_of, child_digest, flat, text, digest, IsFlatNode, Collision, nodes_met, met_in_gap, place_of, KeyPlace, Gap, Span, some_same, flat_is, Expected, step_of, held_answer, IsSmall, looked, TextsCollide}
 use Rattle.mst_node.proofs.SpelledIsRead.{one_node}
-use Rattle.mst_node.proofs.MapTextsInGrammar.{flat_is}
-use Rattle.mst_proof.specs.declared.expected.Expected.{Expected}
-use Rattle.mst_proof.specs.Verdict.{step_of}
 use Rattle.mst_proof.proofs.Stepwise.{Says, Leads}
-use Rattle.mst_proof.specs.Accepted.{held_answer}
-use Rattle.mst_proof.specs.Beside.{IsSmall, looked}
-use Rattle.mst_proof.specs.Theorem.{TextsCollide}
 use Rattle.mst_proof.proofs.Framed.{AllBytes}
 use Rattle.mst_proof.proofs.Agreed.{AllFlat}
 use Rattle.mst_proof.proofs.Falls.{place, Gapped, falls}

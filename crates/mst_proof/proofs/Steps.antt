@@ -1,17 +1,6 @@
 -- What a text says of a key, test by test.
-use Rattle.mst_key.specs.declared.format.Format.{Format}
-use Rattle.std.proofs.Common.{◌≡◌, ℕ, Bool, true, false, List, Some, None, ap, ◌∙◌}
-use Rattle.std.specs.List.{list_all}
-use Rattle.std.specs.Str.{bytes_eq}
-use Rattle.std.specs.declared.result.Result.{Result}
-use Rattle.std.specs.declared.result.Result.TheVariants.{Ok, Err}
-use Rattle.mst_node.specs.Text.{FlatNode, digest_of}
-use Rattle.mst_node.specs.KeyPlace.{place_of}
-use Rattle.mst_proof.specs.declared.fault.ProofFault.{ProofFault}
-use Rattle.mst_proof.specs.declared.fault.ProofFault.TheVariants.{NoNode, OtherDigest, LayerNotBelow, KeyOutside}
-use Rattle.mst_proof.specs.declared.expected.Expected.{Expected}
-use Rattle.mst_proof.specs.declared.expected.Step.{Step}
-use Rattle.mst_proof.specs.Verdict.{node_in, is_under, is_inside, step_of, step_in_node, step_at, unless}
+use Rattle.mst_proof.proofs.Names.{Format, ◌≡◌, ℕ, Bool, true, false, List, Some, None, ap, ◌∙◌, list_all, bytes_eq, Result, Ok, Err, FlatNode, digest_of, place_of, ProofFault, NoNode, OtherDigest, LayerNotBelow, KeyOutside, Expected, Step, node_in, is_under, is_inside, step_of, step_in_node, unless}
+use Rattle.mst_proof.specs.Verdict.{step_at}
 
 module _ (format : Format) (k text : List ℕ) (x : Expected) where
   pub step-no_node : node_in format text ≡ None → step_at format k x text ≡ Err NoNode

@@ -1,16 +1,6 @@
 -- Accepted proofs, step by step as they are judged.
-use Rattle.mst_key.specs.declared.format.Format.{Format}
-use Rattle.std.specs.Prelude.{◌≡◌, ◌<◌, ℕ, List, [], ◌∷◌, Option, None, length, map, IfSome}
-use Rattle.std.specs.List.{AllByRecursion}
-use Rattle.mst_node.specs.Text.{FlatNode, spelling, digest_of}
-use Rattle.mst_node.specs.Grammar.{IsFlatNode}
-use Rattle.mst_node.specs.Trail.{framing}
-use Rattle.mst_node.specs.KeyPlace.{place_of, LiesWithin}
-use Rattle.mst_proof.specs.declared.expected.Expected.{Expected}
-use Rattle.mst_proof.specs.declared.expected.Step.{Step}
-use Rattle.mst_proof.specs.declared.expected.Step.TheVariants.{Decided, Onward}
-use Rattle.mst_proof.specs.Verdict.{step_of, first_expected}
-use Rattle.mst_proof.specs.Accepted.{held_answer, IsAnswer}
+use Rattle.mst_proof.proofs.Names.{Format, IfSome, AllByRecursion, FlatNode, spelling, digest_of, IsFlatNode, framing, place_of, LiesWithin, Expected, Step, Decided, Onward, step_of, first_expected, held_answer, IsAnswer}
+use Rattle.std.specs.Prelude.{◌≡◌, ◌<◌, ℕ, List, [], ◌∷◌, Option, None, length, map}
 
 -- a flat node is as expected: its digest is the one named above it, its layer lies below, and its
 -- keys lie in the gap where it stands

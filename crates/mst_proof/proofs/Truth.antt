@@ -1,30 +1,11 @@
 -- The verifier's theorem: the proof that a map gives is accepted with the map's answer, and if
 -- another answer is accepted for the map's root there is a collision.
-use Rattle.mst_key.specs.declared.format.Format.{Format}
-use Rattle.mst_key.specs.declared.format.Format.TheVariants.{One, Two}
-use Rattle.mst_proof.specs.Accepted.{held_answer, IsAnswer}
-use Rattle.mst_node.proofs.ReadIsSpelled.{some_same, bytes-split}
-use Rattle.std.specs.Ordering.{is_eq}
-use Rattle.std.specs.Str.{bytes_eq}
-use Rattle.std.proofs.lemmas.Bool.Decides.{not_from_Decides}
-use Rattle.std.proofs.lemmas.Slice.Eq.{bytes_eq-Decides}
-use Rattle.std.proofs.Common.{◌≡◌, ◌≢◌, ℕ, suc, Bool, true, false, cond, ◌<◌, List, [], ◌∷◌, length, map, Option, Some, None, ◌⊎◌, inl, inr, refl, sym, ◌∙◌, ap, subst, arith}
-use Rattle.std.specs.List.{AllByRecursion}
+use Rattle.mst_proof.proofs.Names.{Format, One, Two, held_answer, IsAnswer, some_same, is_eq, bytes_eq, not_from_Decides, bytes_eq-Decides, ◌≡◌, ◌≢◌, ℕ, suc, Bool, true, false, cond, ◌<◌, List, [], ◌∷◌, length, map, Option, Some, None, ◌⊎◌, inl, inr, refl, sym, ◌∙◌, ap, subst, arith, AllByRecursion, IsBytes, IsKey, IsValue, Pair, IsMap, IsAscending, map_get, key_cmp, Tree, empty, node, tree, pairs, entries_pairs, FlatNode, spelling, text, digest, digest_of, LiesBetween, Collision, framed, framing, nodes_met, met_in_gap, lies_between, between_none, pairs_tree, tree_mst, first_expected, Claim, or_none, or_nothing, claim_in, or_empty, TextsCollide, ValuesCollide, CollidesWith, looked, IsSmall}
+use Rattle.mst_node.proofs.ReadIsSpelled.{bytes-split}
 use Rattle.std.proofs.lemmas.List.{length-map}
-use Rattle.mst_key.specs.Bytes.{IsBytes, IsKey, IsValue}
-use Rattle.mst_key.specs.Map.{Pair, IsMap, IsAscending, map_get, key_cmp}
-use Rattle.mst_node.specs.Tree.{Tree, empty, node, tree, pairs, entries_pairs}
-use Rattle.mst_node.specs.Text.{FlatNode, spelling, text, digest, digest_of}
-use Rattle.mst_node.specs.Gaps.{LiesBetween}
-use Rattle.mst_node.specs.Collision.{Collision}
-use Rattle.mst_node.specs.Trail.{framed, framing, nodes_met, met_in_gap, proof_text}
-use Rattle.mst_node.proofs.TreeOrder.{lies_between, between_none}
-use Rattle.mst_node.proofs.UniqueTree.{pairs_tree, tree_mst}
-use Rattle.mst_proof.specs.Verdict.{first_expected}
+use Rattle.mst_node.specs.Trail.{proof_text}
 use Rattle.mst_proof.proofs.Stepwise.{LeadsFrom, Leads, Accepted}
-use Rattle.mst_proof.specs.declared.claim.Claim.{Claim}
-use Rattle.mst_proof.specs.Theorem.{HasRoot, or_none, or_nothing, claim_in, or_empty, TextsCollide, ValuesCollide, CollidesWith}
-use Rattle.mst_proof.specs.Beside.{looked, IsSmall}
+use Rattle.mst_proof.specs.Theorem.{HasRoot}
 use Rattle.mst_proof.proofs.Framed.{AllBytes, claim_of}
 use Rattle.mst_proof.proofs.Agreed.{AllFlat, Spells, frame_accepted, held_one}
 use Rattle.mst_proof.proofs.Sound.{texts_first, sound}

@@ -1,28 +1,7 @@
 -- What one step of a walk along the texts and the nodes of a tree finds.
-use Rattle.std.proofs.Common.{◌≡◌, ◌≢◌, ℕ, Bool, true, false, List, [], ◌∷◌, ◌++◌, map, Option, Some, None, inl, inr, refl, sym, ◌∙◌, ap, subst, arith}
-use Rattle.std.specs.Prelude.{not, IfOk, IfSome, IfNone}
-use Rattle.std.specs.Str.{bytes_eq}
-use Rattle.std.specs.declared.result.Result.{Result}
-use Rattle.std.specs.declared.result.Result.TheVariants.{Ok, Err}
-use Rattle.std.proofs.lemmas.Bool.Decides.{not_from_Decides}
-use Rattle.std.proofs.lemmas.Slice.Eq.{bytes_eq-Decides}
-use Rattle.mst_key.specs.declared.format.Format.{Format}
-use Rattle.mst_key.specs.Bytes.{IsBytes}
-use Rattle.std.specs.declared.cmp.Ordering.{Ordering}
-use Rattle.std.specs.declared.cmp.Ordering.TheVariants.{Less, Equal, Greater}
-use Rattle.mst_key.specs.Map.{key_cmp, map_get}
+use Rattle.mst_proof.proofs.Names.{◌≡◌, ◌≢◌, ℕ, Bool, true, false, List, [], ◌∷◌, ◌++◌, map, Option, Some, None, inl, inr, refl, sym, ◌∙◌, ap, subst, arith, not, IfOk, IfSome, IfNone, bytes_eq, Result, Ok, Err, not_from_Decides, bytes_eq-Decides, Format, IsBytes, Ordering, Less, Equal, Greater, key_cmp, map_get, Node, Tree, empty, node, Entries, last, entry, pairs, by_order, nodes_met, met_in_gap, tree_of, digest_of, text, Collision, tree_of_out, Claim, TextsCollide, ValuesCollide, gap_in, gap_tree, held_value, IsSmall, NoOther, CollidesBeside}
 use Rattle.mst_key.proofs.MapLaws.{IsMap-nil}
-use Rattle.mst_node.specs.declared.node.Node.{Node}
-use Rattle.mst_node.specs.Tree.{Tree, empty, node, Entries, last, entry, pairs}
-use Rattle.mst_node.specs.Trail.{by_order, nodes_met, met_in_gap}
-use Rattle.mst_node.specs.Shape.{tree_of}
-use Rattle.mst_node.specs.Text.{digest_of, text}
-use Rattle.mst_node.specs.Collision.{Collision}
-use Rattle.mst_node.proofs.NodeShapes.{tree_of_out}
 use Rattle.mst_proof.specs.declared.collision.Pair.{Pair}
-use Rattle.mst_proof.specs.declared.claim.Claim.{Claim}
-use Rattle.mst_proof.specs.Theorem.{TextsCollide, ValuesCollide}
-use Rattle.mst_proof.specs.Beside.{gap_in, gap_tree, held_value, IsSmall, NoOther, CollidesBeside}
 use Rattle.mst_proof.proofs.Falls.{falls}
 use Rattle.mst_proof.proofs.Sound.{small_child, texts_first, texts_later}
 use Rattle.mst_proof.proofs.NoOther.{IsFree, no_other_digest, no_other_same}

@@ -1,27 +1,8 @@
 -- What a whole proof beside the tree of a map finds: no pair, or one that collides.
-use Rattle.std.proofs.Common.{◌≡◌, ◌≢◌, ℕ, ◌≤◌, Bool, true, false, List, [], ◌∷◌, length, map, Option, Some, None, inl, inr, refl, sym, ◌∙◌, ap, subst, arith}
-use Rattle.std.specs.Prelude.{IfOk, IfSome, IfNone}
-use Rattle.std.specs.Str.{bytes_eq}
-use Rattle.std.specs.declared.result.Result.{Result}
-use Rattle.std.specs.declared.result.Result.TheVariants.{Ok, Err}
-use Rattle.std.proofs.lemmas.Slice.Eq.{bytes_eq-Decides}
-use Rattle.mst_key.specs.declared.format.Format.{Format}
-use Rattle.mst_key.specs.Bytes.{IsBytes}
-use Rattle.mst_key.specs.Map.{Pair as KeyValue, IsMap, map_get}
-use Rattle.mst_node.specs.Tree.{Tree, empty, node, pairs, tree, IsMst}
-use Rattle.mst_node.specs.Trail.{nodes_met}
-use Rattle.mst_node.specs.Text.{digest_of, text, digest}
-use Rattle.mst_node.specs.Collision.{Collision}
-use Rattle.mst_node.proofs.UniqueTree.{pairs_tree, tree_mst}
+use Rattle.mst_proof.proofs.Names.{◌≡◌, ◌≢◌, ℕ, ◌≤◌, Bool, true, false, List, [], ◌∷◌, length, map, Option, Some, None, inl, inr, refl, sym, ◌∙◌, ap, subst, arith, IfOk, IfSome, IfNone, bytes_eq, Result, Ok, Err, bytes_eq-Decides, Format, IsBytes, IsMap, map_get, Tree, empty, node, pairs, tree, IsMst, nodes_met, digest_of, text, digest, Collision, pairs_tree, tree_mst, ProofFault, OtherDigest, Claim, held_answer, ◌>>◌, frame_at, first_expected, judgement, settled, unless, or_none, or_nothing, or_empty, texts_of, TextsCollide, ValuesCollide, CollidesWith, gap_tree, IsSmall, NoOther, CollidesBeside}
+use Rattle.mst_key.specs.Map.{Pair as KeyValue}
 use Rattle.mst_proof.specs.declared.collision.Pair.{Pair}
-use Rattle.mst_proof.specs.declared.fault.ProofFault.{ProofFault}
-use Rattle.mst_proof.specs.declared.fault.ProofFault.TheVariants.{OtherDigest}
-use Rattle.mst_proof.specs.declared.claim.Claim.{Claim}
-use Rattle.mst_proof.specs.Accepted.{held_answer}
-use Rattle.mst_proof.specs.Frame.{◌>>◌, frame_at}
-use Rattle.mst_proof.specs.Verdict.{first_expected, judgement, settled, unless}
-use Rattle.mst_proof.specs.Theorem.{or_none, or_nothing, or_empty, texts_of, TextsCollide, ValuesCollide, CollidesWith}
-use Rattle.mst_proof.specs.Beside.{gap_tree, IsSmall, NoOther, ShowsNoOther, CollidesBeside}
+use Rattle.mst_proof.specs.Beside.{ShowsNoOther}
 use Rattle.mst_proof.proofs.Agreed.{settled_done}
 use Rattle.mst_proof.proofs.Framed.{ok_same, bind_done}
 use Rattle.mst_proof.proofs.Sound.{texts_first}

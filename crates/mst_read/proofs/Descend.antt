@@ -1,17 +1,7 @@
 -- A walk down from node to node.
-use Rattle.std.proofs.Common.{◌≡◌, ℕ, ◌+◌, ◌<◌, ◌≤◌, List, [], Option, Some, None, refl, sym, ◌∙◌, ap, subst, arith}
-use Rattle.std.specs.Prelude.{IfSome}
-use Rattle.mst_key.specs.declared.format.Format.{Format}
-use Rattle.mst_key.specs.Map.{Pair, IsAscending}
-use Rattle.mst_node.specs.Tree.{Tree, pairs, entries_pairs, IsMst, IsMstEntries, IsUnder}
-use Rattle.mst_node.proofs.UniqueTree.{pairs_tree, tree_mst}
-use Rattle.mst_arena.specs.Content.{Content}
-use Rattle.mst_arena.specs.declared.row.Root.{Root}
-use Rattle.mst_arena.specs.declared.row.HeadLinks.{HeadLinks}
-use Rattle.mst_arena.specs.Row.{IsHead}
-use Rattle.mst_arena.specs.Standing.{Placed, none, head, Chain, tree_of, entries_of, first_of, tail_of, count_of, rows_of, HasRows, Stands}
-use Rattle.mst_read.specs.Search.{Lies, LiesBehind, TreeLies, ChainLies, StandsBelow, head_of}
-use Rattle.mst_read.specs.Span.{HeadStands}
+use Rattle.mst_read.proofs.Names.{◌≡◌, ℕ, ◌+◌, ◌<◌, ◌≤◌, List, [], Option, Some, None, refl, sym, ◌∙◌, ap, subst, arith, IfSome, Format, Pair, IsAscending, Tree, pairs, entries_pairs, IsMst, IsMstEntries, IsUnder, tree_mst, Content, Root, HeadLinks, IsHead, Placed, none, head, Chain, tree_of, entries_of, first_of, tail_of, count_of, rows_of, HasRows, Stands, Lies, LiesBehind, TreeLies, StandsBelow, head_of, HeadStands}
+use Rattle.mst_node.proofs.UniqueTree.{pairs_tree}
+use Rattle.mst_read.specs.Search.{ChainLies}
 use Rattle.mst_read.proofs.Still.{lies_still, behind_still}
 
 -- a Merkle search tree under a layer, whose keys rise, lies at the link, and something holds of its

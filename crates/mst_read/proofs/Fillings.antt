@@ -1,16 +1,12 @@
 -- What a range is that is gathered part by part.
-use Rattle.std.proofs.Common.{◌≡◌, ℕ, zero, suc, ◌+◌, ◌-◌, ◌<◌, ◌≤◌, ◌⊎◌, inl, inr, Bool, true, false, cond, not, List, [], ◌∷◌, ◌++◌, length, take, filter, Option, Some, None, refl, sym, ◌∙◌, ap, subst, arith, append_assoc, length-append, is_lt, true≢false}
+use Rattle.mst_read.proofs.Names.{◌≡◌, ℕ, suc, ◌+◌, ◌-◌, ◌<◌, ◌≤◌, ◌⊎◌, inl, inr, Bool, true, false, cond, List, [], ◌∷◌, ◌++◌, length, Option, Some, None, refl, sym, ◌∙◌, ap, subst, arith, append_assoc, length-append, is_lt, true≢false, cond-true, same_Some, append-nil, Ordering, Less, Pair, key_cmp, AllBelow, above, below, less_chain, greater_from_less, equal_from_same}
+use Rattle.std.proofs.Common.{zero, not, take, filter}
 use Rattle.std.specs.Prelude.{◌&&◌}
-use Rattle.std.proofs.lemmas.Bool.{cond-true}
-use Rattle.std.proofs.lemmas.Option.{same_Some}
-use Rattle.std.proofs.lemmas.List.{append-nil}
 use Rattle.std.proofs.lemmas.List.Elements.{filter-append}
 use Rattle.std.specs.List.{AllByRecursion}
-use Rattle.std.specs.declared.cmp.Ordering.{Ordering}
-use Rattle.std.specs.declared.cmp.Ordering.TheVariants.{Less}
-use Rattle.mst_key.specs.Map.{Pair, key_cmp, AllBelow, AllAbove, above, below, from_on, map_range}
+use Rattle.mst_key.specs.Map.{AllAbove, from_on, map_range}
 use Rattle.mst_key.proofs.Alls.{alls-weaker, filter-nothing}
-use Rattle.mst_key.proofs.KeyOrder.{by_order, less_chain, greater_from_less, equal_from_same}
+use Rattle.mst_key.proofs.KeyOrder.{by_order}
 use Rattle.mst_read.specs.Span.{within, filled}
 
 -- the first of two lists in turn: those of the one, and of the other as many as are left

@@ -1,16 +1,6 @@
 -- A range gathered along the entries of a node.
-use Rattle.std.proofs.Common.{◌≡◌, ℕ, ◌+◌, ◌-◌, ◌<◌, ◌≤◌, ◌⊎◌, inl, inr, false, List, [], ◌∷◌, length, Option, Some, None, option_and_then, Result, Ok, Err, OnOk, refl, sym, ◌∙◌, ap, subst, arith}
-use Rattle.mst_key.specs.declared.format.Format.{Format}
-use Rattle.mst_key.specs.Map.{Pair, IsAscending, below}
-use Rattle.mst_key.proofs.Splits.{IsAscending-front, IsAscending-back, IsAscending-above}
-use Rattle.mst_node.specs.Tree.{pairs, entries_pairs, IsMstEntries}
-use Rattle.mst_arena.specs.Content.{Content, part_at}
-use Rattle.mst_arena.specs.Row.{keyed_links, entry_pair}
-use Rattle.mst_arena.specs.declared.row.KeyedLinks.{KeyedLinks}
-use Rattle.mst_arena.specs.declared.row.HeadLinks.{HeadLinks}
-use Rattle.mst_arena.specs.Standing.{Placed, none, head, Chain, end, cell, tree_of, entries_of, count_of}
-use Rattle.mst_read.specs.Search.{Lies, head_of}
-use Rattle.mst_read.specs.Span.{HeadStands, PartStands, filled, past_gap}
+use Rattle.mst_read.proofs.Names.{◌≡◌, ℕ, ◌+◌, ◌-◌, ◌<◌, ◌≤◌, ◌⊎◌, inl, inr, false, List, [], ◌∷◌, length, Option, Some, None, option_and_then, refl, sym, ◌∙◌, ap, subst, arith, Format, Pair, IsAscending, below, IsAscending-front, IsAscending-back, IsAscending-above, pairs, entries_pairs, IsMstEntries, Content, part_at, keyed_links, entry_pair, KeyedLinks, HeadLinks, Placed, none, head, Chain, end, cell, tree_of, entries_of, count_of, Lies, head_of, HeadStands, PartStands, filled, past_gap}
+use Rattle.std.proofs.Common.{Result, Ok, Err, OnOk}
 use Rattle.mst_read.proofs.Descend.{falls, depth}
 use Rattle.mst_read.proofs.Still.{stands_still, part_still}
 use Rattle.mst_read.proofs.Walk.{Onward, AtCell, AtEnd, at_cell, child_lies, tail_lies, further}

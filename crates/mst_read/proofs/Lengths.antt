@@ -1,14 +1,6 @@
 -- Pairs counted along the entries of a node.
-use Rattle.std.proofs.Common.{◌≡◌, ℕ, ◌+◌, ◌<◌, ◌%◌, ◌^◌, List, [], ◌∷◌, length, length-append, refl, ap, subst, arith}
-use Rattle.mst_key.specs.declared.format.Format.{Format}
-use Rattle.mst_key.specs.Map.{Pair, IsAscending}
-use Rattle.mst_key.proofs.Splits.{IsAscending-front, IsAscending-back}
-use Rattle.mst_node.specs.Tree.{pairs, entries_pairs, IsMstEntries}
-use Rattle.mst_arena.specs.Content.{Content}
-use Rattle.mst_arena.specs.declared.row.HeadLinks.{HeadLinks}
-use Rattle.mst_arena.specs.declared.row.KeyedLinks.{KeyedLinks}
-use Rattle.mst_arena.specs.Standing.{none, head, Chain, end, cell, tree_of, entries_of, count_of}
-use Rattle.mst_read.specs.Span.{PartStands}
+use Rattle.mst_read.proofs.Names.{◌≡◌, ℕ, ◌+◌, ◌<◌, List, [], ◌∷◌, length, length-append, refl, ap, subst, arith, Format, Pair, IsAscending, IsAscending-front, IsAscending-back, pairs, entries_pairs, IsMstEntries, Content, HeadLinks, KeyedLinks, none, head, Chain, end, cell, tree_of, entries_of, count_of, PartStands}
+use Rattle.std.proofs.Common.{◌%◌, ◌^◌}
 use Rattle.mst_read.proofs.Descend.{Ahead, Inside}
 use Rattle.mst_read.proofs.Walk.{Onward, AtCell, AtEnd, further}
 

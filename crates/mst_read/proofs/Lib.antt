@@ -11,3 +11,4 @@ pub mod Lengths
 pub mod Parts
 pub mod NodeTexts
 pub mod Trails
+pub mod Names

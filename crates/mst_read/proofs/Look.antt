@@ -1,24 +1,8 @@
 -- What the place at which a search for a key ends says of the pairs of the node.
-use Rattle.std.proofs.Common.{◌≡◌, ℕ, List, ◌∷◌, ◌++◌, Option, Some, IsSome, option_and_then, refl, sym, ◌∙◌, ap, subst}
-use Rattle.std.specs.declared.cmp.Ordering.{Ordering}
-use Rattle.std.specs.declared.cmp.Ordering.TheVariants.{Less, Equal, Greater}
-use Rattle.mst_key.specs.declared.format.Format.{Format}
-use Rattle.mst_key.specs.Map.{Pair, key_cmp, IsAscending, AllBelow, map_get}
-use Rattle.mst_key.proofs.KeyOrder.{same_from_equal, less_from_greater, other_from_less}
+use Rattle.mst_read.proofs.Names.{◌≡◌, ℕ, List, ◌∷◌, ◌++◌, Option, Some, IsSome, option_and_then, refl, sym, ◌∙◌, ap, subst, Ordering, Less, Equal, Greater, Format, Pair, key_cmp, IsAscending, AllBelow, map_get, same_from_equal, less_from_greater, IsAscending-front, IsAscending-back, IsAscending-below, IsAscending-above, pairs, entries_pairs, IsMstEntries, Content, part_at, entry_value, HeadLinks, Row, Entry, Chain, end, cell, tree_of, entries_of, link_of, first_of, rows_of, chain_rows, HasRows, all-front, all-back, by_order, Lies, LiesBehind, place, RowPlace, Found, Gap}
+use Rattle.mst_key.proofs.KeyOrder.{other_from_less}
 use Rattle.mst_key.proofs.MapLaws.{map_get-here, map_get-past, AllAbove-less, AllBelow-less}
-use Rattle.mst_key.proofs.Splits.{map_get-left, map_get-right, IsAscending-front, IsAscending-back, IsAscending-below, IsAscending-above}
-use Rattle.mst_node.specs.Tree.{pairs, entries_pairs, IsMstEntries}
-use Rattle.mst_arena.specs.Content.{Content, part_at}
-use Rattle.mst_arena.specs.Row.{entry_value}
-use Rattle.mst_arena.specs.declared.row.HeadLinks.{HeadLinks}
-use Rattle.mst_arena.specs.declared.row.Row.{Row}
-use Rattle.mst_arena.specs.declared.row.Row.TheVariants.{Entry}
-use Rattle.mst_arena.specs.Standing.{Chain, end, cell, tree_of, entries_of, link_of, first_of, rows_of, chain_rows, HasRows}
-use Rattle.mst_arena.proofs.Stands.{all-front, all-back}
-use Rattle.mst_node.specs.Trail.{by_order}
-use Rattle.mst_read.specs.Search.{Lies, LiesBehind, place}
-use Rattle.mst_read.specs.declared.lookup.RowPlace.{RowPlace}
-use Rattle.mst_read.specs.declared.lookup.RowPlace.TheVariants.{Found, Gap}
+use Rattle.mst_key.proofs.Splits.{map_get-left, map_get-right}
 use Rattle.mst_read.proofs.Still.{behind_still}
 use Rattle.mst_read.proofs.Descend.{Ahead, Inside, holding}
 

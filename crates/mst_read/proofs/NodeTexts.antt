@@ -1,15 +1,9 @@
 -- The text of a node that is written from its rows.
-use Rattle.mst_key.specs.declared.format.Format.{Format}
+use Rattle.mst_read.proofs.Names.{Format, ◌≡◌, ◌≤◌, ◌+◌, ℕ, List, ◌++◌, length, length-append, Option, Some, None, refl, sym, ◌∙◌, ap, arith, append_assoc, IfSome, node, text, heading, child_text, counted, held_text, held_of, child_digest, Content, KeyedLinks, Placed, Chain, end, cell, tree_of, entries_of, count_of}
 use Rattle.mst_key.specs.declared.format.Format.TheVariants.{One, Two}
-use Rattle.std.proofs.Common.{◌≡◌, ◌≤◌, ◌+◌, ℕ, List, ◌++◌, length, length-append, Option, Some, None, refl, sym, ◌∙◌, ap, arith, append_assoc}
-use Rattle.std.specs.Prelude.{IfSome}
 use Rattle.sha2.proofs.Facts256.{length-sha256}
 use Rattle.std.specs.List.{flat_map}
-use Rattle.mst_node.specs.Tree.{node}
-use Rattle.mst_node.specs.Text.{text, heading, entry_text, child_text, counted, held_text, held_of, child_digest, flat_entries, tail_digest}
-use Rattle.mst_arena.specs.Content.{Content}
-use Rattle.mst_arena.specs.declared.row.KeyedLinks.{KeyedLinks}
-use Rattle.mst_arena.specs.Standing.{Placed, Chain, end, cell, tree_of, entries_of, count_of}
+use Rattle.mst_node.specs.Text.{entry_text, flat_entries, tail_digest}
 use Rattle.mst_read.proofs.Walk.{Onward, AtCell, AtEnd, further}
 
 -- the entries of the rest of a node and its last child, as they stand in its text

@@ -1,20 +1,6 @@
 -- A node cut at a key: the tree in the gap in which the key would lie, and the part from the first
 -- entry on whose key is not below it.
-use Rattle.std.proofs.Common.{◌≡◌, ℕ, ◌+◌, ◌-◌, ◌<◌, inl, inr, List, [], ◌∷◌, ◌++◌, Option, Some, None, refl, sym, ◌∙◌, ap, subst, arith}
-use Rattle.std.specs.declared.cmp.Ordering.{Ordering}
-use Rattle.std.specs.declared.cmp.Ordering.TheVariants.{Less, Equal, Greater}
-use Rattle.mst_key.specs.declared.format.Format.{Format}
-use Rattle.mst_key.specs.Map.{Pair, key_cmp, IsAscending}
-use Rattle.mst_key.proofs.KeyOrder.{same_from_equal, less_from_greater}
-use Rattle.mst_key.proofs.Splits.{IsAscending-front, IsAscending-back, IsAscending-below}
-use Rattle.mst_node.specs.Tree.{pairs, entries_pairs, IsMst, IsMstEntries, IsUnder}
-use Rattle.mst_node.specs.Trail.{by_order}
-use Rattle.mst_arena.specs.Content.{Content}
-use Rattle.mst_arena.specs.declared.row.HeadLinks.{HeadLinks}
-use Rattle.mst_arena.specs.Standing.{Placed, none, Chain, end, cell, tree_of, entries_of, link_of, rows_of, chain_rows, HasRows}
-use Rattle.mst_arena.proofs.Stands.{all-front, all-back}
-use Rattle.mst_read.specs.Search.{Lies, LiesBehind, TreeLies, head_of, chain_links, gap_placed}
-use Rattle.mst_read.specs.Span.{HeadStands, PartStands, filled, past_gap, rest_from}
+use Rattle.mst_read.proofs.Names.{◌≡◌, ℕ, ◌+◌, ◌-◌, ◌<◌, inl, inr, List, [], ◌∷◌, ◌++◌, Option, Some, None, refl, sym, ◌∙◌, ap, subst, arith, Ordering, Less, Equal, Greater, Format, Pair, key_cmp, IsAscending, same_from_equal, less_from_greater, IsAscending-front, IsAscending-back, IsAscending-below, pairs, entries_pairs, IsMst, IsMstEntries, IsUnder, by_order, Content, HeadLinks, Placed, none, Chain, end, cell, tree_of, entries_of, link_of, rows_of, chain_rows, HasRows, all-front, all-back, Lies, LiesBehind, TreeLies, head_of, chain_links, gap_placed, HeadStands, PartStands, filled, past_gap, rest_from}
 use Rattle.mst_read.proofs.Still.{lies_still, stands_still, part_still}
 use Rattle.mst_read.proofs.Descend.{Reached, inside, falls, depth, depth_is}
 use Rattle.mst_read.proofs.Fillings.{from_less, from_same, not_from_more, all_from, none_from, filled-append, filled-nothing, filled-unbound, outside-from}

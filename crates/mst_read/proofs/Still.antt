@@ -1,12 +1,5 @@
 -- What was read of some rows holds of the same rows later.
-use Rattle.std.proofs.Common.{◌≡◌, ℕ, Option, Some, IsSome, sym, ◌∙◌, ap, subst}
-use Rattle.mst_key.specs.declared.format.Format.{Format}
-use Rattle.mst_arena.specs.Content.{Content, part_at}
-use Rattle.mst_arena.specs.declared.row.HeadLinks.{HeadLinks}
-use Rattle.mst_arena.specs.declared.row.Row.{Row}
-use Rattle.mst_arena.specs.Standing.{Placed, Chain}
-use Rattle.mst_read.specs.Search.{Lies, LiesBehind}
-use Rattle.mst_read.specs.Span.{HeadStands, PartStands}
+use Rattle.mst_read.proofs.Names.{◌≡◌, ℕ, Option, Some, IsSome, sym, ◌∙◌, ap, subst, Format, Content, part_at, HeadLinks, Row, Placed, Chain, Lies, LiesBehind, HeadStands, PartStands}
 
 module _ {before after : Content} (same : after ≡ before) where
   pub lies_still : {format : Format} {link : ℕ} {p : Placed} → Lies format before link p

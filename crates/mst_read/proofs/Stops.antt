@@ -1,26 +1,10 @@
 -- Where a search among the entries of a node ends, and what it tells of the node.
-use Rattle.std.proofs.Common.{◌≡◌, ◌+◌, ◌-◌, ◌<◌, ◌≤◌, ℕ, suc, true, false, List, Option, Some, None, IsSome, refl, ◌∙◌, sym, ap, subst, arith, is_gt}
+use Rattle.mst_read.proofs.Names.{◌≡◌, ◌+◌, ◌-◌, ◌<◌, ◌≤◌, ℕ, suc, true, false, List, Option, Some, None, IsSome, refl, ◌∙◌, sym, ap, subst, arith, is_gt, Ordering, Less, Equal, Greater, Format, key_cmp, above, same_from_equal, equal_from_same, less_from_greater, greater_from_less, by_order, Content, part_at, keyed_links, entry_way, Placed, none, Chain, end, cell, link_of, first_of, tail_of, count_of, rows_of, chain_rows, HasRows, HeadLinks, KeyedLinks, same_Some, all-back, LiesBehind, chain_links, place, entry_above, gap_placed, rest_from, RowPlace}
 use Rattle.std.specs.Prelude.{option_and_then}
-use Rattle.std.specs.declared.cmp.Ordering.{Ordering}
-use Rattle.std.specs.declared.cmp.Ordering.TheVariants.{Less, Equal, Greater}
-use Rattle.mst_key.specs.declared.format.Format.{Format}
-use Rattle.mst_key.specs.Map.{key_cmp, above}
-use Rattle.mst_key.proofs.KeyOrder.{same_from_equal, equal_from_same, less_from_greater, greater_from_less}
-use Rattle.mst_node.specs.Trail.{by_order}
-use Rattle.mst_arena.specs.Content.{Content, part_at}
-use Rattle.mst_arena.specs.Row.{keyed_links}
-use Rattle.mst_arena.specs.Ways.{entry_way, by_way, stop_from}
-use Rattle.mst_arena.specs.Standing.{Placed, none, Chain, end, cell, link_of, first_of, tail_of, count_of, rows_of, chain_rows, HasRows}
-use Rattle.mst_arena.specs.declared.row.HeadLinks.{HeadLinks}
-use Rattle.mst_arena.specs.declared.row.KeyedLinks.{KeyedLinks}
+use Rattle.mst_arena.specs.Ways.{by_way, stop_from}
 use Rattle.mst_arena.specs.declared.sought.Way.TheVariants as way
 use Rattle.mst_arena.specs.declared.sought.Stop.{Stop}
 use Rattle.mst_arena.specs.declared.sought.Stop.TheVariants.{Gap, Found, End}
-use Rattle.std.proofs.lemmas.Option.{same_Some}
-use Rattle.mst_arena.proofs.Stands.{all-back}
-use Rattle.mst_read.specs.Search.{LiesBehind, chain_links, place, entry_above, gap_placed}
-use Rattle.mst_read.specs.Span.{rest_from}
-use Rattle.mst_read.specs.declared.lookup.RowPlace.{RowPlace}
 use Rattle.mst_read.specs.declared.lookup.RowPlace.TheVariants as at
 use Rattle.mst_read.proofs.Walk.{Onward, at_end}
 use Rattle.mst_read.proofs.Ways.{BeginsAbove}

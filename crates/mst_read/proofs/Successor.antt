@@ -1,22 +1,11 @@
 -- What the first entry above a bound says of the least key above it.
-use Rattle.std.proofs.Common.{◌≡◌, ℕ, Bool, true, false, cond, List, [], ◌∷◌, ◌++◌, Option, Some, None, IsSome, option_and_then, refl, sym, ◌∙◌, ap, subst, is_gt, true≢false}
+use Rattle.mst_read.proofs.Names.{◌≡◌, ℕ, Bool, true, false, cond, List, [], ◌∷◌, ◌++◌, Option, Some, None, IsSome, option_and_then, refl, sym, ◌∙◌, ap, subst, is_gt, true≢false, Less, cond-true, Format, Pair, key_cmp, IsAscending, AllBelow, above, less_chain, greater_from_less, IsAscending-front, IsAscending-back, IsAscending-below, pairs, entries_pairs, IsMstEntries, Content, part_at, keyed_links, entry_pair, HeadLinks, Row, Entry, Chain, end, cell, tree_of, entries_of, link_of, first_of, tail_of, rows_of, chain_rows, HasRows, all-front, all-back, LiesBehind, entry_above}
 use Rattle.std.specs.Option.{option_or}
-use Rattle.std.specs.declared.cmp.Ordering.TheVariants.{Less}
-use Rattle.std.proofs.lemmas.Bool.{cond-true, cond-false, false≢true}
+use Rattle.std.proofs.lemmas.Bool.{cond-false, false≢true}
 use Rattle.std.proofs.lemmas.List.Folds.{find-append}
-use Rattle.mst_key.specs.declared.format.Format.{Format}
-use Rattle.mst_key.specs.Map.{Pair, key_cmp, IsAscending, AllBelow, above, map_next}
-use Rattle.mst_key.proofs.KeyOrder.{by_order, less_chain, greater_from_less}
-use Rattle.mst_key.proofs.Splits.{IsAscending-front, IsAscending-back, IsAscending-below}
-use Rattle.mst_node.specs.Tree.{pairs, entries_pairs, IsMstEntries}
-use Rattle.mst_arena.specs.Content.{Content, part_at}
-use Rattle.mst_arena.specs.Row.{keyed_links, entry_pair}
-use Rattle.mst_arena.specs.declared.row.HeadLinks.{HeadLinks}
-use Rattle.mst_arena.specs.declared.row.Row.{Row}
-use Rattle.mst_arena.specs.declared.row.Row.TheVariants.{Entry, Head}
-use Rattle.mst_arena.specs.Standing.{Chain, end, cell, tree_of, entries_of, link_of, first_of, tail_of, rows_of, chain_rows, HasRows}
-use Rattle.mst_arena.proofs.Stands.{all-front, all-back}
-use Rattle.mst_read.specs.Search.{LiesBehind, entry_above}
+use Rattle.mst_key.specs.Map.{map_next}
+use Rattle.mst_key.proofs.KeyOrder.{by_order}
+use Rattle.mst_arena.specs.declared.row.Row.TheVariants.{Head}
 use Rattle.mst_read.proofs.Still.{behind_still}
 use Rattle.mst_read.proofs.Descend.{Ahead, Inside, holding}
 

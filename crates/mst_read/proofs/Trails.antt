@@ -1,22 +1,6 @@
 -- The trail of a key along the rows of a tree.
-use Rattle.std.proofs.Common.{◌≡◌, ℕ, ◌+◌, ◌<◌, List, [], ◌∷◌, ◌++◌, length, map, Option, Some, None, refl, sym, ◌∙◌, ap, subst, arith, append_assoc, length-append}
-use Rattle.std.proofs.lemmas.List.{append-nil}
-use Rattle.std.specs.Int.{w32, to_be_bytes}
-use Rattle.std.specs.declared.cmp.Ordering.{Ordering}
-use Rattle.std.specs.declared.cmp.Ordering.TheVariants.{Less, Equal, Greater}
-use Rattle.mst_key.specs.declared.format.Format.{Format}
-use Rattle.mst_key.specs.Map.{Pair, key_cmp}
-use Rattle.mst_node.specs.Tree.{Tree, node, IsMst, IsMstEntries, IsUnder}
-use Rattle.mst_node.specs.Text.{text}
-use Rattle.mst_node.specs.Trail.{nodes_met, met_in_gap, trail, framed, by_order}
-use Rattle.mst_node.proofs.UniqueTree.{tree_mst}
-use Rattle.mst_arena.specs.Content.{Content}
-use Rattle.mst_arena.specs.declared.row.Root.{Root}
-use Rattle.mst_arena.specs.declared.row.HeadLinks.{HeadLinks}
-use Rattle.mst_arena.specs.Standing.{Placed, none, head, Chain, end, cell, tree_of, entries_of, link_of, first_of, tail_of, count_of, rows_of, chain_rows, HasRows, Stands}
-use Rattle.mst_arena.proofs.Stands.{all-front, all-back}
-use Rattle.mst_read.specs.Search.{Lies, LiesBehind, head_of, place, gap_placed}
-use Rattle.mst_read.specs.declared.lookup.RowPlace.TheVariants.{Found, Gap}
+use Rattle.mst_read.proofs.Names.{◌≡◌, ℕ, ◌+◌, ◌<◌, List, [], ◌∷◌, ◌++◌, length, map, Option, Some, None, refl, sym, ◌∙◌, ap, subst, arith, append_assoc, length-append, append-nil, w32, to_be_bytes, Ordering, Less, Equal, Greater, Format, Pair, key_cmp, Tree, node, IsMst, IsMstEntries, IsUnder, text, trail, framed, by_order, tree_mst, Content, Root, HeadLinks, Placed, none, head, Chain, end, cell, tree_of, entries_of, link_of, first_of, tail_of, count_of, rows_of, chain_rows, HasRows, Stands, all-front, all-back, Lies, LiesBehind, head_of, place, gap_placed, Found, Gap}
+use Rattle.mst_node.specs.Trail.{nodes_met, met_in_gap}
 use Rattle.mst_read.proofs.Descend.{opened_head, lies_at, falls, depth}
 
 -- ---- the tree in the gap for a key

@@ -1,14 +1,6 @@
 -- A walk along the entries of a node.
-use Rattle.std.proofs.Common.{◌≡◌, ℕ, ◌+◌, ◌-◌, ◌<◌, List, Some, sym, ◌∙◌, ap, subst, arith}
+use Rattle.mst_read.proofs.Names.{◌≡◌, ℕ, ◌+◌, ◌-◌, ◌<◌, List, Some, sym, ◌∙◌, ap, subst, arith, Format, Content, part_at, keyed_links, Entry, KeyedLinks, Placed, Chain, end, cell, link_of, first_of, tail_of, count_of, rows_of, chain_rows, HasRows, all-front, all-back, Lies}
 use Rattle.std.specs.Prelude.{option_and_then}
-use Rattle.mst_key.specs.declared.format.Format.{Format}
-use Rattle.mst_arena.specs.Content.{Content, part_at}
-use Rattle.mst_arena.specs.Row.{keyed_links}
-use Rattle.mst_arena.specs.declared.row.Row.TheVariants.{Entry}
-use Rattle.mst_arena.specs.declared.row.KeyedLinks.{KeyedLinks}
-use Rattle.mst_arena.specs.Standing.{Placed, Chain, end, cell, link_of, first_of, tail_of, count_of, rows_of, chain_rows, HasRows}
-use Rattle.mst_arena.proofs.Stands.{all-front, all-back}
-use Rattle.mst_read.specs.Search.{Lies}
 use Rattle.mst_read.proofs.Still.{lies_still, read_before}
 
 -- the rest of a chain after as many entries as are done: it begins at the link, and something holds

@@ -1,18 +1,9 @@
 -- Whether the key of an entry is below a bound, and the first key above one.
-use Rattle.std.proofs.Common.{◌≡◌, ◌-◌, ◌<◌, ℕ, true, false, List, Option, Some, None, IsSome, refl, ◌∙◌, sym, ap, subst, arith, is_lt}
-use Rattle.mst_key.specs.declared.format.Format.{Format}
-use Rattle.mst_key.specs.Map.{below}
-use Rattle.mst_arena.specs.Content.{Content, part_at}
-use Rattle.mst_arena.specs.Row.{keyed_links}
-use Rattle.mst_arena.specs.Ways.{entry_way, way_at}
-use Rattle.mst_arena.specs.declared.row.KeyedLinks.{KeyedLinks}
+use Rattle.mst_read.proofs.Names.{◌≡◌, ◌-◌, ◌<◌, ℕ, true, false, List, Option, Some, None, IsSome, refl, ◌∙◌, sym, ap, subst, arith, is_lt, Format, below, Content, part_at, keyed_links, entry_way, KeyedLinks, Chain, HeadLinks, same_from_equal, equal_from_same, less_from_greater, greater_from_less, LiesBehind, entry_above}
+use Rattle.mst_arena.specs.Ways.{way_at}
 use Rattle.mst_arena.specs.declared.sought.Way.{Way}
 use Rattle.mst_arena.specs.declared.sought.Way.TheVariants.{Child, Here, Next}
-use Rattle.mst_arena.specs.Standing.{Chain}
-use Rattle.mst_arena.specs.declared.row.HeadLinks.{HeadLinks}
-use Rattle.mst_key.proofs.KeyOrder.{same_from_equal, equal_from_same, less_from_greater, greater_from_less}
 use Rattle.mst_arena.proofs.WayLemmas.{way_is, to_child, is_here, to_next}
-use Rattle.mst_read.specs.Search.{LiesBehind, entry_above}
 use Rattle.mst_read.proofs.Walk.{Onward, at_cell, entry_left}
 
 -- the first entry of the rest of a chain whose key is above the bound is the first of the whole

@@ -1,10 +1,7 @@
 -- Fields separated by the first blank.
-use Rattle.std.proofs.Common.{◌≡◌, ◌≢◌, ℕ, zero, suc, ◌+◌, ◌%◌, ◌<◌, ◌≤◌, ◌^◌, List, [], ◌∷◌, ◌++◌, length, get_or, take, drop, sym, refl, ap, ◌∙◌, arith, add-one, length-append, append_assoc, ◌-◌, take_all}
+use Rattle.mst_replay.proofs.Names.{◌≡◌, ◌≢◌, ℕ, zero, suc, ◌+◌, ◌%◌, ◌<◌, ◌≤◌, ◌^◌, List, [], ◌∷◌, ◌++◌, length, get_or, take, drop, sym, refl, ap, ◌∙◌, arith, ◌-◌, codes, decimal, dite, dec_le}
+use Rattle.std.proofs.Common.{add-one, length-append, append_assoc, take_all}
 use Rattle.std.proofs.Math.Seq.{take-nil}
-use Rattle.std.specs.Prelude.{codes}
-use Rattle.std.specs.Fmt.{decimal}
-use mathlib.Core.Logic.{dite}
-use native.Mathlib.Decide.{dec_le}
 use Rattle.std.proofs.lemmas.Fmt.{decimal_by_steps}
 
 abbrev pub HasNoBlank : List ℕ → Type 0

@@ -1,15 +1,6 @@
 -- Which lines are answered `fault line`.
-use Rattle.std.proofs.Common.{◌≡◌, inl, inr, ℕ, List, Option, None, Some}
-use Rattle.mst_pin.specs.State.{State}
-use Rattle.mst_pin.specs.declared.event.Answer.{Answer}
+use Rattle.mst_replay.proofs.Names.{◌≡◌, inl, inr, ℕ, List, Option, None, Some, State, Answer, Command, Open, Take, Reply, FaultLine, IsSpelt, Replays, reply_of}
 use Rattle.mst_pin.specs.declared.event.Answer.TheVariants as answer
-use Rattle.mst_replay.specs.declared.command.Command.{Command}
-use Rattle.mst_replay.specs.declared.command.Command.TheVariants.{Open, Take}
-use Rattle.mst_replay.specs.declared.reply.Reply.{Reply}
-use Rattle.mst_replay.specs.declared.reply.Reply.TheVariants.{FaultLine}
-use Rattle.mst_replay.specs.Line.{IsSpelt}
-use Rattle.mst_replay.specs.Replay.{Replays}
-use Rattle.mst_replay.specs.Reply.{reply_of}
 
 pub no_command : (s t : Option State) (line : List ℕ) (reply : Reply)
     → ((c : Command) → IsSpelt c line → ⊥) → Replays s line reply t → (reply ≡ FaultLine) × (t ≡ s)

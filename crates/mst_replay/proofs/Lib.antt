@@ -4,3 +4,4 @@ pub mod Numbers
 pub mod RowLists
 pub mod Worked
 pub mod WorkedLines
+pub mod Names

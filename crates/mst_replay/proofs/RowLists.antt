@@ -1,19 +1,15 @@
 -- The text of a set's rows, from one row on.
-use Rattle.std.proofs.Common.{◌≡◌, ◌≢◌, ℕ, zero, suc, ◌+◌, ◌-◌, ◌*◌, ◌/◌, ◌%◌, ◌<◌, ◌≤◌, ◌^◌, ◌⊎◌, inl, inr, ⊎_elim, Bool, true, false, cond, eqb, eq-eqb, ne_eqb, Option, Some, None, List, [], ◌∷◌, ◌++◌, drop, filter, sym, refl, ap, ◌∙◌, subst, arith, eqb-true, bit_or}
+use Rattle.mst_replay.proofs.Names.{◌≡◌, ◌≢◌, ℕ, zero, suc, ◌+◌, ◌-◌, ◌*◌, ◌%◌, ◌<◌, ◌≤◌, ◌^◌, inl, inr, ⊎_elim, true, false, eqb, Option, Some, None, List, [], ◌∷◌, ◌++◌, drop, sym, refl, ap, ◌∙◌, subst, arith, bit_or, decimal, dite, ℕ_discrete, dec_le, decimal_digit, row_set, rows_text, rest_text, IsRest}
+use Rattle.std.proofs.Common.{◌/◌, ◌⊎◌, Bool, cond, eq-eqb, ne_eqb, filter, eqb-true}
 use Rattle.std.specs.List.{range_with_len}
-use Rattle.std.specs.Fmt.{decimal}
 use Rattle.std.specs.Int.{bit_at}
-use mathlib.Core.Logic.{dite}
-use native.Mathlib.Decide.{ℕ_discrete, dec_le}
 use denote.Ref.{Bor}
-use Rattle.std.proofs.lemmas.Fmt.{decimal_digit, decimal_step}
+use Rattle.std.proofs.lemmas.Fmt.{decimal_step}
 use Rattle.std.proofs.lemmas.Nat.Bits.{bit_at_above, bit_at-zero, bit_at-lt, same_from_bits_below, bit_at_set_same, bit_at_set_other}
 use Rattle.std.specs.Int.{w64}
 use Rattle.std.proofs.Math.Pow.{pow-lt}
 use Rattle.std.proofs.lemmas.Nat.{or_lt, one_shl}
-use Rattle.mst_pin.specs.State.{row_set}
-use Rattle.mst_replay.specs.Line.{listed, rows_text}
-use Rattle.mst_replay.specs.Rest.{rest_text, IsRest}
+use Rattle.mst_replay.specs.Line.{listed}
 use Rattle.mst_replay.proofs.Numbers.{tail_same, cancel}
 
 -- the text of the rows of s among the n from a on, each after a comma

@@ -1,12 +1,7 @@
 -- The definitions at lines that were worked by hand.
-use Rattle.std.proofs.Common.{◌≡◌, ◌∷◌, ◌++◌, ℕ, List, [], inl, None, Some, refl, sym, ap, arith, codes}
-use Rattle.std.proofs.lemmas.Fmt.{decimal_digit}
-use Rattle.mst_pin.specs.State.{opening}
-use Rattle.mst_pin.specs.declared.event.Event.TheVariants.{Pin, Transfer}
-use Rattle.mst_replay.specs.declared.command.Command.TheVariants.{Open, Take}
-use Rattle.mst_replay.specs.declared.reply.Reply.TheVariants.{Records, FaultLine}
-use Rattle.mst_replay.specs.Line.{members, rows_text, text}
-use Rattle.mst_replay.specs.Replay.{Replays}
+use Rattle.mst_replay.proofs.Names.{◌≡◌, ◌∷◌, ◌++◌, ℕ, List, [], inl, None, Some, refl, sym, ap, arith, decimal_digit, opening, Pin, Transfer, Open, Take, Records, FaultLine, rows_text, Replays}
+use Rattle.std.proofs.Common.{codes}
+use Rattle.mst_replay.specs.Line.{members, text}
 
 pin_of_seven : text (Take (Pin 7)) ≡ codes "pin 7"
 pin_of_seven = ap (λ (digits : List ℕ). codes "pin " ++ digits) (decimal_digit 7 (omega arith))

@@ -1,23 +1,12 @@
 -- Lines that no command is spelt as, and what others are answered.
-use Rattle.std.proofs.Common.{◌≡◌, ◌≢◌, inl, inr, ⊎_elim, ℕ, zero, suc, ◌+◌, ◌<◌, ◌≤◌, ◌^◌, Option, Some, None, List, [], ◌∷◌, ◌++◌, length, get_or, true, false, sym, refl, ap, ◌∙◌, subst, arith, append-nil}
-use Rattle.std.specs.Prelude.{codes, ◌↔◌}
-use Rattle.std.specs.Fmt.{decimal}
+use Rattle.mst_replay.proofs.Names.{◌≡◌, ◌≢◌, inl, inr, ⊎_elim, ℕ, zero, suc, ◌+◌, ◌<◌, ◌≤◌, ◌^◌, Option, Some, None, List, [], ◌∷◌, ◌++◌, length, get_or, true, false, sym, refl, ap, ◌∙◌, subst, arith, codes, decimal, dite, ℕ_discrete, decimal_digit, State, opening, row_set, Steps, Answer, Pin, Transfer, Command, Open, Take, Reply, FaultLine, Records, IsSpelt, rows_text, IsRest, Obeys, Replays, reply_of}
+use Rattle.std.proofs.Common.{append-nil}
+use Rattle.std.specs.Prelude.{◌↔◌}
 use Rattle.std.specs.Str.Parse.{digits_value}
-use mathlib.Core.Logic.{dite}
-use native.Mathlib.Decide.{ℕ_discrete}
-use Rattle.std.proofs.lemmas.Fmt.{decimal_digit, decimal_is_IsNumeral, decimal_nonempty}
-use Rattle.mst_pin.specs.State.{State, opening, row_set, Steps}
-use Rattle.mst_pin.specs.declared.event.Answer.{Answer}
-use Rattle.mst_pin.specs.declared.event.Event.TheVariants.{Pin, Unpin, Write, Publish, Transfer, Ask}
-use Rattle.mst_replay.specs.declared.command.Command.{Command}
-use Rattle.mst_replay.specs.declared.command.Command.TheVariants.{Open, Take}
-use Rattle.mst_replay.specs.declared.reply.Reply.{Reply}
-use Rattle.mst_replay.specs.declared.reply.Reply.TheVariants.{FaultLine, Record, Records}
+use Rattle.std.proofs.lemmas.Fmt.{decimal_is_IsNumeral, decimal_nonempty}
+use Rattle.mst_pin.specs.declared.event.Event.TheVariants.{Unpin, Write, Publish, Ask}
+use Rattle.mst_replay.specs.declared.reply.Reply.TheVariants.{Record}
 use Rattle.mst_replay.specs.Laws.{IsFault}
-use Rattle.mst_replay.specs.Line.{IsSpelt, rows_text}
-use Rattle.mst_replay.specs.Rest.{IsRest}
-use Rattle.mst_replay.specs.Replay.{Obeys, Replays}
-use Rattle.mst_replay.specs.Reply.{reply_of}
 use Rattle.mst_replay.proofs.Blanks.{HasNoBlank, decimal_no_blank, front_of, publish_fields}
 use Rattle.mst_replay.proofs.FaultLines.{no_command, before_the_core}
 use Rattle.mst_replay.proofs.Numbers.{cancel, wide, tail_same}

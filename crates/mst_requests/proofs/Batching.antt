@@ -1,12 +1,9 @@
 -- The edits of a batch, one after another.
-use Rattle.std.proofs.Common.{◌≡◌, ℕ, ◌+◌, ◌<◌, Bool, true, false, cond, List, [], ◌∷◌, ◌++◌, length, Option, Some, None, refl, sym, ap, subst, ◌∙◌, append_assoc, append-nil, arith}
-use Rattle.std.specs.Prelude.{Result, Ok, Err, IfErr}
-use Rattle.std.specs.Result.{result_err}
+use Rattle.mst_requests.proofs.Names.{◌≡◌, ℕ, ◌+◌, ◌<◌, Bool, true, false, cond, List, [], ◌∷◌, ◌++◌, length, Option, Some, None, refl, sym, ap, subst, ◌∙◌, append_assoc, append-nil, arith, Result, Ok, Err, result_err, Fault, FieldCount, before, told}
+use Rattle.std.specs.Prelude.{IfErr}
 use denote.Ref.{Bor}
 use Rattle.mst_key.specs.declared.history.Edit.{Edit}
-use Rattle.mst_requests.specs.declared.request.Fault.{Fault}
-use Rattle.mst_requests.specs.declared.request.Fault.TheVariants.{FieldCount}
-use Rattle.mst_requests.specs.Batches.{before, if_edits, all_edits, joined, is_bad_field, first_told, edits_or_none, told}
+use Rattle.mst_requests.specs.Batches.{if_edits, all_edits, joined, is_bad_field, first_told, edits_or_none}
 
 -- what is left of the fields, as a number that falls
 abbrev pub left : Option (Bor (List ℕ)) → ℕ

@@ -1,8 +1,7 @@
 -- The fields of a line, at its blanks.
-use Rattle.std.proofs.Common.{◌≡◌, ℕ, ◌≤◌, ◌==◌, List, [], ◌∷◌, ◌++◌, length, ap, ◌∙◌, refl, arith}
+use Rattle.mst_requests.proofs.Names.{◌≡◌, ℕ, ◌≤◌, ◌==◌, List, [], ◌∷◌, ◌++◌, length, ap, ◌∙◌, refl, arith, fields_of}
 use Rattle.std.proofs.lemmas.List.Splits.{slice_split_none, slice_split_at, length-slice_split}
 use Rattle.mst_lines.specs.Lines.{IsWithout}
-use Rattle.mst_requests.specs.Fields.{fields_of}
 
 -- the fields of a line that was cut at its first blank
 pub fields_cut : (first rest line : List ℕ) → IsWithout 32 first → line ≡ first ++ 32 ∷ rest

@@ -1,13 +1,9 @@
 -- A request is of a dealt pass.
-use Rattle.std.proofs.Common.{◌≡◌, ℕ, ◌+◌, ◌-◌, ◌*◌, ◌≤◌, ◌==◌, List, [], ◌∷◌, refl, arith, Bool, true, false, cond, Option, Some, None}
-use Rattle.std.specs.Prelude.{nat_le, ◌&&◌, Result, Ok, Err, IfOk}
-use Rattle.std.specs.List.{list_all}
-use Rattle.std.specs.Char.{is_ascii_digit}
+use Rattle.mst_requests.proofs.Names.{◌≡◌, ℕ, ◌+◌, ◌-◌, ◌*◌, ◌≤◌, ◌==◌, List, [], ◌∷◌, refl, arith, Bool, true, false, cond, Option, Some, None, nat_le, ◌&&◌, Result, Ok, Err, IfOk, list_all, is_ascii_digit, Fault, spelt, number_up_to, fields_of, asked, IsDealt}
 use Rattle.std.proofs.lemmas.Bool.{leb-true, eqb-false}
 use Rattle.mst_requests.specs.declared.request.Command.{Command}
-use Rattle.mst_requests.specs.declared.request.Fault.{Fault}
-use Rattle.mst_requests.specs.Fields.{spelt, number_up_to, pass_in, fields_of}
-use Rattle.mst_requests.specs.Grammar.{command_of, asked_of, by_pass, by_fields, asked, IsDealt}
+use Rattle.mst_requests.specs.Fields.{pass_in}
+use Rattle.mst_requests.specs.Grammar.{command_of, asked_of, by_pass, by_fields}
 use Rattle.mst_requests.proofs.Numbers.{spelt_more}
 
 -- the number of a pass is from 1 to n

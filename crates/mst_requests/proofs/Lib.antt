@@ -5,3 +5,4 @@ pub mod Dealing
 pub mod Pairs
 pub mod Digits
 pub mod Worked
+pub mod Names

@@ -1,11 +1,8 @@
 -- Numbers that digits spell, digit by digit.
-use Rattle.std.proofs.Common.{◌≡◌, ℕ, suc, ◌+◌, ◌-◌, ◌*◌, ◌<◌, ◌≤◌, List, [], ◌∷◌, length, drop, get_or, sym, ap, ◌∙◌, refl, arith, Bool, true, false, cond, Some, None}
-use Rattle.std.specs.Prelude.{nat_le, ◌&&◌}
-use Rattle.std.specs.List.{list_all}
-use Rattle.std.specs.Char.{is_ascii_digit}
+use Rattle.mst_requests.proofs.Names.{◌≡◌, ℕ, ◌+◌, ◌-◌, ◌*◌, ◌<◌, ◌≤◌, List, [], ◌∷◌, length, drop, get_or, sym, ap, ◌∙◌, refl, arith, Bool, true, false, cond, Some, None, nat_le, ◌&&◌, list_all, is_ascii_digit, spelt, number_up_to}
+use Rattle.std.proofs.Common.{suc}
 use Rattle.std.proofs.lemmas.Bool.{lt-leb}
 use Rattle.std.proofs.Math.Seq.{drop-cons}
-use Rattle.mst_requests.specs.Fields.{spelt, number_up_to}
 
 -- more digits make no smaller number
 pub spelt_more : (n : ℕ) (ds : List ℕ) → n ≤ spelt n ds

@@ -1,8 +1,7 @@
 -- The lines of pairs, one after another.
-use Rattle.std.proofs.Common.{◌≡◌, ℕ, ◌+◌, ◌<◌, List, [], ◌∷◌, ◌++◌, length, take, drop, get_or, sym, refl, ap, ◌∙◌, append_assoc, append-nil}
-use Rattle.std.proofs.lemmas.List.{take_more, take-append-drop}
+use Rattle.mst_requests.proofs.Names.{◌≡◌, ℕ, ◌+◌, ◌<◌, List, [], ◌∷◌, ◌++◌, length, take, drop, get_or, sym, refl, ap, ◌∙◌, append_assoc, append-nil, take-append-drop, line_of, pair_words, pair_lines}
+use Rattle.std.proofs.lemmas.List.{take_more}
 use Rattle.mst_key.specs.Map.{Pair}
-use Rattle.mst_requests.specs.Texts.{line_of, pair_words, pair_lines}
 
 pair_lines-append : (ps qs : List Pair) → pair_lines (ps ++ qs) ≡ pair_lines ps ++ pair_lines qs
 pair_lines-append [] qs = refl

@@ -1,11 +1,10 @@
 -- The definitions at lines that were worked by hand.
-use Rattle.std.proofs.Common.{◌≡◌, ℕ, List, [], ◌∷◌, ◌++◌, refl, ap, arith, codes, Some, None}
-use Rattle.std.specs.Prelude.{Ok, Err}
+use Rattle.mst_requests.proofs.Names.{◌≡◌, ℕ, List, [], ◌∷◌, ◌++◌, refl, ap, arith, Some, None, Ok, Err, FieldCount, asked}
+use Rattle.std.proofs.Common.{codes}
 use Rattle.std.proofs.lemmas.Fmt.{decimal_digit}
-use Rattle.mst_requests.specs.declared.request.Fault.TheVariants.{NoPass, NoCommand, FieldCount, BadField, KeySize}
+use Rattle.mst_requests.specs.declared.request.Fault.TheVariants.{NoPass, NoCommand, BadField, KeySize}
 use Rattle.mst_requests.specs.declared.request.Command.TheVariants.{Root, Pin, Unpin, Batch}
 use Rattle.mst_requests.specs.Fields.{count_in, bytes_of}
-use Rattle.mst_requests.specs.Grammar.{asked}
 use Rattle.mst_requests.specs.Texts.{pinned_words}
 use Rattle.mst_key.specs.declared.history.Edit.TheVariants as edit
 use Rattle.mst_lines.specs.Lines.{kept}

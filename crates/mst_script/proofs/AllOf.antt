@@ -1,14 +1,7 @@
 -- All passes of one store: so they are when they are dealt, and so they stay.
-use Rattle.std.proofs.Common.{◌≡◌, ℕ, zero, suc, List, [], ◌∷◌, ◌++◌, append-nil, map, sym, refl, ap, ◌∙◌, subst, arith}
-use Rattle.std.specs.List.{All, Contains}
-use Rattle.std.specs.List.Sorted.{IsPermutation}
-use Rattle.std.proofs.lemmas.List.Elements.{All-append, All-cons, All-head, All-tail, All-map}
-use Rattle.std.proofs.lemmas.List.Sorted.{IsPermutation-map, IsPermutation-sym, All-permutation, Contains-permutation}
-use Rattle.mst_key.specs.History.{History}
-use Rattle.mst_store.specs.Passes.{StoreId, Known, IsSamePass, having_asked, new_pass, first_passes, new_passes}
-use Rattle.mst_store.specs.Settling.{numbers, having_seen, AreAllPasses, Settled}
-use Rattle.mst_store.proofs.AllPasses.{first_stores, numbers-append, first_numbers, all_of_front, all_of_back}
-use Rattle.mst_script.specs.Serving.{AreAllOf, Roster, everyone}
+use Rattle.mst_script.proofs.Names.{◌≡◌, ℕ, zero, suc, List, [], ◌∷◌, ◌++◌, append-nil, map, sym, refl, ap, ◌∙◌, subst, arith, All, Contains, IsPermutation, All-append, All-cons, All-head, All-tail, All-map, IsPermutation-map, IsPermutation-sym, All-permutation, Contains-permutation, History, StoreId, Known, having_asked, new_passes, numbers, having_seen, AreAllPasses, Settled, numbers-append, all_of_front, all_of_back, AreAllOf, Roster, everyone}
+use Rattle.mst_store.specs.Passes.{IsSamePass, new_pass, first_passes}
+use Rattle.mst_store.proofs.AllPasses.{first_stores, first_numbers}
 
 lone_mine : (p : Known) → p.mine ≡ [] → All (λ q. q.mine ≡ []) (p ∷ [])
 lone_mine p is zero d l = is

@@ -1,14 +1,7 @@
 -- A call of a pass is a turn at which the machine answers so.
-use Rattle.std.proofs.Common.{◌≡◌, ℕ, List, [], ◌∷◌, sym, refl, ap, ◌∙◌, subst, append-nil, inl, inr, ◌⊎◌, Option, Some, arith}
-use Rattle.std.specs.Prelude.{Result, Ok, Err, IfOk, IfErr, IfSome, IsSome, OnOk, OnErr, None}
-use Rattle.std.proofs.lemmas.Bool.{false≢true}
-use Rattle.mst_key.specs.declared.history.Change.{Change}
-use Rattle.mst_key.specs.declared.history.Edit.{Edit}
-use Rattle.mst_key.specs.Map.{Pair}
-use Rattle.mst_key.specs.declared.format.Format.{Format}
+use Rattle.mst_script.proofs.Names.{◌≡◌, ℕ, List, [], ◌∷◌, sym, refl, ap, ◌∙◌, subst, append-nil, inl, inr, ◌⊎◌, Option, Some, arith, Result, Ok, Err, false≢true, Change, Edit, Pair, Format, History, after, format_after, Reply, had, was, done, IsPrefix-itself, rows_of, StoreId, Known, format_seen, having_asked, Looks, text_of, line_of, reply_words, rows_words, Command, Writes, Migrates, Applies, Counts, Acts, Turn}
+use Rattle.std.specs.Prelude.{IfOk, IfErr, IfSome, IsSome, OnOk, OnErr, None}
 use Rattle.mst_key.specs.declared.history.Change.TheVariants.{Migrate, Batch}
-use Rattle.mst_key.specs.History.{History, after, format_after, Reply, had, was, done}
-use Rattle.mst_key.proofs.HistoryLaws.{IsPrefix-itself}
 use Rattle.mst_versions.specs.declared.faults.WriteFault.{WriteFault}
 use Rattle.mst_versions.specs.declared.faults.WriteFault.TheVariants as write
 use Rattle.mst_versions.specs.declared.faults.MigrateFault.{MigrateFault}
@@ -16,16 +9,12 @@ use Rattle.mst_versions.specs.declared.faults.MigrateFault.TheVariants as migrat
 use Rattle.mst_batching.specs.declared.faults.ApplyFault.{ApplyFault}
 use Rattle.mst_batching.specs.declared.faults.ApplyFault.TheVariants as apply
 use Rattle.mst_batching.specs.Applying.{RefusesBatch}
-use Rattle.mst_versions.specs.Writes.{rows_of}
 use Rattle.mst_versions.specs.Migrating.{RefusesMigration}
-use Rattle.mst_store.specs.Passes.{StoreId, Known, format_seen, having_asked, having_missed, LacksRoom, made_by, Looks, Answers, Wrote, Refuses, FindsBusy}
+use Rattle.mst_store.specs.Passes.{having_missed, LacksRoom, made_by, Answers, Wrote, Refuses, FindsBusy}
 use Rattle.mst_requests.specs.declared.answer.Answer.{Answer}
-use Rattle.mst_requests.specs.Answers.{text_of}
 use Rattle.mst_script.specs.Answers.{rows_answer, write_answer, migration_answer, batch_answer}
-use Rattle.mst_requests.specs.Texts.{line_of, reply_words, rows_words}
-use Rattle.mst_requests.specs.declared.request.Command.{Command}
-use Rattle.mst_script.specs.Machine.{LacksMemory, Writes, Migrates, Applies, Counts, Acts}
-use Rattle.mst_script.specs.Serving.{Turn, Asked}
+use Rattle.mst_script.specs.Machine.{LacksMemory}
+use Rattle.mst_script.specs.Serving.{Asked}
 use Rattle.mst_script.proofs.Gathering.{looked}
 
 -- the pass asked, and neither saw nor did anything

@@ -1,13 +1,6 @@
 -- The beginning and the end of a script.
-use Rattle.std.proofs.Common.{◌≡◌, List, [], ◌++◌, map, sym, refl, ap, ◌∙◌, subst, append-nil}
-use Rattle.std.specs.List.{All}
-use Rattle.std.specs.List.Sorted.{IsPermutation}
-use Rattle.std.proofs.lemmas.List.Elements.{All-map}
-use Rattle.mst_key.specs.History.{History}
-use Rattle.mst_store.specs.Passes.{StoreId, Known, having_asked}
-use Rattle.mst_store.specs.Settling.{having_seen, AreAllPasses, Settled}
-use Rattle.mst_script.specs.Machine.{Machine, with_no_pins}
-use Rattle.mst_script.specs.Serving.{AreAllOf, Gathers, AllSaw, Roster, everyone, Shows, AllFreed, Released}
+use Rattle.mst_script.proofs.Names.{◌≡◌, List, [], ◌++◌, map, sym, refl, ap, ◌∙◌, subst, append-nil, All, IsPermutation, All-map, History, StoreId, Known, having_asked, having_seen, AreAllPasses, Settled, Machine, with_no_pins, AreAllOf, Gathers, Roster, everyone, Shows, Released}
+use Rattle.mst_script.specs.Serving.{AllSaw, AllFreed}
 use Rattle.mst_script.proofs.AllOf.{all_passes, all_moved, all_settled, all_free}
 use Rattle.mst_script.proofs.Knowing.{knows_none}
 use Rattle.mst_script.proofs.Settling.{settled_gathers, gathers_settled, shows_settled, still_there}

@@ -1,14 +1,7 @@
 -- Passes looked for by their number, and passes that are freed one after another.
-use Rattle.std.proofs.Common.{◌≡◌, ◌≢◌, ℕ, ◌+◌, ◌<◌, ◌≤◌, List, [], ◌∷◌, ◌++◌, length, get_or, set, zero, suc, slice_index_or, sym, refl, ap, ◌∙◌, subst, arith}
-use Rattle.std.specs.List.{Contains}
-use Rattle.std.specs.List.Sorted.{IsPermutation}
-use Rattle.std.proofs.lemmas.List.Elements.{at_read, All-append, All-map, All-contains}
-use Rattle.std.proofs.lemmas.List.Sorted.{IsPermutation-sym, IsPermutation-trans}
-use mathlib.Core.Logic.{dite}
-use native.Mathlib.Decide.{ℕ_discrete}
-use Rattle.mst_store.specs.Passes.{Known}
-use Rattle.mst_store.specs.Settling.{numbers}
-use Rattle.mst_script.specs.Serving.{Roster, everyone, IsPlace, IsNowhere}
+use Rattle.mst_script.proofs.Names.{◌≡◌, ◌≢◌, ℕ, ◌+◌, ◌<◌, ◌≤◌, List, [], ◌∷◌, ◌++◌, length, get_or, set, zero, suc, sym, refl, ap, ◌∙◌, subst, arith, Contains, IsPermutation, All-append, All-map, All-contains, IsPermutation-sym, IsPermutation-trans, dite, ℕ_discrete, Known, numbers, Roster, everyone, IsPlace, IsNowhere}
+use Rattle.std.proofs.Common.{slice_index_or}
+use Rattle.std.proofs.lemmas.List.Elements.{at_read}
 use Rattle.mst_script.proofs.Lines.{now_back, now_front}
 
 -- some pass has the number

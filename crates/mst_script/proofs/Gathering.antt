@@ -1,17 +1,11 @@
 -- A history that gathers the passes is the only one. After a turn of one pass it is what it was and
 -- the events of that turn.
-use Rattle.std.proofs.Common.{◌≡◌, ℕ, ◌+◌, ◌≤◌, List, [], ◌∷◌, ◌++◌, length, get_or, sym, refl, ap, ◌∙◌, subst, arith, append-nil, length-append, cond, Bool, eq-eqb, ◌⊎◌, inl, inr}
-use Rattle.std.specs.List.{All, AllByRecursion}
-use Rattle.std.specs.List.Sorted.{IsPermutation}
-use Rattle.std.proofs.lemmas.List.Elements.{All-nil, All-cons, All-head, All-tail, All-weaker, All-map, All-contains}
-use Rattle.std.proofs.lemmas.List.Sorted.{IsPermutation-map, All-permutation, Contains-permutation}
+use Rattle.mst_script.proofs.Names.{◌≡◌, ℕ, ◌+◌, ◌≤◌, List, [], ◌∷◌, ◌++◌, length, get_or, sym, refl, ap, ◌∙◌, subst, arith, append-nil, length-append, cond, Bool, eq-eqb, ◌⊎◌, inl, inr, All, IsPermutation, All-nil, All-cons, All-head, All-tail, All-map, All-contains, IsPermutation-map, All-permutation, Contains-permutation, History, events_of, IsPrefix, IsPrefix-itself, Known, Looks, numbers, Gathers, SawItself, Turn, all_of_front, all_of_back}
+use Rattle.std.specs.List.{AllByRecursion}
+use Rattle.std.proofs.lemmas.List.Elements.{All-weaker}
 use Rattle.mst_key.specs.declared.history.Event.{Event}
-use Rattle.mst_key.specs.History.{History, events_of, IsPrefix}
-use Rattle.mst_key.proofs.HistoryLaws.{events_of-append, IsPrefix-nil, IsPrefix-itself, IsPrefix-chain, IsPrefix-compare}
-use Rattle.mst_store.specs.Passes.{Known, Looks}
-use Rattle.mst_store.specs.Settling.{numbers, IsOfOne}
-use Rattle.mst_script.specs.Serving.{Gathers, SawItself, Turn}
-use Rattle.mst_store.proofs.AllPasses.{all_of_front, all_of_back}
+use Rattle.mst_key.proofs.HistoryLaws.{events_of-append, IsPrefix-nil, IsPrefix-chain, IsPrefix-compare}
+use Rattle.mst_store.specs.Settling.{IsOfOne}
 
 pub gathers_moved : (h : History) (ps qs : List Known) → IsPermutation ps qs → Gathers h ps
     → Gathers h qs

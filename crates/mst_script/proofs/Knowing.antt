@@ -1,17 +1,11 @@
 -- Which versions are pinned, after a pin, after its end, and after settling.
-use Rattle.std.proofs.Common.{◌≡◌, ◌≢◌, ℕ, ◌+◌, ◌≤◌, ◌==◌, List, [], ◌∷◌, ◌++◌, length, get_or, map, sym, refl, ap, ◌∙◌, subst, arith, cond, Bool, Option, Some, None}
-use Rattle.std.specs.List.{All, count_by}
-use Rattle.std.specs.List.Sorted.{IsPermutation}
+use Rattle.mst_script.proofs.Names.{◌≡◌, ◌≢◌, ℕ, ◌+◌, ◌≤◌, List, [], ◌∷◌, ◌++◌, length, get_or, map, sym, refl, ap, ◌∙◌, subst, arith, cond, Bool, Option, Some, None, All, IsPermutation, All-nil, All-cons, All-head, All-tail, All-map, IsPermutation-map, IsPermutation-sym, All-permutation, dite, ℕ_discrete, Known, having_asked, numbers, KnowsPins, IsNowhere, SawItself, numbers-append, all_of_front, all_of_back}
+use Rattle.std.proofs.Common.{◌==◌}
+use Rattle.std.specs.List.{count_by}
 use Rattle.std.proofs.lemmas.Bool.{eq-eqb, ne_eqb}
-use Rattle.std.proofs.lemmas.List.Elements.{All-nil, All-cons, All-head, All-tail, All-map, All-push}
-use Rattle.std.proofs.lemmas.List.Sorted.{IsPermutation-map, IsPermutation-sym, All-permutation, sum_by-IsPermutation}
+use Rattle.std.proofs.lemmas.List.Elements.{All-push}
+use Rattle.std.proofs.lemmas.List.Sorted.{sum_by-IsPermutation}
 use Rattle.std.proofs.lemmas.List.Sums.{sum_by-cons, sum_by_push}
-use mathlib.Core.Logic.{dite}
-use native.Mathlib.Decide.{ℕ_discrete}
-use Rattle.mst_store.specs.Passes.{Known, having_asked}
-use Rattle.mst_store.specs.Settling.{numbers}
-use Rattle.mst_script.specs.Serving.{KnowsPins, IsNowhere, SawItself}
-use Rattle.mst_store.proofs.AllPasses.{numbers-append, all_of_front, all_of_back}
 use Rattle.mst_script.proofs.AllOf.{asked_numbers}
 
 -- what the pins are when the pass n pins this version, or none

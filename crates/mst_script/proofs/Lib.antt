@@ -10,3 +10,4 @@ pub mod Serving
 pub mod Ends
 pub mod Scripts
 pub mod Told
+pub mod Names

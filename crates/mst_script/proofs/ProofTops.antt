@@ -1,16 +1,13 @@
 -- The first text of a proof is that of the tree's top node.
-use Rattle.std.proofs.Common.{◌≡◌, ℕ, ◌<◌, ◌^◌, List, ◌∷◌, ◌++◌, length, get_or, map, refl, sym, ap, ◌∙◌, arith, length-append}
+use Rattle.mst_script.proofs.Names.{◌≡◌, ℕ, ◌<◌, ◌^◌, List, ◌∷◌, ◌++◌, length, get_or, map, refl, sym, ap, ◌∙◌, arith, length-append, encode_lower, Format, top_words}
 use Rattle.std.proofs.lemmas.List.{append_assoc}
 use Rattle.std.specs.Int.{w32, to_be_bytes}
-use Rattle.hex.specs.Hex.{encode_lower}
-use Rattle.mst_key.specs.declared.format.Format.{Format}
 use Rattle.mst_node.specs.Frame.{FramesFirst}
 use Rattle.mst_node.specs.Text.{text, format_byte}
 use Rattle.mst_node.specs.Trail.{nodes_met, met_in_gap, framed}
 use Rattle.mst_node.specs.Tree.{Tree, Entries, empty, node}
 use Rattle.mst_node.proofs.ReadIsSpelled.{some_same}
 use Rattle.mst_node.proofs.Frames.{first_again}
-use Rattle.mst_script.specs.Machine.{top_words}
 
 -- the texts of the nodes of a tree that a search for the key meets, as a proof of a format has them
 -- before its tail

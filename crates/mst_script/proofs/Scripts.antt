@@ -1,12 +1,6 @@
 -- A run of the passes is a run of the machine.
-use Rattle.std.proofs.Common.{◌≡◌, ℕ, List, [], ◌∷◌, length, refl, sym, ap, ◌∙◌, subst}
-use Rattle.mst_key.specs.History.{History}
-use Rattle.mst_store.specs.Passes.{StoreId, new_passes}
-use Rattle.mst_store.specs.Settling.{Settled}
+use Rattle.mst_script.proofs.Names.{◌≡◌, ℕ, List, [], ◌∷◌, length, refl, sym, ap, ◌∙◌, subst, History, StoreId, new_passes, Settled, Machine, Line, with_no_pins, Gathers, Roster, Shows, Serves, Released, RanScript, StoppedScript}
 use Rattle.mst_lines.specs.Runs.{Replies, Ran, Stopped}
-use Rattle.mst_script.specs.Machine.{Machine, Line, with_no_pins}
-use Rattle.mst_script.specs.Serving.{Gathers, Roster, Shows, Serves, Released}
-use Rattle.mst_script.specs.Scripts.{RanScript, StoppedScript}
 use Rattle.mst_script.proofs.Gathering.{nobody}
 use Rattle.mst_script.proofs.Ends.{first_shown, first_gathers, last_saw}
 use Rattle.mst_script.proofs.AllOf.{none_done}

@@ -1,24 +1,12 @@
 -- What one pass did, and then all settled: a step of the machine.
-use Rattle.std.proofs.Common.{◌≡◌, ℕ, ◌<◌, true, false, List, [], ◌∷◌, ◌++◌, length, take, set, get_or, sym, refl, ap, ◌∙◌, subst, append-nil, Option, Some, None}
-use Rattle.std.specs.Prelude.{Result, Ok, codes}
-use Rattle.std.specs.List.{swap_remove}
-use Rattle.std.specs.List.Sorted.{IsPermutation}
-use Rattle.std.proofs.lemmas.Bool.{false≢true}
+use Rattle.mst_script.proofs.Names.{◌≡◌, ℕ, ◌<◌, List, [], ◌∷◌, ◌++◌, length, set, get_or, sym, refl, ap, ◌∙◌, subst, append-nil, Option, Some, None, Result, Ok, codes, swap_remove, IsPermutation, false≢true, IsPermutation-refl, IsPermutation-sym, IsPermutation-trans, IsPermutation-append_left, History, after, format_after, IsPrefix, StoreId, Known, Settled, Fault, Command, Put, Remove, Migrate, Batch, Get, Next, Range, Root, Node, Prove, Unpin, Rows, Request, asked, line_of, pinned_words, Machine, Acts, StepOf, Step, AnswersRequest, AreAllOf, Roster, everyone, IsNowhere, KnowsPins, Shows, is_pin, Serves, IsPlace, all_of_front, all_of_back}
+use Rattle.std.proofs.Common.{true, false, take}
 use Rattle.std.proofs.Math.Seq.{take-append_seam}
-use Rattle.std.proofs.lemmas.List.Sorted.{IsPermutation-refl, IsPermutation-sym, IsPermutation-trans, IsPermutation-append_left, IsPermutation-swap_remove}
-use Rattle.mst_key.specs.History.{History, after, format_after, IsPrefix}
-use Rattle.mst_store.specs.Passes.{StoreId, Known}
-use Rattle.mst_store.specs.Settling.{Settled}
-use Rattle.mst_requests.specs.declared.request.Fault.{Fault}
-use Rattle.mst_requests.specs.declared.request.Command.{Command}
-use Rattle.mst_requests.specs.declared.request.Command.TheVariants.{Put, Remove, Migrate, Batch, Get, Next, Range, Root, Node, Prove, Pin, Unpin, Rows}
+use Rattle.std.proofs.lemmas.List.Sorted.{IsPermutation-swap_remove}
+use Rattle.mst_requests.specs.declared.request.Command.TheVariants.{Pin}
 use Rattle.mst_requests.specs.declared.request.Command.TheVariants as ask
-use Rattle.mst_requests.specs.declared.request.Request.{Request}
-use Rattle.mst_requests.specs.Grammar.{asked}
-use Rattle.mst_requests.specs.Texts.{line_of, pinned_words}
-use Rattle.mst_script.specs.Machine.{Machine, with_pin, Acts, FreeStep, Recalls, PinnedStep, StepOf, Step, AnswersRequest}
-use Rattle.mst_script.specs.Serving.{AreAllOf, Roster, everyone, IsNowhere, KnowsPins, Shows, is_pin, is_unpin, Serves, Does, IsPlace, AsksFree, AsksPinned, Pins, Unpins}
-use Rattle.mst_store.proofs.AllPasses.{all_of_front, all_of_back}
+use Rattle.mst_script.specs.Machine.{with_pin, FreeStep, Recalls, PinnedStep}
+use Rattle.mst_script.specs.Serving.{is_unpin, Does, AsksFree, AsksPinned, Pins, Unpins}
 use Rattle.mst_script.proofs.Lines.{others_at, moved_back, now_back, moved_front, now_front}
 use Rattle.mst_script.proofs.AllOf.{all_moved, all_changed}
 use Rattle.mst_script.proofs.Gathering.{gathers_moved, turned, looked}

@@ -1,16 +1,5 @@
 -- What all passes know once they have settled.
-use Rattle.std.proofs.Common.{◌≡◌, ℕ, List, get_or, sym, ap, ◌∙◌, subst}
-use Rattle.std.specs.List.{All, Contains}
-use Rattle.std.specs.List.Sorted.{IsPermutation}
-use Rattle.std.proofs.lemmas.List.Elements.{All-append, All-map}
-use Rattle.std.proofs.lemmas.List.Sorted.{IsPermutation-sym}
-use Rattle.mst_key.specs.History.{History, events_of, IsPrefix}
-use Rattle.mst_key.proofs.HistoryLaws.{IsPrefix-itself}
-use Rattle.mst_store.specs.Passes.{Known, having_asked}
-use Rattle.mst_store.specs.Settling.{having_seen, Settled}
-use Rattle.mst_script.specs.Machine.{Machine}
-use Rattle.mst_script.specs.Serving.{Gathers, Roster, everyone, SawItself, KnowsPins, Shows}
-use Rattle.mst_store.proofs.AllPasses.{all_of_front, all_of_back}
+use Rattle.mst_script.proofs.Names.{◌≡◌, ℕ, List, get_or, sym, ap, ◌∙◌, subst, All, Contains, IsPermutation, All-append, All-map, IsPermutation-sym, History, events_of, IsPrefix, IsPrefix-itself, Known, having_asked, having_seen, Settled, Machine, Gathers, Roster, everyone, SawItself, KnowsPins, Shows, all_of_front, all_of_back}
 use Rattle.mst_script.proofs.AllOf.{settled_numbers}
 use Rattle.mst_script.proofs.Gathering.{gathers_moved, one_history}
 use Rattle.mst_script.proofs.Knowing.{knows_asked}

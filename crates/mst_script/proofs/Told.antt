@@ -1,23 +1,12 @@
 -- What the machine answers in a store of one pass, to a line with a fault, and after a put or a
 -- batch.
-use Rattle.std.proofs.Common.{◌≡◌, ◌≢◌, inl, inr, ℕ, ◌<◌, List, [], ◌∷◌, ◌++◌, Option, Some, None, Result, Ok, Err, codes, refl, sym, ap, ◌∙◌, subst, arith}
-use Rattle.mst_key.specs.declared.format.Format.{Format}
+use Rattle.mst_script.proofs.Names.{◌≡◌, ◌≢◌, inl, inr, ℕ, ◌<◌, List, [], ◌∷◌, ◌++◌, Option, Some, None, refl, sym, ap, ◌∙◌, subst, arith, Format, Change, Edit, History, Reply, had, was, done, after, format_after, Pair, map_get, StoreId, rows_of, Put, Batch, Get, Fault, Request, asked, fault_words, line_of, reply_words, rows_words, value_words, Machine, AnswersRequest, Applies, Counts, Line, Migrates, Step, StepOf, Writes}
+use Rattle.std.proofs.Common.{Result, Ok, Err, codes}
 use Rattle.mst_key.specs.declared.format.Format.TheVariants.{One, Two}
-use Rattle.mst_key.specs.declared.history.Change.{Change}
 use Rattle.mst_key.specs.declared.history.Change.TheVariants as change
-use Rattle.mst_key.specs.declared.history.Edit.{Edit}
-use Rattle.mst_key.specs.History.{History, Reply, had, was, done, after, format_after, reply, value_after}
-use Rattle.mst_key.specs.Map.{Pair, map_get}
+use Rattle.mst_key.specs.History.{reply, value_after}
 use Rattle.mst_key.proofs.HistoryLaws.{map_get-after_last_put, after-push}
 use Rattle.mst_key.proofs.Batches.{map_get-batched}
-use Rattle.mst_store.specs.Passes.{StoreId}
-use Rattle.mst_versions.specs.Writes.{rows_of}
-use Rattle.mst_requests.specs.declared.request.Command.TheVariants.{Put, Batch, Get}
-use Rattle.mst_requests.specs.declared.request.Fault.{Fault}
-use Rattle.mst_requests.specs.declared.request.Request.{Request}
-use Rattle.mst_requests.specs.Grammar.{asked}
-use Rattle.mst_requests.specs.Texts.{fault_words, line_of, reply_words, rows_words, value_words}
-use Rattle.mst_script.specs.Machine.{Machine, AnswersRequest, Applies, Counts, Line, Migrates, Step, StepOf, Writes}
 
 -- ---- a store of one pass
 

@@ -1,14 +1,7 @@
 -- The audit is passed exactly by the directory of some splits.
-use Rattle.std.proofs.Common.{◌≡◌, ℕ, List, [], ◌∷◌, refl, sym, ◌∙◌, subst}
+use Rattle.mst_sharded_proof.proofs.Names.{◌≡◌, ℕ, List, [], ◌∷◌, refl, sym, ◌∙◌, subst, Result, Ok, Err, Format, Pair, AuditFault, AreSplits, shards_from, AreListed, audit_verdict}
 use Rattle.std.specs.Prelude.{IsOk}
-use Rattle.std.specs.declared.result.Result.{Result}
-use Rattle.std.specs.declared.result.Result.TheVariants.{Ok, Err}
-use Rattle.mst_key.specs.declared.format.Format.{Format}
-use Rattle.mst_key.specs.Map.{Pair}
-use Rattle.mst_sharded_proof.specs.declared.audit.AuditFault.{AuditFault}
-use Rattle.mst_sharded_proof.specs.Shards.{AreSplits, shards_from}
-use Rattle.mst_sharded_proof.specs.Audit.{AreListed, IsDirectory}
-use Rattle.mst_sharded_proof.specs.Auditing.{audit_verdict}
+use Rattle.mst_sharded_proof.specs.Audit.{IsDirectory}
 use Rattle.mst_sharded_proof.proofs.Meeting.{AllKeys, bounds, all_listed, all_meet, opens}
 use Rattle.mst_sharded_proof.proofs.Auditing.{Passes, passes_audit, audit_passes}
 

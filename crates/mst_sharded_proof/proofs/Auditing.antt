@@ -1,25 +1,18 @@
 -- The verdict on a directory is a fault exactly if it fails the test of this fault.
-use Rattle.std.proofs.Common.{◌≡◌, ◌≢◌, ℕ, zero, suc, ◌+◌, Bool, true, false, cond, List, [], ◌∷◌, length, drop, Option, Some, None, ◌⊎◌, inl, inr, refl, sym, ◌∙◌, ap, subst, arith, is_lt, Less, Equal, Greater, true≢false}
-use Rattle.std.specs.Prelude.{nat_lt, ◌<◌, ◌≤◌}
+use Rattle.mst_sharded_proof.proofs.Names.{◌≡◌, ◌≢◌, ℕ, zero, suc, ◌+◌, Bool, true, false, cond, List, [], ◌∷◌, length, drop, Option, Some, None, ◌⊎◌, inl, inr, refl, sym, ◌∙◌, ap, subst, arith, is_lt, Less, true≢false, nat_lt, ◌<◌, ◌≤◌, Result, Ok, Err, cond-true, cond-false, false_from_ne_true, nat_tests, Format, Pair, key_cmp, greater_from_less, less_from_test, AuditFault, least, AllMeet, Opens, listings_from, audit_verdict}
+use Rattle.std.proofs.Common.{Equal, Greater}
 use Rattle.std.specs.Str.{bytes_eq}
 use Rattle.std.specs.declared.cmp.Ordering.{Ordering}
-use Rattle.std.specs.declared.result.Result.{Result}
-use Rattle.std.specs.declared.result.Result.TheVariants.{Ok, Err}
-use Rattle.std.proofs.lemmas.Bool.{cond-true, cond-false, false_from_ne_true}
-use Rattle.std.proofs.lemmas.Bool.Decides.{nat_tests, not_from_Decides}
+use Rattle.std.proofs.lemmas.Bool.Decides.{not_from_Decides}
 use Rattle.std.proofs.lemmas.Slice.Eq.{bytes_eq-Decides}
-use Rattle.mst_key.specs.declared.format.Format.{Format}
-use Rattle.mst_key.specs.Map.{Pair, key_cmp}
-use Rattle.mst_key.proofs.KeyOrder.{equal_from_same, same_from_equal, greater_from_less, less_from_greater, less_from_test}
+use Rattle.mst_key.proofs.KeyOrder.{equal_from_same, same_from_equal, less_from_greater}
 use Rattle.mst_node.specs.Text.{root as root_of}
 use Rattle.mst_node.specs.Trail.{by_order}
-use Rattle.mst_sharded_proof.specs.declared.audit.AuditFault.{AuditFault}
 use Rattle.mst_sharded_proof.specs.declared.audit.AuditFault.TheVariants.{TooMany, NoShard, NotLeast, Listing, OtherRoot}
 use Rattle.mst_sharded_proof.specs.declared.audit.ListingFault.{ListingFault}
 use Rattle.mst_sharded_proof.specs.declared.audit.ListingFault.TheVariants.{NoDigest, NotRising, Gap, Overlap, Bounded}
-use Rattle.mst_sharded_proof.specs.Shards.{least}
-use Rattle.mst_sharded_proof.specs.Audit.{Rises, Meets, FailsBeside, AllMeet, FailsAt, Opens, AuditFails}
-use Rattle.mst_sharded_proof.specs.Auditing.{◌then◌, unmet, rises, listing_fault, first_of, at_place, listings_from, opening, rooted, audit_verdict}
+use Rattle.mst_sharded_proof.specs.Audit.{Rises, Meets, FailsBeside, FailsAt, AuditFails}
+use Rattle.mst_sharded_proof.specs.Auditing.{◌then◌, unmet, rises, listing_fault, first_of, at_place, opening, rooted}
 
 -- ---- an upper bound
 

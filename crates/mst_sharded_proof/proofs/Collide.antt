@@ -1,23 +1,11 @@
 -- If there is no collision beside either tree, no other answer is shown.
-use Rattle.std.proofs.Common.{◌≡◌, ℕ, List, length, take, Option, Some, None, refl, sym, ◌∙◌, ap, subst}
-use Rattle.std.specs.Prelude.{◌≤◌, IfOk, IfSome, IfNone}
-use Rattle.std.specs.declared.result.Result.{Result}
-use Rattle.std.specs.declared.result.Result.TheVariants.{Ok, Err}
-use Rattle.std.proofs.lemmas.List.Elements.{Contains-append_left, Contains-append_right}
-use Rattle.mst_key.specs.declared.format.Format.{Format}
-use Rattle.mst_key.specs.Map.{Pair, IsMap, map_get}
+use Rattle.mst_sharded_proof.proofs.Names.{◌≡◌, ℕ, List, length, take, Option, Some, None, refl, sym, ◌∙◌, ap, subst, ◌≤◌, IfSome, IfNone, Result, Ok, Err, Contains-append_left, Contains-append_right, Format, Pair, IsMap, map_get, tree, ShowsNoOther, texts_named, CollidesWith, verdict, among_named, ShardedFault, least, shard_of, part_of, directory, ◌>>◌, Parts, parts_at, listed, placed, answered, judgement, HasShardedRoot, directory_tree, shard_tree, texts_among, sharded_texts}
+use Rattle.std.specs.Prelude.{IfOk}
 use Rattle.mst_node.specs.Text.{digest, root as root_of}
-use Rattle.mst_node.specs.Tree.{Tree, tree, pairs}
+use Rattle.mst_node.specs.Tree.{Tree, pairs}
 use Rattle.mst_node.proofs.UniqueTree.{pairs_tree}
-use Rattle.mst_proof.specs.Beside.{ShowsNoOther, texts_named, CollidesAmong}
-use Rattle.mst_proof.specs.Theorem.{CollidesWith}
-use Rattle.mst_proof.specs.Verdict.{verdict}
-use Rattle.mst_proof.proofs.Named.{among_named}
-use Rattle.mst_sharded_proof.specs.declared.fault.ShardedFault.{ShardedFault}
-use Rattle.mst_sharded_proof.specs.Shards.{least, shard_of, part_of, directory}
-use Rattle.mst_sharded_proof.specs.Frame.{◌>>◌, Parts, parts_at}
-use Rattle.mst_sharded_proof.specs.Verdict.{listed, placed, answered, judgement}
-use Rattle.mst_sharded_proof.specs.Theorem.{IsSharded, HasShardedRoot, directory_tree, shard_tree, texts_among, sharded_texts, ShowsNoOtherSharded}
+use Rattle.mst_proof.specs.Beside.{CollidesAmong}
+use Rattle.mst_sharded_proof.specs.Theorem.{IsSharded, ShowsNoOtherSharded}
 use Rattle.mst_sharded_proof.proofs.Shards.{found, listing-digest}
 use Rattle.mst_sharded_proof.proofs.Parts.{bind_done}
 use Rattle.mst_sharded_proof.proofs.Sound.{listed_done, placed_done, answered_done, directory_root, shard_root}

@@ -1,32 +1,10 @@
 -- The proof that a map gives is accepted, and shows the map's answer.
-use Rattle.std.proofs.Common.{◌≡◌, ℕ, zero, suc, Bool, true, false, cond, List, [], ◌∷◌, ◌++◌, length, take, drop, Option, Some, None, inl, inr, refl, sym, ◌∙◌, ap, subst, arith, is_lt, Less, length-append, append_assoc}
-use Rattle.std.specs.Prelude.{nat_lt, nat_le, ◌==◌, not}
-use Rattle.std.specs.Int.{w32, to_be_bytes}
-use Rattle.std.specs.declared.result.Result.{Result}
-use Rattle.std.specs.declared.result.Result.TheVariants.{Ok, Err}
-use Rattle.std.proofs.Math.Seq.{take-append_seam, drop-append_seam}
-use Rattle.std.proofs.lemmas.Bool.{cond-true, cond-false}
-use Rattle.std.proofs.lemmas.Bool.Decides.{nat_tests}
-use Rattle.mst_key.specs.declared.format.Format.{Format}
-use Rattle.mst_key.specs.Bytes.{IsBytes, IsKey}
-use Rattle.mst_key.specs.Map.{Pair, key_cmp, map_get}
-use Rattle.mst_key.proofs.KeyOrder.{key_cmp-itself, key_cmp-front, key_cmp-first_byte, greater_from_less, less_chain, other_from_less}
-use Rattle.mst_key.proofs.MapLaws.{map_get-here, map_get-past}
-use Rattle.mst_node.specs.Text.{root as root_of, counted}
+use Rattle.mst_sharded_proof.proofs.Names.{◌≡◌, ℕ, zero, suc, Bool, true, false, cond, List, [], ◌∷◌, ◌++◌, length, take, drop, Option, Some, None, inl, inr, refl, sym, ◌∙◌, ap, subst, arith, is_lt, Less, length-append, append_assoc, nat_lt, nat_le, ◌==◌, not, w32, to_be_bytes, Result, Ok, Err, take-append_seam, drop-append_seam, cond-true, cond-false, nat_tests, Format, IsBytes, IsKey, Pair, key_cmp, map_get, greater_from_less, less_chain, map_get-here, map_get-past, counted, ProofFault, text_at, verdict, accepts, IsShort, proof_accepted, ShardedFault, FormatByte, Shard, least, AreSplits, shard_from, shard_of, is_in, part_of, bound_text, listing, directory_from, directory, ◌>>◌, Parts, key_at, parts_with, parts_at, sharded_format_byte, framing, sharded_proof, listed, is_below, placed, answered, judgement, sharded_verdict, HasShardedRoot}
+use Rattle.mst_key.proofs.KeyOrder.{key_cmp-itself, key_cmp-front, key_cmp-first_byte, other_from_less}
+use Rattle.mst_node.specs.Text.{root as root_of}
 use Rattle.mst_node.proofs.ReadIsSpelled.{bytes-split}
-use Rattle.mst_proof.specs.declared.fault.ProofFault.{ProofFault}
-use Rattle.mst_proof.specs.Frame.{text_at}
-use Rattle.mst_proof.specs.Verdict.{verdict}
-use Rattle.mst_proof.proofs.Agreed.{accepts}
-use Rattle.mst_proof.specs.Faults.{IsShort}
 use Rattle.mst_proof.proofs.Framed.{text_again}
-use Rattle.mst_proof.proofs.Truth.{proof_accepted}
-use Rattle.mst_sharded_proof.specs.declared.fault.ShardedFault.{ShardedFault}
-use Rattle.mst_sharded_proof.specs.declared.fault.ShardedFault.TheVariants.{FormatByte}
-use Rattle.mst_sharded_proof.specs.Shards.{Shard, least, AreSplits, shard_from, shard_of, is_in, part_of, bound_text, listing, directory_from, directory}
-use Rattle.mst_sharded_proof.specs.Frame.{◌>>◌, Parts, key_at, parts_with, parts_at, sharded_format_byte, framing, parts_for, sharded_proof}
-use Rattle.mst_sharded_proof.specs.Verdict.{listed, is_below, placed, answered, judgement, sharded_verdict}
-use Rattle.mst_sharded_proof.specs.Theorem.{HasShardedRoot}
+use Rattle.mst_sharded_proof.specs.Frame.{parts_for}
 use Rattle.mst_sharded_proof.proofs.Shards.{length-root, listing-digest, listing-bound, listed_from, inside_last, inside_one, part_get}
 use Rattle.mst_sharded_proof.proofs.Lengths.{proof_short}
 use Rattle.mst_sharded_proof.proofs.Sound.{directory_root, shard_root}

@@ -1,27 +1,8 @@
 -- The verdict is a fault exactly if the proof fails the test of this fault.
-use Rattle.std.proofs.Common.{◌≡◌, ◌≢◌, ℕ, Bool, true, false, List, [], ◌∷◌, ◌++◌, length, take, drop, Option, Some, None, ◌⊎◌, inl, inr, refl, sym, ◌∙◌, ap, subst, arith, is_lt, Less, length-append, true≢false}
-use Rattle.std.specs.Prelude.{nat_lt, ◌<◌, ◌≤◌}
-use Rattle.std.specs.declared.result.Result.{Result}
-use Rattle.std.specs.declared.result.Result.TheVariants.{Ok, Err}
-use Rattle.std.proofs.Math.Seq.{drop-append_seam}
-use Rattle.std.proofs.lemmas.Bool.{false_from_ne_true}
-use Rattle.std.proofs.lemmas.Bool.Decides.{nat_tests}
-use Rattle.mst_key.specs.declared.format.Format.{Format}
-use Rattle.mst_key.specs.Bytes.{IsBytes}
-use Rattle.mst_key.specs.Map.{key_cmp}
-use Rattle.mst_key.proofs.KeyOrder.{less_from_test}
-use Rattle.mst_proof.specs.declared.fault.ProofFault.{ProofFault}
-use Rattle.mst_proof.specs.Accepted.{Accepted}
-use Rattle.mst_proof.specs.Verdict.{verdict}
-use Rattle.mst_proof.proofs.Agreed.{accepted, accepts}
-use Rattle.mst_proof.proofs.Nodewise.{accepted_nodewise, accepted_stepwise}
+use Rattle.mst_sharded_proof.proofs.Names.{◌≡◌, ◌≢◌, ℕ, Bool, true, false, List, [], ◌∷◌, ◌++◌, length, take, drop, Option, Some, None, ◌⊎◌, inl, inr, refl, sym, ◌∙◌, ap, subst, arith, is_lt, Less, length-append, true≢false, nat_lt, ◌<◌, ◌≤◌, Result, Ok, Err, drop-append_seam, false_from_ne_true, nat_tests, Format, IsBytes, key_cmp, less_from_test, ProofFault, Accepted, verdict, accepted, accepts, accepted_nodewise, accepted_stepwise, ShardedFault, FormatByte, CutShort, NoKey, Directory, NotListed, NoListing, KeyBelow, KeyNotBelow, bound_text, ◌>>◌, Parts, parts_at, listed, is_below, placed, answered, judgement, sharded_verdict}
 use Rattle.mst_proof.proofs.Faults.{proof_fails}
 use Rattle.mst_proof.proofs.Failing.{proof_faulty}
-use Rattle.mst_sharded_proof.specs.declared.fault.ShardedFault.{ShardedFault}
-use Rattle.mst_sharded_proof.specs.declared.fault.ShardedFault.TheVariants.{FormatByte, CutShort, NoKey, Directory, NotListed, NoListing, KeyBelow, KeyNotBelow, Shard}
-use Rattle.mst_sharded_proof.specs.Shards.{bound_text}
-use Rattle.mst_sharded_proof.specs.Frame.{◌>>◌, Parts, parts_at}
-use Rattle.mst_sharded_proof.specs.Verdict.{listed, is_below, placed, answered, judgement, sharded_verdict}
+use Rattle.mst_sharded_proof.specs.declared.fault.ShardedFault.TheVariants.{Shard}
 use Rattle.mst_sharded_proof.specs.Faults.{Lists, PartsFail, ShardedFails}
 use Rattle.mst_sharded_proof.proofs.Parts.{parts_takes}
 use Rattle.mst_sharded_proof.proofs.Complete.{parts_again}

@@ -1,21 +1,7 @@
 -- If no parts are read from a proof, its frame fails the test whose fault is returned.
-use Rattle.std.proofs.Common.{◌≡◌, ℕ, Bool, true, false, cond, List, [], ◌∷◌, ◌++◌, length, take, drop, Option, Some, None, ◌⊎◌, inl, inr, refl, sym, ◌∙◌, ap, subst, arith, true≢false, length-append}
-use Rattle.std.specs.Prelude.{nat_lt, nat_le, ◌==◌, ◌<◌, ◌≤◌}
-use Rattle.std.specs.declared.result.Result.{Result}
-use Rattle.std.specs.declared.result.Result.TheVariants.{Ok, Err}
-use Rattle.std.proofs.Math.Seq.{take-append_seam}
-use Rattle.std.proofs.lemmas.Bool.Decides.{nat_tests}
-use Rattle.mst_key.specs.declared.format.Format.{Format}
-use Rattle.mst_key.specs.Bytes.{IsBytes, IsKey}
-use Rattle.mst_node.specs.Text.{counted}
-use Rattle.mst_node.proofs.ReadIsSpelled.{part_takes}
-use Rattle.std.proofs.lemmas.Bool.{and_parts}
+use Rattle.mst_sharded_proof.proofs.Names.{◌≡◌, ℕ, Bool, true, false, cond, List, [], ◌∷◌, ◌++◌, length, take, drop, Option, Some, None, ◌⊎◌, inl, inr, refl, sym, ◌∙◌, ap, subst, arith, true≢false, length-append, nat_lt, nat_le, ◌==◌, ◌<◌, ◌≤◌, Result, Ok, Err, take-append_seam, nat_tests, Format, IsBytes, IsKey, counted, part_takes, and_parts, text_at, ShardedFault, FormatByte, CutShort, NoKey, Directory, NotListed, NoListing, KeyBelow, KeyNotBelow, ◌>>◌, Parts, is_key, key_at, parts_with, parts_at, sharded_format_byte, Frames}
 use Rattle.mst_proof.proofs.FrameFaults.{same_head}
-use Rattle.mst_proof.specs.Frame.{text_at}
-use Rattle.mst_sharded_proof.specs.declared.fault.ShardedFault.{ShardedFault}
-use Rattle.mst_sharded_proof.specs.declared.fault.ShardedFault.TheVariants.{FormatByte, CutShort, NoKey, Directory, NotListed, NoListing, KeyBelow, KeyNotBelow, Shard}
-use Rattle.mst_sharded_proof.specs.Frame.{◌>>◌, Parts, is_key, key_at, parts_with, parts_at, sharded_format_byte}
-use Rattle.mst_sharded_proof.specs.Accepted.{Frames}
+use Rattle.mst_sharded_proof.specs.declared.fault.ShardedFault.TheVariants.{Shard}
 use Rattle.mst_sharded_proof.specs.Faults.{FrameFails}
 use Rattle.mst_sharded_proof.proofs.Parts.{cut_part, key_takes, parts_takes}
 use Rattle.mst_sharded_proof.proofs.Complete.{parts_again}

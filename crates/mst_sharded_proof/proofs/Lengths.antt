@@ -1,18 +1,12 @@
 -- A proof of one map is not too long for its length to stand in four bytes.
-use Rattle.std.proofs.Common.{◌≡◌, ℕ, ◌*◌, ◌≤◌, List, [], ◌∷◌, length, map, Option, Some, None, refl, ap, arith, length-append}
-use Rattle.std.specs.List.{AllByRecursion}
-use Rattle.mst_key.specs.declared.format.Format.{Format}
-use Rattle.mst_key.specs.declared.format.Format.TheVariants.{One, Two}
-use Rattle.mst_key.specs.Bytes.{IsBytes}
-use Rattle.mst_key.specs.Map.{Pair, map_get}
+use Rattle.mst_sharded_proof.proofs.Names.{◌≡◌, ℕ, List, [], ◌∷◌, length, map, Option, Some, None, refl, ap, arith, length-append, AllByRecursion, Format, One, IsBytes, Pair, map_get, proof_text, IsShort, HasRoot, proof_accepted}
+use Rattle.std.proofs.Common.{◌*◌, ◌≤◌}
+use Rattle.mst_key.specs.declared.format.Format.TheVariants.{Two}
 use Rattle.mst_node.specs.Text.{FlatNode, spelling}
 use Rattle.mst_node.specs.Grammar.{IsFlatNode}
-use Rattle.mst_node.specs.Trail.{framed, framing, answer_text, proof_text}
+use Rattle.mst_node.specs.Trail.{framed, framing, answer_text}
 use Rattle.mst_proof.specs.Accepted.{IsAnswer}
-use Rattle.mst_proof.specs.Faults.{IsShort}
-use Rattle.mst_proof.specs.Theorem.{HasRoot}
 use Rattle.mst_proof.proofs.Framed.{spelling_length}
-use Rattle.mst_proof.proofs.Truth.{proof_accepted}
 
 framed_short : (format : Format) (ns : List FlatNode)
     → AllByRecursion (λ n. (n.format ≡ format) × IsFlatNode n) ns

@@ -11,3 +11,4 @@ pub mod Meeting
 pub mod Auditing
 pub mod Audited
 pub mod OneRoot
+pub mod Names

@@ -1,13 +1,7 @@
 -- Pairs whose listings meet are those of the shards of some splits.
-use Rattle.std.proofs.Common.{◌≡◌, ℕ, List, [], ◌∷◌, ◌++◌, length, map, take, drop, Option, Some, None, refl, sym, ◌∙◌, ap, subst, arith, length-append}
-use Rattle.std.specs.Prelude.{◌≤◌}
-use Rattle.std.specs.List.{AllByRecursion}
+use Rattle.mst_sharded_proof.proofs.Names.{◌≡◌, ℕ, List, [], ◌∷◌, ◌++◌, length, map, take, drop, Option, Some, None, refl, sym, ◌∙◌, ap, subst, arith, length-append, ◌≤◌, AllByRecursion, drop-append_seam, IsKey, Pair, key_cmp, Shard, least, AreSplits, shards_from, bound_text, AreListed, AllMeet, Opens}
 use Rattle.std.specs.declared.cmp.Ordering.TheVariants.{Less}
-use Rattle.std.proofs.Math.Seq.{drop-append_seam}
-use Rattle.mst_key.specs.Bytes.{IsKey}
-use Rattle.mst_key.specs.Map.{Pair, key_cmp}
-use Rattle.mst_sharded_proof.specs.Shards.{Shard, least, AreSplits, shards_from, bound_text}
-use Rattle.mst_sharded_proof.specs.Audit.{IsListed, AreListed, AllMeet, Opens}
+use Rattle.mst_sharded_proof.specs.Audit.{IsListed}
 use Rattle.mst_sharded_proof.proofs.Agreed.{front_and_rest, length-front}
 
 abbrev pub AllKeys : List Pair → Type 0

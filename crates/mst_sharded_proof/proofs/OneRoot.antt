@@ -1,18 +1,8 @@
 -- Two sharded maps with one root digest are one, or there is a collision.
-use Rattle.std.proofs.Common.{◌≡◌, ◌≢◌, ℕ, List, [], ◌∷◌, map, Some, ◌⊎◌, inl, inr, refl, sym, ◌∙◌, ap}
-use Rattle.std.specs.List.{AllByRecursion}
+use Rattle.mst_sharded_proof.proofs.Names.{◌≡◌, ◌≢◌, ℕ, List, [], ◌∷◌, map, Some, ◌⊎◌, inl, inr, refl, sym, ◌∙◌, ap, AllByRecursion, Format, IsKey, IsValue, Pair, IsMap, map_get, by_same, some_same, proof_text, proof_accepted, least, directory_from, directory, sharded_proof, HasShardedRoot}
 use Rattle.std.proofs.lemmas.List.Elements.{All-contains, All-from_recursion}
-use Rattle.mst_key.specs.declared.format.Format.{Format}
-use Rattle.mst_key.specs.Bytes.{IsKey, IsValue}
-use Rattle.mst_key.specs.Map.{Pair, IsMap, map_get}
-use Rattle.mst_key.proofs.KeyOrder.{by_same}
 use Rattle.mst_key.proofs.MapLaws.{map_get-each, Contains-look, map_determined}
-use Rattle.mst_node.proofs.ReadIsSpelled.{some_same}
-use Rattle.mst_node.specs.Trail.{proof_text}
-use Rattle.mst_proof.proofs.Truth.{proof_accepted}
-use Rattle.mst_sharded_proof.specs.Shards.{least, directory_from, directory}
-use Rattle.mst_sharded_proof.specs.Frame.{sharded_proof}
-use Rattle.mst_sharded_proof.specs.Theorem.{HasShardedRoot, HasBytes, CollideForKey}
+use Rattle.mst_sharded_proof.specs.Theorem.{HasBytes, CollideForKey}
 use Rattle.mst_sharded_proof.proofs.Shards.{directory_map}
 use Rattle.mst_sharded_proof.proofs.Sound.{by_option, some-none, other_collides, directory_root, sharded_sound}
 use Rattle.mst_sharded_proof.proofs.Complete.{sharded_complete}

@@ -1,23 +1,7 @@
 -- The parts of a proof are those that its bytes frame.
-use Rattle.std.proofs.Common.{◌≡◌, ℕ, Bool, true, false, cond, List, [], ◌∷◌, ◌++◌, length, take, drop, Option, Some, None, refl, sym, ◌∙◌, ap, subst, arith, append_assoc}
-use Rattle.std.specs.Prelude.{nat_lt, nat_le, ◌==◌, ◌<◌, ◌≤◌}
-use Rattle.std.specs.Int.{w32, to_be_bytes}
-use Rattle.std.specs.declared.result.Result.{Result}
-use Rattle.std.specs.declared.result.Result.TheVariants.{Ok, Err}
-use Rattle.std.proofs.lemmas.Bool.{cond-false}
-use Rattle.std.proofs.lemmas.Bool.Decides.{nat_tests}
-use Rattle.mst_key.specs.declared.format.Format.{Format}
-use Rattle.mst_key.specs.Bytes.{IsBytes, IsKey}
+use Rattle.mst_sharded_proof.proofs.Names.{◌≡◌, ℕ, Bool, true, false, cond, List, [], ◌∷◌, ◌++◌, length, take, drop, Option, Some, None, refl, sym, ◌∙◌, ap, subst, arith, append_assoc, nat_lt, nat_le, ◌==◌, ◌<◌, ◌≤◌, w32, to_be_bytes, Result, Ok, Err, cond-false, nat_tests, Format, IsBytes, IsKey, counted, part_takes, text_at, and_parts, ShardedFault, FormatByte, CutShort, NoKey, ◌>>◌, Parts, is_key, key_at, parts_with, parts_at, sharded_format_byte, Frames}
 use Rattle.mst_node.specs.Reading.{part_at}
-use Rattle.mst_node.specs.Text.{counted}
-use Rattle.mst_node.proofs.ReadIsSpelled.{part_takes}
-use Rattle.mst_proof.specs.Frame.{text_at}
-use Rattle.std.proofs.lemmas.Bool.{and_parts}
 use Rattle.mst_proof.proofs.Framed.{text_takes}
-use Rattle.mst_sharded_proof.specs.declared.fault.ShardedFault.{ShardedFault}
-use Rattle.mst_sharded_proof.specs.declared.fault.ShardedFault.TheVariants.{FormatByte, CutShort, NoKey}
-use Rattle.mst_sharded_proof.specs.Frame.{◌>>◌, Parts, is_key, key_at, parts_with, parts_at, sharded_format_byte}
-use Rattle.mst_sharded_proof.specs.Accepted.{Frames}
 
 abbrev ok : {A : Type 0} → A → Result A ShardedFault
 ok x = Ok x

@@ -1,21 +1,12 @@
 -- The directory lists the shard of each key, and no other shard whose bounds the key keeps.
-use Rattle.std.proofs.Common.{◌≡◌, ◌≤◌, ℕ, suc, Bool, true, false, cond, List, [], ◌∷◌, ◌++◌, length, take, drop, Some, None, ◌⊎◌, inl, inr, refl, sym, ◌∙◌, ap, subst, arith, true≢false, Less, is_lt, length-append}
-use Rattle.std.specs.Prelude.{not, ◌&&◌}
-use Rattle.std.specs.List.{AllByRecursion}
-use Rattle.std.proofs.lemmas.Bool.{cond-true, cond-false, false_from_ne_true}
-use Rattle.std.proofs.Math.Seq.{take-append_seam, drop-append_seam}
-use Rattle.mst_key.specs.declared.format.Format.{Format}
-use Rattle.mst_key.specs.Bytes.{IsKey, IsValue}
-use Rattle.mst_key.specs.Map.{Pair, key_cmp, below, map_get, IsMap, IsAscending, AllAbove}
-use Rattle.mst_key.proofs.KeyOrder.{by_same, less_chain, less_from_test}
-use Rattle.mst_key.proofs.MapLaws.{map_get-here, map_get-past, map_get-filter, IsAscending-filter}
+use Rattle.mst_sharded_proof.proofs.Names.{◌≡◌, ℕ, suc, Bool, true, false, cond, List, [], ◌∷◌, ◌++◌, length, take, drop, Some, None, ◌⊎◌, inl, inr, refl, sym, ◌∙◌, ap, subst, arith, true≢false, Less, is_lt, length-append, not, AllByRecursion, cond-true, cond-false, false_from_ne_true, take-append_seam, drop-append_seam, Format, IsKey, IsValue, Pair, key_cmp, map_get, IsMap, by_same, less_chain, less_from_test, map_get-here, map_get-past, tree, some_same, Shard, least, AreSplits, shards_from, shard_from, is_in, part_of, bound_text, listing, directory_from, directory, is_below}
+use Rattle.std.proofs.Common.{◌≤◌}
+use Rattle.std.specs.Prelude.{◌&&◌}
+use Rattle.mst_key.specs.Map.{below, IsAscending, AllAbove}
+use Rattle.mst_key.proofs.MapLaws.{map_get-filter, IsAscending-filter}
 use Rattle.mst_key.proofs.Alls.{alls-filter}
 use Rattle.mst_node.specs.Text.{root as root_of, text}
-use Rattle.mst_node.specs.Tree.{tree}
 use Rattle.mst_node.proofs.MapTextsInGrammar.{sha256_digest}
-use Rattle.mst_node.proofs.ReadIsSpelled.{some_same}
-use Rattle.mst_sharded_proof.specs.Shards.{Shard, least, AreSplits, shards_from, shard_from, is_in, part_of, bound_text, listing, directory_from, directory}
-use Rattle.mst_sharded_proof.specs.Verdict.{is_below}
 
 -- ---- what the directory holds of a shard
 

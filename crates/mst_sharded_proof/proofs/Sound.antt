@@ -1,30 +1,10 @@
 -- If a proof is accepted with another answer than the map's, there is a collision.
-use Rattle.std.proofs.Common.{◌≡◌, ◌≢◌, ℕ, Bool, true, false, List, ◌++◌, length, take, drop, Option, Some, None, refl, sym, ◌∙◌, ap, subst, arith, is_lt}
-use Rattle.std.specs.Prelude.{nat_lt, ◌≤◌}
-use Rattle.std.specs.declared.result.Result.{Result}
-use Rattle.std.specs.declared.result.Result.TheVariants.{Ok, Err}
-use Rattle.std.proofs.lemmas.List.Elements.{Contains-append_left, Contains-append_right}
-use Rattle.mst_key.specs.declared.format.Format.{Format}
-use Rattle.mst_key.specs.Bytes.{IsBytes}
-use Rattle.mst_key.specs.Map.{Pair, key_cmp, map_get}
-use Rattle.mst_key.proofs.KeyOrder.{by_same}
+use Rattle.mst_sharded_proof.proofs.Names.{◌≡◌, ◌≢◌, ℕ, Bool, true, false, List, ◌++◌, length, take, drop, Option, Some, None, refl, sym, ◌∙◌, ap, subst, arith, is_lt, nat_lt, ◌≤◌, Result, Ok, Err, Contains-append_left, Contains-append_right, Format, IsBytes, Pair, key_cmp, map_get, by_same, tree, some_same, ProofFault, texts_named, HasRoot, verdict, accepted, among_named, ShardedFault, Shard, least, shard_of, part_of, directory, ◌>>◌, Parts, parts_at, listed, is_below, placed, answered, judgement, sharded_verdict, HasShardedRoot, directory_tree, shard_tree, texts_among, sharded_texts}
 use Rattle.mst_node.specs.Collision.{HasCollision}
 use Rattle.mst_node.specs.Text.{root as root_of}
-use Rattle.mst_node.specs.Tree.{tree}
-use Rattle.mst_node.proofs.ReadIsSpelled.{some_same}
-use Rattle.mst_proof.specs.declared.fault.ProofFault.{ProofFault}
-use Rattle.mst_proof.specs.Beside.{texts_named}
-use Rattle.mst_proof.specs.Theorem.{HasRoot}
-use Rattle.mst_proof.specs.Verdict.{verdict}
-use Rattle.mst_proof.proofs.Agreed.{accepted}
 use Rattle.mst_proof.proofs.Stepwise.{Accepted}
-use Rattle.mst_proof.proofs.Named.{among_named}
 use Rattle.mst_proof.proofs.Truth.{other_answer}
-use Rattle.mst_sharded_proof.specs.declared.fault.ShardedFault.{ShardedFault}
-use Rattle.mst_sharded_proof.specs.Shards.{Shard, least, shard_of, part_of, directory}
-use Rattle.mst_sharded_proof.specs.Frame.{◌>>◌, Parts, parts_at}
-use Rattle.mst_sharded_proof.specs.Verdict.{listed, is_below, placed, answered, judgement, sharded_verdict}
-use Rattle.mst_sharded_proof.specs.Theorem.{HasShardedRoot, directory_tree, shard_tree, texts_with, texts_among, sharded_texts}
+use Rattle.mst_sharded_proof.specs.Theorem.{texts_with}
 use Rattle.mst_sharded_proof.proofs.Parts.{bind_done, parts_takes}
 use Rattle.mst_sharded_proof.proofs.Shards.{found, listing-digest, directory_map, length-directory, part_map, part_get, of_each}
 

@@ -1,8 +1,8 @@
 -- Readers that are given to passes, one after another.
-use Rattle.std.proofs.Common.{◌≡◌, ◌+◌, ◌<◌, List, [], ◌∷◌, ◌++◌, length, refl, sym, ap, ◌∙◌, arith, append_assoc, append-nil}
+use Rattle.mst_sharded_script.proofs.Names.{◌≡◌, ◌+◌, ◌<◌, List, [], ◌∷◌, ◌++◌, length, refl, sym, ap, ◌∙◌, arith, append-nil, Whole, PassState, with_readers}
+use Rattle.std.proofs.Common.{append_assoc}
 use Rattle.std.proofs.lemmas.List.{nil_from_length}
-use Rattle.mst_shards.specs.BlockHistory.{Whole}
-use Rattle.mst_sharded_script.specs.States.{PassState, with_reader, with_readers}
+use Rattle.mst_sharded_script.specs.States.{with_reader}
 
 -- one more at the end
 one_more : (done : List Whole) (front : List PassState) (r : Whole) (p : PassState)

@@ -1,7 +1,8 @@
 -- All pairs of a snapshot, and the edits that put them.
-use Rattle.std.proofs.Common.{◌≡◌, ℕ, zero, suc, ◌<◌, List, [], ◌∷◌, length, filter, take, None, Vec, true, refl, ap, ◌∙◌, subst, arith}
-use Rattle.std.specs.Prelude.{Result, Ok, Err, IfOk, IfErr}
-use Rattle.mst_key.specs.Map.{Pair, map_range}
+use Rattle.mst_sharded_script.proofs.Names.{◌≡◌, ℕ, ◌<◌, List, [], ◌∷◌, length, take, None, true, refl, ap, ◌∙◌, subst, arith, IfOk, Pair}
+use Rattle.std.proofs.Common.{zero, suc, filter, Vec}
+use Rattle.std.specs.Prelude.{Result, Ok, Err, IfErr}
+use Rattle.mst_key.specs.Map.{map_range}
 
 -- no bound binds
 unbound : (m : List Pair) (limit : ℕ) → map_range m None None limit ≡ take limit m

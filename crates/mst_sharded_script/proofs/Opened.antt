@@ -1,12 +1,8 @@
 -- A new map: its writer and its readers.
-use Rattle.std.proofs.Common.{◌≡◌, ℕ, ◌-◌, List, [], Option, Some, IfSome, length, map, ap, subst, ◌∙◌, arith}
+use Rattle.mst_sharded_script.proofs.Names.{◌≡◌, ℕ, ◌-◌, List, [], Option, Some, IfSome, length, map, ap, subst, ◌∙◌, arith, Whole, Shards, Dealt, first_lots, IsWriterOf, HasMade, reader_of, AreNewOf, Opens}
 use Rattle.std.proofs.lemmas.List.{length-map}
 use Rattle.mst_words.specs.declared.view.Shape.{Shape}
-use Rattle.mst_shards.specs.BlockHistory.{Whole}
-use Rattle.mst_shards.specs.Opening.{Shards, Dealt, first_lots}
 use Rattle.mst_shards.proofs.Dealing.{length-first_lots}
-use Rattle.mst_blocks.specs.Writing.{IsWriterOf, HasMade}
-use Rattle.mst_sharded_script.specs.Opening.{reader_of, AreNewOf, Opens}
 
 -- what is said of what is there
 pub if_is : {T : Type 0} (P : T → Type 0) (d : Option T) (x : T) → d ≡ Some x → IfSome d P → P x

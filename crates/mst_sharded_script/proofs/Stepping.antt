@@ -1,19 +1,18 @@
 -- From what a call says to the step of its pass.
-use Rattle.std.proofs.Common.{◌≡◌, ℕ, ◌+◌, ◌<◌, true, false, List, [], ◌∷◌, ◌++◌, length, get_or, set, Option, Some, None, refl, sym, ap, ◌∙◌, subst, arith}
+use Rattle.mst_sharded_script.proofs.Names.{◌≡◌, ℕ, ◌+◌, ◌<◌, true, List, [], ◌∷◌, ◌++◌, length, Option, Some, None, refl, sym, ap, ◌∙◌, subst, arith, SwappedAt, Edit, Put, Get, Node, Pin, Unpin, Rows, Whole, PassState, Free, Pinned, ScriptState, Acts, StepsAt, stepped, is_look}
+use Rattle.std.proofs.Common.{false, get_or, set}
 use Rattle.std.specs.Prelude.{codes}
-use Rattle.std.specs.List.{swap_remove, SwappedAt}
+use Rattle.std.specs.List.{swap_remove}
 use Rattle.std.proofs.lemmas.Bool.{false≢true}
 use Rattle.std.proofs.lemmas.Option.{none-some, same_Some}
 use Rattle.mst_key.specs.declared.format.Format.{Format}
-use Rattle.mst_key.specs.declared.history.Edit.{Edit}
 use Rattle.mst_requests.specs.declared.request.Command.{Command}
-use Rattle.mst_requests.specs.declared.request.Command.TheVariants.{Put, Remove, Migrate, Batch, Get, Next, Range, Root, Node, Prove, Pin, Unpin, Rows}
+use Rattle.mst_requests.specs.declared.request.Command.TheVariants.{Remove, Migrate, Batch, Next, Range, Root, Prove}
 use Rattle.mst_requests.specs.declared.request.Command.TheVariants as ask
 use Rattle.mst_requests.specs.Texts.{line_of}
-use Rattle.mst_shards.specs.BlockHistory.{Whole}
 use Rattle.mst_shards.proofs.Moved.{read_any, put_back}
-use Rattle.mst_sharded_script.specs.States.{PassState, Free, Pinned, unpinned, LayoutState, ScriptState, NewMapState, moved}
-use Rattle.mst_sharded_script.specs.Serving.{Takes, Finds, LooksAt, Moves, Migrates, Acts, Recalls, FreeStep, PinnedStep, Step, StepsAt, stepped, moved_if, is_unpin, migration_of, is_look}
+use Rattle.mst_sharded_script.specs.States.{unpinned, LayoutState, NewMapState, moved}
+use Rattle.mst_sharded_script.specs.Serving.{Takes, Finds, LooksAt, Moves, Migrates, Recalls, FreeStep, PinnedStep, Step, moved_if, is_unpin, migration_of}
 
 -- ---- which command it is
 

@@ -1,18 +1,12 @@
 -- The passes that are dealt of stores, and the lots of them.
-use Rattle.std.proofs.Common.{◌≡◌, ◌≢◌, ℕ, zero, suc, ◌+◌, ◌-◌, ◌<◌, ◌≤◌, List, [], ◌∷◌, ◌++◌, map, length, get_or, set, refl, sym, ap, ◌∙◌, arith, length-append, below_more, get_or-set_same, get_or-set_other}
-use Rattle.std.specs.List.{AllByRecursion}
-use Rattle.std.proofs.lemmas.List.{same_lists, map-append, append_cancel_right}
+use Rattle.mst_shards.proofs.Names.{◌≡◌, ◌≢◌, ℕ, zero, suc, ◌+◌, ◌-◌, ◌<◌, ◌≤◌, List, [], ◌∷◌, ◌++◌, map, length, get_or, set, refl, sym, ap, ◌∙◌, arith, length-append, get_or-set_same, get_or-set_other, AllByRecursion, same_lists, map-append, get_or-append, get_or-append_seam, dite, ℕ_discrete, StoreId, Known, HasShape, new_pass, new_passes, Format, AreOf, Shards, Dealt, dealt_more, IsLot, lot, first_lots}
+use Rattle.std.proofs.Common.{below_more}
+use Rattle.std.proofs.lemmas.List.{append_cancel_right}
 use Rattle.std.proofs.lemmas.List.Elements.{at_read}
-use Rattle.std.proofs.Math.ListN.{get_or-append}
-use Rattle.std.proofs.Math.Seq.{get_or-append_seam}
-use mathlib.Core.Logic.{dite}
-use native.Mathlib.Decide.{ℕ_discrete}
 use Rattle.mst_words.specs.declared.view.Shape.{Shape}
-use Rattle.mst_store.specs.Passes.{StoreId, Known, HasShape, new_pass, first_passes, new_passes}
+use Rattle.mst_store.specs.Passes.{first_passes}
 use Rattle.mst_store.proofs.AllPasses.{first_at as at_first}
-use Rattle.mst_key.specs.declared.format.Format.{Format}
-use Rattle.mst_shards.specs.Laid.{AreOf}
-use Rattle.mst_shards.specs.Opening.{Shards, Dealt, dealt_more, IsNew, IsLot, lot, first_lots}
+use Rattle.mst_shards.specs.Opening.{IsNew}
 
 pub first_at : (s : StoreId) (n k : ℕ) (d : Known) → k < n
     → get_or (first_passes s n) k d ≡ new_pass s (suc k)

@@ -1,8 +1,6 @@
 -- An element of a list that is taken one by one.
-use Rattle.std.proofs.Common.{◌≡◌, ℕ, List, [], ◌∷◌, ◌++◌, length, get_or, sym, ap, ◌∙◌, arith, append_assoc, append-nil, subst, length-append}
-use Rattle.std.proofs.Math.Seq.{get_or-append_seam}
+use Rattle.mst_shards.proofs.Names.{◌≡◌, ℕ, List, [], ◌∷◌, ◌++◌, length, get_or, sym, ap, ◌∙◌, arith, append_assoc, append-nil, subst, length-append, get_or-append_seam, AllByRecursion}
 use Rattle.std.proofs.lemmas.List.{nil_from_length}
-use Rattle.std.specs.List.{AllByRecursion}
 
 -- the one that comes next
 pub next_at : {X : Type 0} (all front rest : List X) (x : X) (n : ℕ) (d : X)

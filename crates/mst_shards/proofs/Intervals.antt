@@ -1,11 +1,8 @@
 -- The shards one after the other.
-use Rattle.std.proofs.Common.{◌≡◌, ℕ, zero, suc, ◌+◌, ◌<◌, ◌≤◌, List, [], ◌∷◌, length, drop, get_or, refl, sym, ap, ◌∙◌, subst, arith}
-use Rattle.std.proofs.lemmas.List.{drop_more}
-use Rattle.mst_store.specs.Passes.{Known}
-use Rattle.mst_sharded_proof.specs.Shards.{Shard, least, shards_from, shards as shards_at}
-use Rattle.mst_shards.specs.Sharding.{maps_of}
+use Rattle.mst_shards.proofs.Names.{◌≡◌, ℕ, zero, suc, ◌+◌, ◌<◌, ◌≤◌, List, [], ◌∷◌, length, drop, get_or, refl, sym, ap, ◌∙◌, subst, arith, drop_more, Known, Shard, least, shards_from, maps_of, shard_from_at, shard_at}
+use Rattle.mst_sharded_proof.specs.Shards.{shards as shards_at}
 use Rattle.mst_shards.specs.Directory.{KeepWithin}
-use Rattle.mst_shards.specs.Entries.{shard_from_at, shard_at, KeepsTo}
+use Rattle.mst_shards.specs.Entries.{KeepsTo}
 
 pub length-shards : (low : List ℕ) (splits : List (List ℕ))
     → length (shards_from low splits) ≡ length splits + 1

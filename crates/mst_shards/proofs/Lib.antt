@@ -16,3 +16,4 @@ pub mod Spans
 pub mod Stepping
 pub mod Steps
 pub mod Unions
+pub mod Names

@@ -1,11 +1,7 @@
 -- Lists of which one element is taken out and put back.
-use Rattle.std.proofs.Common.{◌≡◌, ◌≢◌, ℕ, zero, suc, ◌+◌, ◌-◌, ◌<◌, ◌≤◌, List, [], ◌∷◌, ◌++◌, length, take, get_or, set, refl, sym, ap, ◌∙◌, arith, length-set, get_or-set_same, get_or-set_other, drop}
-use Rattle.std.specs.List.{swap_remove, SwappedAt}
-use Rattle.std.proofs.lemmas.List.{same_lists, length-take-le, get_or-take}
-use Rattle.std.proofs.Math.ListN.{get_or-append}
-use Rattle.std.proofs.Math.Seq.{get_or-append_seam, take-append_seam}
-use mathlib.Core.Logic.{dite}
-use native.Mathlib.Decide.{ℕ_discrete}
+use Rattle.mst_shards.proofs.Names.{◌≡◌, ◌≢◌, ℕ, zero, suc, ◌+◌, ◌-◌, ◌<◌, ◌≤◌, List, [], ◌∷◌, ◌++◌, length, take, get_or, set, refl, sym, ap, ◌∙◌, arith, length-set, get_or-set_same, get_or-set_other, drop, swap_remove, SwappedAt, same_lists, get_or-append, get_or-append_seam, dite, ℕ_discrete}
+use Rattle.std.proofs.lemmas.List.{length-take-le, get_or-take}
+use Rattle.std.proofs.Math.Seq.{take-append_seam}
 
 module _ {X : Type 0} where
   -- an element that is there is read so, whatever stands for those that are not

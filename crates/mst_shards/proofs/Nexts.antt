@@ -1,22 +1,9 @@
 -- The least key above a bound, and the value of a key, in the map of all shards.
-use Rattle.std.proofs.Common.{◌≡◌, ℕ, zero, suc, ◌+◌, ◌-◌, ◌<◌, ◌≤◌, ◌&&◌, Bool, true, false, not, List, [], ◌∷◌, ◌++◌, length, drop, find, Option, Some, None, get_or, slice_get, refl, sym, ap, ◌∙◌, subst, Less, is_lt, is_gt, arith, true≢false, ⊎_elim}
-use Rattle.std.specs.List.{AllByRecursion}
-use Rattle.std.specs.Option.{option_or}
-use Rattle.std.proofs.Math.ListN.{drop_of_length-le}
-use Rattle.std.proofs.lemmas.Bool.{false_from_ne_true}
+use Rattle.mst_shards.proofs.Names.{◌≡◌, ℕ, zero, suc, ◌+◌, ◌-◌, ◌<◌, ◌≤◌, ◌&&◌, Bool, true, false, not, List, [], ◌∷◌, ◌++◌, length, drop, find, Option, Some, None, get_or, slice_get, refl, sym, ap, ◌∙◌, subst, Less, is_lt, is_gt, arith, true≢false, ⊎_elim, AllByRecursion, option_or, drop_of_length-le, false_from_ne_true, IsKey, IsValue, Pair, key_cmp, above, below, map_get, map_next, IsMap, AllAbove, after, alls-weaker, filter-whole, less_chain, less_from_test, greater_from_less, map_get-above, Known, least, AreSplits, is_in, part_of, least_first, place, union, maps_of, map_of, sharding, first_place, union_from}
 use Rattle.std.proofs.lemmas.List.Elements.{All-from_recursion}
 use Rattle.std.proofs.lemmas.List.Folds.{find-append}
-use Rattle.mst_key.specs.Bytes.{IsKey, IsValue}
-use Rattle.mst_key.specs.Map.{Pair, key_cmp, above, below, map_get, map_next, IsMap, AllAbove}
-use Rattle.mst_key.specs.History.{after}
-use Rattle.mst_key.proofs.Alls.{alls-weaker, filter-whole}
-use Rattle.mst_key.proofs.KeyOrder.{less_chain, less_from_test, greater_from_test, greater_from_less, less_from_greater}
-use Rattle.mst_key.proofs.MapLaws.{map_get-above}
-use Rattle.mst_store.specs.Passes.{Known}
-use Rattle.mst_sharded_proof.specs.Shards.{least, AreSplits, shards as shards_at, is_in, part_of}
-use Rattle.mst_sharded_proof.proofs.Complete.{least_first}
-use Rattle.mst_shards.specs.Sharding.{place, union, maps_of, map_of, sharding}
-use Rattle.mst_shards.specs.Ranging.{first_place, union_from}
+use Rattle.mst_key.proofs.KeyOrder.{greater_from_test, less_from_greater}
+use Rattle.mst_sharded_proof.specs.Shards.{shards as shards_at}
 use Rattle.mst_shards.proofs.Places.{more_than, place_bound}
 use Rattle.mst_shards.proofs.Unions.{shard, union_nothing, union_above, union_at, union_get, skip, behind_above, map_at, maps_count}
 use Rattle.mst_shards.proofs.Spans.{find_first, filter_filter, filter_same, first_append, and_false}

@@ -1,10 +1,6 @@
 -- Passes of the stores of a map stay those of its stores.
-use Rattle.std.proofs.Common.{◌≡◌, ℕ, zero, suc, ◌+◌, ◌<◌, ◌≤◌, List, [], ◌∷◌, ◌++◌, Some, None, slice_get, length, map, set, get_or, refl, sym, ap, ◌∙◌, arith, length-append}
-use Rattle.std.specs.List.{swap_remove, SwappedAt}
-use Rattle.std.proofs.lemmas.List.{length-map, get_or-map, map-set, set-get_or}
-use Rattle.mst_store.specs.Passes.{StoreId, Known, new_pass}
-use Rattle.mst_shards.specs.Laid.{AreOf}
-use Rattle.mst_shards.specs.Sharding.{AllStep, PinsNow}
+use Rattle.mst_shards.proofs.Names.{◌≡◌, ℕ, zero, suc, ◌+◌, ◌<◌, ◌≤◌, List, [], ◌∷◌, ◌++◌, Some, None, slice_get, length, map, set, get_or, refl, sym, ap, ◌∙◌, arith, length-append, swap_remove, SwappedAt, length-map, get_or-map, StoreId, Known, new_pass, AreOf, AllStep, PinsNow}
+use Rattle.std.proofs.lemmas.List.{map-set, set-get_or}
 use Rattle.mst_shards.proofs.Moved.{put_back}
 use Rattle.mst_shards.proofs.HandingOut.{next_at}
 

@@ -1,15 +1,10 @@
 -- The parts of edits are all edits.
-use Rattle.std.proofs.Common.{◌≡◌, ◌≢◌, ◌<◌, ℕ, Bool, true, false, cond, List, [], ◌∷◌, ◌++◌, Option, refl, sym, ap, ◌∙◌, arith, zero, suc, ◌+◌, map, filter, length, take, get_or, subst}
+use Rattle.mst_shards.proofs.Names.{◌≡◌, ◌≢◌, ◌<◌, ℕ, Bool, true, false, cond, List, [], ◌∷◌, ◌++◌, Option, refl, sym, ap, ◌∙◌, arith, zero, suc, ◌+◌, map, filter, length, take, get_or, subst, filter-append, dite, ℕ_discrete, Edit, key_of, place}
 use Rattle.std.specs.Prelude.{◌==◌, if◌then◌else◌}
 use Rattle.std.proofs.lemmas.Bool.{cond-true, cond-false}
 use Rattle.std.proofs.lemmas.Bool.Decides.{nat_tests}
-use Rattle.std.proofs.lemmas.List.Elements.{filter-append}
-use mathlib.Core.Logic.{dite}
-use native.Mathlib.Decide.{ℕ_discrete}
-use Rattle.mst_key.specs.declared.history.Edit.{Edit}
-use Rattle.mst_key.specs.History.{key_of, value_after}
+use Rattle.mst_key.specs.History.{value_after}
 use Rattle.mst_key.proofs.BatchOrder.{value_after-other}
-use Rattle.mst_shards.specs.Sharding.{place}
 use Rattle.mst_shards.specs.Parts.{edits_at, picked}
 
 pub same_test : (m n : ℕ) → m ≡ n → (m == n) ≡ true

@@ -1,7 +1,5 @@
 -- Passes that pin, one after the other.
-use Rattle.std.proofs.Common.{◌≡◌, suc, List, [], ◌∷◌, ◌++◌, length, refl, ap}
-use Rattle.mst_store.specs.Passes.{Known}
-use Rattle.mst_shards.specs.Sharding.{AllStep, PinsNow, SeesMore}
+use Rattle.mst_shards.proofs.Names.{◌≡◌, suc, List, [], ◌∷◌, ◌++◌, length, refl, ap, Known, AllStep, PinsNow, SeesMore}
 use Rattle.mst_shards.proofs.Stepping.{all_weaker}
 
 -- one more pass made its step

@@ -1,10 +1,6 @@
 -- The place of a key among splits that rise, and what it says of the key.
-use Rattle.std.proofs.Common.{◌≡◌, ℕ, zero, suc, ◌+◌, ◌<◌, ◌≤◌, Bool, true, false, cond, List, [], ◌∷◌, length, get_or, refl, sym, ap, ◌∙◌, subst, arith, true≢false, ◌⊎◌, ⊎_elim, inl, inr, Less, is_lt}
-use Rattle.std.proofs.lemmas.Bool.{false_from_ne_true}
-use Rattle.mst_key.specs.Map.{key_cmp}
-use Rattle.mst_key.proofs.KeyOrder.{less_chain, less_from_test, by_order}
-use Rattle.mst_sharded_proof.specs.Shards.{AreSplits}
-use Rattle.mst_shards.specs.Sharding.{place}
+use Rattle.mst_shards.proofs.Names.{◌≡◌, ℕ, zero, suc, ◌+◌, ◌<◌, ◌≤◌, Bool, true, false, cond, List, [], ◌∷◌, length, get_or, refl, sym, ap, ◌∙◌, subst, arith, true≢false, ⊎_elim, Less, is_lt, false_from_ne_true, key_cmp, less_chain, less_from_test, by_order, AreSplits, place}
+use Rattle.std.proofs.Common.{◌⊎◌, inl, inr}
 
 -- a key that is not below a bound is not below a lesser one either
 pub not_below : (k low s : List ℕ) → is_lt (key_cmp k s) ≡ false → key_cmp low s ≡ Less

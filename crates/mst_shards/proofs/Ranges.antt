@@ -1,17 +1,7 @@
 -- The first pairs between two bounds in the map of all shards.
-use Rattle.std.proofs.Common.{◌≡◌, ℕ, zero, suc, ◌+◌, ◌-◌, ◌<◌, ◌&&◌, Bool, false, not, List, [], ◌∷◌, ◌++◌, length, take, filter, Option, Some, None, get_or, slice_get, refl, sym, ap, ◌∙◌, Ordering, Less, is_lt, arith}
+use Rattle.mst_shards.proofs.Names.{◌≡◌, ℕ, zero, suc, ◌+◌, ◌-◌, ◌<◌, ◌&&◌, Bool, false, not, List, [], ◌∷◌, ◌++◌, length, take, filter, Option, Some, None, get_or, slice_get, refl, sym, ap, ◌∙◌, Ordering, Less, is_lt, arith, filter-append, IsKey, IsValue, Pair, key_cmp, from_on, below, IsMap, after, alls-weaker, filter-nothing, greater_from_less, Known, least, AreSplits, is_in, part_of, place, maps_of, map_of, sharding, greater, lesser, split_before, first_place, last_place, union_from}
 use Rattle.std.proofs.Math.Seq.{take-nil}
 use Rattle.std.proofs.lemmas.List.{append_assoc, append-nil, length-append}
-use Rattle.std.proofs.lemmas.List.Elements.{filter-append}
-use Rattle.mst_key.specs.Bytes.{IsKey, IsValue}
-use Rattle.mst_key.specs.Map.{Pair, key_cmp, from_on, below, IsMap}
-use Rattle.mst_key.specs.History.{after}
-use Rattle.mst_key.proofs.Alls.{alls-weaker, filter-nothing}
-use Rattle.mst_key.proofs.KeyOrder.{greater_from_less}
-use Rattle.mst_store.specs.Passes.{Known}
-use Rattle.mst_sharded_proof.specs.Shards.{least, AreSplits, is_in, part_of}
-use Rattle.mst_shards.specs.Sharding.{place, maps_of, map_of, sharding}
-use Rattle.mst_shards.specs.Ranging.{greater, lesser, split_before, first_place, last_place, union_from}
 use Rattle.mst_shards.proofs.Unions.{shard, skip, behind_above}
 use Rattle.mst_shards.proofs.Nexts.{left_at, left_nothing}
 use Rattle.mst_shards.proofs.Spans.{filter_filter, filter_same, and_false, greater_is, lesser_is, shuffle, from_split}

@@ -1,8 +1,6 @@
 -- The lower bounds of shards rise.
-use Rattle.std.proofs.Common.{◌≡◌, ℕ, List, [], ◌∷◌, refl, Less}
-use Rattle.mst_key.specs.Map.{key_cmp}
-use Rattle.mst_sharded_proof.specs.Shards.{Shard, AreSplits, shards_from, least, shards as shards_at}
-use Rattle.mst_shards.specs.Sharding.{IsSplits}
+use Rattle.mst_shards.proofs.Names.{◌≡◌, ℕ, List, [], ◌∷◌, refl, Less, key_cmp, Shard, AreSplits, shards_from, least, IsSplits}
+use Rattle.mst_sharded_proof.specs.Shards.{shards as shards_at}
 
 -- from above a bound
 abbrev pub RiseFrom : List ℕ → List Shard → Type 0

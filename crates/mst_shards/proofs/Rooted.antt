@@ -1,14 +1,9 @@
 -- A sharded map has its root digest.
-use Rattle.std.proofs.Common.{◌≡◌, ℕ, zero, suc, ◌+◌, ◌<◌, ◌≤◌, ◌&&◌, Bool, true, false, cond, List, [], ◌∷◌, length, filter, get_or, Some, None, is_lt, refl, ap, ◌∙◌, arith}
-use Rattle.std.specs.List.{AllByRecursion}
-use Rattle.mst_key.specs.declared.format.Format.{Format}
-use Rattle.mst_key.specs.Map.{Pair, key_cmp, from_on, below, IsMap}
-use Rattle.mst_key.specs.History.{after}
-use Rattle.mst_store.specs.Passes.{Known, most_rows}
-use Rattle.mst_sharded_proof.specs.Shards.{Shard, least, shards as shards_at, shard_from, shard_of, part_of, sharded_root}
+use Rattle.mst_shards.proofs.Names.{◌≡◌, ℕ, zero, suc, ◌+◌, ◌<◌, ◌≤◌, ◌&&◌, Bool, true, false, cond, List, [], ◌∷◌, length, filter, get_or, Some, None, is_lt, refl, ap, ◌∙◌, arith, AllByRecursion, Format, Pair, key_cmp, from_on, below, IsMap, after, Known, Shard, least, part_of, IsSplits, place, sharding, maps_of, map_of, shard_from_at, shard_at}
+use Rattle.mst_store.specs.Passes.{most_rows}
+use Rattle.mst_sharded_proof.specs.Shards.{shards as shards_at, shard_from, shard_of, sharded_root}
 use Rattle.mst_sharded_proof.specs.Theorem.{HasShardedRoot}
-use Rattle.mst_shards.specs.Sharding.{IsSplits, HaveFewPairs, place, sharding, maps_of, map_of}
-use Rattle.mst_shards.specs.Entries.{shard_from_at, shard_at}
+use Rattle.mst_shards.specs.Sharding.{HaveFewPairs}
 use Rattle.mst_shards.proofs.Intervals.{next_shard, length-shards}
 use Rattle.mst_shards.proofs.ShardParts.{HasParts, parts, union_map}
 

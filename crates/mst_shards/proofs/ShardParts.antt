@@ -1,16 +1,9 @@
 -- The part of the map of all shards that lies in one of them is that shard's own, and the map of
 -- all shards is a map.
-use Rattle.std.proofs.Common.{◌≡◌, ℕ, ◌&&◌, Bool, true, false, not, List, [], ◌∷◌, ◌++◌, Some, None, refl, sym, ap, ◌∙◌, subst, Less, is_lt, true≢false, append_assoc, append-nil}
-use Rattle.std.specs.List.{AllByRecursion}
-use Rattle.std.proofs.lemmas.List.Elements.{filter-append}
-use Rattle.mst_key.specs.Map.{Pair, key_cmp, below, AllBelow, IsAscending, IsMap}
-use Rattle.mst_key.specs.Bytes.{IsKey, IsValue}
-use Rattle.mst_key.proofs.Alls.{alls-append, alls-weaker, alls-passes, filter-nothing, filter-whole}
-use Rattle.mst_key.proofs.KeyOrder.{less_chain, less_from_test, by_order}
+use Rattle.mst_shards.proofs.Names.{◌≡◌, ℕ, ◌&&◌, Bool, true, false, not, List, [], ◌∷◌, ◌++◌, Some, None, refl, sym, ap, ◌∙◌, subst, Less, is_lt, true≢false, append_assoc, append-nil, AllByRecursion, filter-append, Pair, key_cmp, below, IsAscending, IsMap, IsKey, IsValue, alls-append, alls-weaker, alls-passes, filter-nothing, filter-whole, less_chain, less_from_test, by_order, Shard, AreSplits, shards_from, is_in, part_of, union}
+use Rattle.mst_key.specs.Map.{AllBelow}
 use Rattle.mst_key.proofs.MapLaws.{AllBelow-less, IsMap-nil}
-use Rattle.mst_sharded_proof.specs.Shards.{Shard, AreSplits, shards_from, is_in, part_of}
 use Rattle.mst_sharded_proof.proofs.Shards.{part_map}
-use Rattle.mst_shards.specs.Sharding.{union}
 use Rattle.mst_shards.proofs.Unions.{and_right}
 
 -- ---- a part of a list

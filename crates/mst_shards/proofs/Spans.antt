@@ -1,19 +1,11 @@
 -- Reads in the order of keys: what a part of a map gives, and what the map of all shards.
-use Rattle.std.proofs.Common.{◌≡◌, ℕ, zero, suc, ◌≤◌, ◌&&◌, Bool, true, false, not, cond, List, [], ◌∷◌, ◌++◌, length, filter, find, Option, Some, None, get_or, slice_get, option_to_list, refl, sym, ap, ◌∙◌, Ordering, Less, is_lt, is_gt, arith, true≢false}
-use Rattle.std.specs.List.{AllByRecursion}
-use Rattle.std.specs.Option.{option_or}
-use Rattle.std.proofs.lemmas.Bool.{false_from_ne_true}
+use Rattle.mst_shards.proofs.Names.{◌≡◌, ℕ, zero, suc, ◌≤◌, ◌&&◌, Bool, true, false, not, cond, List, [], ◌∷◌, ◌++◌, length, filter, find, Option, Some, None, get_or, slice_get, refl, sym, ap, ◌∙◌, Ordering, Less, is_lt, is_gt, arith, true≢false, AllByRecursion, option_or, false_from_ne_true, IsKey, Pair, key_cmp, above, from_on, below, map_get, map_next, IsAscending, after, alls-weaker, by_order, less_chain, less_from_test, greater_from_less, map_get-above, least, least_first, greater, lesser, split_before}
+use Rattle.std.proofs.Common.{option_to_list}
 use Rattle.std.proofs.lemmas.Option.{slice_get_read}
-use Rattle.mst_key.specs.Bytes.{IsKey}
-use Rattle.mst_key.specs.Map.{Pair, key_cmp, above, from_on, below, map_get, map_next, IsAscending}
-use Rattle.mst_key.specs.History.{History, after}
+use Rattle.mst_key.specs.History.{History}
 use Rattle.mst_key.proofs.Ascending.{IsAscending-after}
-use Rattle.mst_key.proofs.Alls.{alls-weaker}
-use Rattle.mst_key.proofs.KeyOrder.{by_order, less_chain, less_from_test, greater_from_less, equal_from_same, other_from_less}
-use Rattle.mst_key.proofs.MapLaws.{map_get-here, map_get-past, map_get-above, AllAbove-less}
-use Rattle.mst_sharded_proof.specs.Shards.{least}
-use Rattle.mst_sharded_proof.proofs.Complete.{least_first}
-use Rattle.mst_shards.specs.Ranging.{greater, lesser, split_before}
+use Rattle.mst_key.proofs.KeyOrder.{equal_from_same, other_from_less}
+use Rattle.mst_key.proofs.MapLaws.{map_get-here, map_get-past, AllAbove-less}
 use Rattle.mst_shards.proofs.Places.{not_below, less_than}
 
 -- ---- filters and first elements

@@ -1,9 +1,9 @@
 -- Steps of each pass of a list.
-use Rattle.std.proofs.Common.{◌≡◌, ℕ, zero, suc, ◌+◌, ◌<◌, ◌≤◌, List, [], ◌∷◌, length, get_or, slice_set, sym, subst, arith, refl, ap}
+use Rattle.mst_shards.proofs.Names.{◌≡◌, ℕ, zero, suc, ◌+◌, ◌<◌, ◌≤◌, List, [], ◌∷◌, length, get_or, sym, subst, arith, refl, ap, Known, AllStep, SeesMore, sharding, IsSharding, place}
+use Rattle.std.proofs.Common.{slice_set}
 use Rattle.std.proofs.lemmas.List.{get_or_read}
 use Rattle.mst_key.proofs.HistoryLaws.{IsPrefix-itself}
-use Rattle.mst_store.specs.Passes.{Known}
-use Rattle.mst_shards.specs.Sharding.{AllStep, SeesMore, sharding, IsSharding, place, StepsFrom}
+use Rattle.mst_shards.specs.Sharding.{StepsFrom}
 
 -- a step that each pass may make for itself
 pub all_still : (Steps : Known → Known → Type 0) (ps : List Known) → ((p : Known) → Steps p p)

@@ -1,14 +1,7 @@
 -- What each step of a read across shards leaves to be read.
-use Rattle.std.proofs.Common.{◌≡◌, ℕ, zero, suc, ◌+◌, ◌-◌, ◌<◌, ◌≤◌, ◌&&◌, List, [], ◌∷◌, ◌++◌, length, take, filter, find, set, Option, Some, None, get_or, slice_get, refl, sym, ap, ◌∙◌, subst, arith}
-use Rattle.std.specs.List.{AllByRecursion}
-use Rattle.std.specs.Option.{option_or}
+use Rattle.mst_shards.proofs.Names.{◌≡◌, ℕ, zero, suc, ◌+◌, ◌-◌, ◌<◌, ◌≤◌, ◌&&◌, List, [], ◌∷◌, ◌++◌, length, take, filter, find, set, Option, Some, None, get_or, slice_get, refl, sym, ap, ◌∙◌, subst, arith, AllByRecursion, option_or, Pair, above, from_on, below, map_next, IsMap, after, Known, least, map_of, sharding, IsSharding, greater, lesser, split_before, first_place, last_place, union_from}
 use Rattle.std.proofs.lemmas.List.{length-append, length-take}
-use Rattle.mst_key.specs.Map.{Pair, above, from_on, below, map_next, map_range, IsMap}
-use Rattle.mst_key.specs.History.{after}
-use Rattle.mst_store.specs.Passes.{Known}
-use Rattle.mst_sharded_proof.specs.Shards.{least}
-use Rattle.mst_shards.specs.Sharding.{map_of, sharding, IsSharding}
-use Rattle.mst_shards.specs.Ranging.{greater, lesser, split_before, first_place, last_place, union_from}
+use Rattle.mst_key.specs.Map.{map_range}
 use Rattle.mst_shards.proofs.Nexts.{map_here, next_at, first_at, left_nothing, low_behind, low_exists}
 use Rattle.mst_shards.proofs.Ranges.{range_first, range_at, range_end, range_more, range_done}
 

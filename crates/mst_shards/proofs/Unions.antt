@@ -1,17 +1,7 @@
 -- The map of all shards: looks into it, and what is left of it from a shard on.
-use Rattle.std.proofs.Common.{◌≡◌, ℕ, zero, suc, ◌+◌, ◌<◌, ◌≤◌, ◌&&◌, Bool, true, false, not, cond, List, [], ◌∷◌, ◌++◌, length, drop, filter, Option, Some, None, get_or, slice_get, refl, sym, ap, ◌∙◌, subst, Less, is_lt, arith, true≢false}
-use Rattle.std.specs.List.{AllByRecursion}
+use Rattle.mst_shards.proofs.Names.{◌≡◌, ℕ, zero, suc, ◌+◌, ◌<◌, ◌≤◌, ◌&&◌, Bool, true, false, not, cond, List, [], ◌∷◌, ◌++◌, length, drop, filter, Option, Some, None, get_or, slice_get, refl, sym, ap, ◌∙◌, subst, Less, is_lt, arith, true≢false, AllByRecursion, get_or-map, length-map, filter-append, Pair, key_cmp, from_on, below, map_get, AllAbove, after, alls-append, alls-weaker, alls-passes, filter-nothing, less_chain, less_from_test, map_get-above, Known, Shard, AreSplits, shards_from, is_in, part_of, place, union, maps_of}
 use Rattle.std.proofs.Math.Seq.{drop-nil}
-use Rattle.std.proofs.lemmas.List.{get_or-map, length-map}
-use Rattle.std.proofs.lemmas.List.Elements.{filter-append}
-use Rattle.mst_key.specs.Map.{Pair, key_cmp, from_on, below, map_get, AllAbove}
-use Rattle.mst_key.specs.History.{after}
-use Rattle.mst_key.proofs.Alls.{alls-append, alls-weaker, alls-passes, filter-nothing}
-use Rattle.mst_key.proofs.KeyOrder.{less_chain, less_from_test}
-use Rattle.mst_key.proofs.MapLaws.{map_get-above, map_get-append_absent, map_get-append_nothing, map_get-filter, map_get-filter_out}
-use Rattle.mst_store.specs.Passes.{Known}
-use Rattle.mst_sharded_proof.specs.Shards.{Shard, AreSplits, shards_from, is_in, part_of}
-use Rattle.mst_shards.specs.Sharding.{place, union, maps_of}
+use Rattle.mst_key.proofs.MapLaws.{map_get-append_absent, map_get-append_nothing, map_get-filter, map_get-filter_out}
 use Rattle.mst_shards.proofs.Places.{less_than, more_than}
 
 abbrev pub shard : List ℕ → Option (List ℕ) → Shard

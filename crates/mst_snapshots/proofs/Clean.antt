@@ -1,14 +1,11 @@
 -- Whether a map has keys of one shard alone: its first key is not below the shard's lower bound,
 -- and it has none from the upper one on.
-use Rattle.std.proofs.Common.{◌≡◌, ℕ, ◌&&◌, Bool, true, false, true≢false, not, cond, List, [], ◌∷◌, find, slice_get, Option, Some, None, refl, sym, ap, ◌∙◌, subst, Less, is_lt}
-use Rattle.std.specs.List.{AllByRecursion}
+use Rattle.mst_snapshots.proofs.Names.{◌≡◌, ℕ, ◌&&◌, true, false, cond, List, [], ◌∷◌, find, slice_get, Option, Some, None, refl, sym, ap, ◌∙◌, subst, Less, AllByRecursion, same_Some, Pair, key_cmp, from_on, below, map_next, IsAscending, filter-whole, Shard, part_of, low_at, shard_at}
+use Rattle.std.proofs.Common.{Bool, true≢false, not, is_lt}
 use Rattle.std.proofs.lemmas.Bool.{false_from_ne_true}
-use Rattle.std.proofs.lemmas.Option.{same_Some}
-use Rattle.mst_key.specs.Map.{Pair, key_cmp, from_on, below, map_next, IsAscending}
-use Rattle.mst_key.proofs.Alls.{alls-both, alls-weaker, alls-passes, filter-whole}
+use Rattle.mst_key.proofs.Alls.{alls-both, alls-weaker, alls-passes}
 use Rattle.mst_key.proofs.KeyOrder.{less_chain, less_from_test}
-use Rattle.mst_sharded_proof.specs.Shards.{Shard, is_in, part_of}
-use Rattle.mst_shards.specs.Entries.{low_at, shard_at}
+use Rattle.mst_sharded_proof.specs.Shards.{is_in}
 use Rattle.mst_shards.proofs.Unions.{and_left, and_right}
 
 -- ---- below a bound

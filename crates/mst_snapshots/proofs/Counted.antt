@@ -1,11 +1,6 @@
 -- Tries of a snapshot, and the steps that they take.
-use Rattle.std.proofs.Common.{◌≡◌, ℕ, zero, suc, ◌+◌, List, [], ◌∷◌, sym, subst, arith}
-use Rattle.mst_store.specs.Passes.{Known}
-use Rattle.mst_shards.specs.BlockHistory.{Whole}
-use Rattle.mst_shards.specs.Sharding.{AllStep, PinsNow}
-use Rattle.mst_shards.proofs.Stepping.{all_still}
-use Rattle.mst_snapshots.specs.Reading.{PinsWhole}
-use Rattle.mst_snapshots.specs.Tries.{InVain, PinsAfter, MakesSteps, AllMakeSteps}
+use Rattle.mst_snapshots.proofs.Names.{◌≡◌, ℕ, zero, suc, ◌+◌, List, [], ◌∷◌, sym, subst, arith, Known, Whole, AllStep, PinsNow, all_still, PinsWhole, InVain, PinsAfter}
+use Rattle.mst_snapshots.specs.Tries.{MakesSteps, AllMakeSteps}
 
 -- each pass pins once more
 one_more : (n : ℕ) (ps qs rs : List Known) → AllStep (MakesSteps n) ps qs

@@ -1,22 +1,7 @@
 -- What a reader keeps of its last snapshot: versions that are known to be of one block.
-use Rattle.std.proofs.Common.{◌≡◌, ℕ, zero, suc, ◌+◌, ◌-◌, ◌<◌, ◌≤◌, List, [], ◌∷◌, length, slice_get, Option, Some, refl, sym, ap, ◌∙◌, subst, arith}
-use Rattle.std.specs.List.{AllByRecursion}
-use Rattle.std.specs.Option.{option_map}
-use Rattle.std.proofs.lemmas.Option.{same_Some, none-some, slice_get-map, slice_get-get_or}
-use Rattle.mst_key.specs.History.{History, after, format_after}
-use Rattle.mst_key.specs.Map.{Pair, IsMap}
-use Rattle.mst_key.proofs.HistoryLaws.{IsPrefix-length}
-use Rattle.mst_store.specs.Passes.{StoreId, Known, format_seen, most_rows}
-use Rattle.mst_sharded_proof.specs.Shards.{least, shards as shards_at, part_of, directory}
-use Rattle.mst_sharded_proof.proofs.Shards.{length-directory}
-use Rattle.mst_shards.specs.BlockHistory.{Whole, IsOneBlock, IsNumber}
-use Rattle.mst_shards.specs.Directory.{KeepWithin}
-use Rattle.mst_shards.specs.Entries.{shard_at, KeepsTo}
-use Rattle.mst_shards.specs.Opening.{Shards}
-use Rattle.mst_shards.specs.Sharding.{AllStep, IsSplits, maps_of, map_of, union}
-use Rattle.mst_shards.proofs.PinningAll.{all_step_length}
-use Rattle.mst_snapshots.specs.Agreeing.{AreClean}
-use Rattle.mst_snapshots.specs.Reading.{pass_at, IsLater, SeesOn, versions_of, HasVersions, IsReader, IsSnapshot}
+use Rattle.mst_snapshots.proofs.Names.{◌≡◌, ℕ, zero, suc, ◌+◌, ◌-◌, ◌<◌, ◌≤◌, List, [], ◌∷◌, length, slice_get, Option, Some, refl, sym, ap, ◌∙◌, subst, arith, AllByRecursion, option_map, same_Some, none-some, slice_get-map, slice_get-get_or, History, after, format_after, Pair, IsMap, IsPrefix-length, StoreId, Known, format_seen, most_rows, least, part_of, directory, length-directory, Whole, IsOneBlock, IsNumber, KeepWithin, shard_at, KeepsTo, Shards, AllStep, IsSplits, maps_of, map_of, union, all_step_length, AreClean, pass_at, IsLater, SeesOn, versions_of, IsReader, IsSnapshot}
+use Rattle.mst_sharded_proof.specs.Shards.{shards as shards_at}
+use Rattle.mst_snapshots.specs.Reading.{HasVersions}
 use Rattle.mst_snapshots.proofs.Later.{SeesOn-itself}
 use Rattle.mst_snapshots.proofs.Matching.{own_keeps}
 use Rattle.mst_snapshots.proofs.Staying.{read_at}

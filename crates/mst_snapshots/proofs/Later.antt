@@ -1,15 +1,10 @@
 -- Passes that have seen more.
-use Rattle.std.proofs.Common.{◌≡◌, ℕ, zero, suc, ◌+◌, ◌<◌, List, [], ◌∷◌, length, map, get_or, slice_set, refl, sym, ap, ◌∙◌, subst}
+use Rattle.mst_snapshots.proofs.Names.{◌≡◌, ℕ, zero, suc, ◌+◌, ◌<◌, List, [], ◌∷◌, length, get_or, refl, sym, ap, ◌∙◌, subst, StoreId, Known, Whole, whole, IsOneBlock, Shards, AllStep, PinsNow, IsSharding, IsSplits, all_step_length, all_still, IsLater, SeesOn, PinsWhole, IsReader, InVain, PinsAfter}
+use Rattle.std.proofs.Common.{map, slice_set}
 use Rattle.mst_key.proofs.HistoryLaws.{IsPrefix-itself, IsPrefix-chain}
-use Rattle.mst_store.specs.Passes.{StoreId, Known}
-use Rattle.mst_shards.specs.BlockHistory.{Whole, whole, IsOneBlock}
-use Rattle.mst_shards.specs.Opening.{Shards}
-use Rattle.mst_shards.specs.Sharding.{AllStep, PinsNow, IsSharding, IsSplits}
 use Rattle.mst_shards.proofs.Owned.{store}
-use Rattle.mst_shards.proofs.PinningAll.{all_step_length}
-use Rattle.mst_shards.proofs.Stepping.{all_still, one_steps, all_weaker}
-use Rattle.mst_snapshots.specs.Reading.{IsLater, SeesOn, PinsWhole, HasSeenBlock, IsReader}
-use Rattle.mst_snapshots.specs.Tries.{InVain, PinsAfter}
+use Rattle.mst_shards.proofs.Stepping.{one_steps, all_weaker}
+use Rattle.mst_snapshots.specs.Reading.{HasSeenBlock}
 
 pub IsLater-itself : (p : Known) → IsLater p p
 IsLater-itself p = (refl, IsPrefix-itself p.seen)

@@ -1,16 +1,8 @@
 -- How many pairs the shards of a snapshot have together.
-use Rattle.std.proofs.Common.{◌≡◌, ℕ, ◌+◌, ◌*◌, ◌^◌, ◌<◌, ◌≤◌, List, [], ◌∷◌, length, length-append, sum_by, take, refl, sym, ap, ◌∙◌, arith}
-use Rattle.std.proofs.lemmas.List.{take_all}
+use Rattle.mst_snapshots.proofs.Names.{◌≡◌, ℕ, ◌+◌, ◌<◌, ◌≤◌, List, [], ◌∷◌, length, length-append, sum_by, take, refl, sym, ap, ◌∙◌, arith, take_all, Pair, after, Known, Shard, least, part_of, Whole, IsOneBlock, KeepWithin, HaveFewPairs, union, maps_of, map_of, length-shards, pass_at}
+use Rattle.std.proofs.Common.{◌*◌, ◌^◌}
 use Rattle.std.proofs.lemmas.List.Sums.{sum_by-cons, sum_by_more, sum_by-take-le}
-use Rattle.mst_key.specs.Map.{Pair}
-use Rattle.mst_key.specs.History.{after}
-use Rattle.mst_store.specs.Passes.{Known}
-use Rattle.mst_sharded_proof.specs.Shards.{Shard, least, part_of, shards as shards_at}
-use Rattle.mst_shards.specs.BlockHistory.{Whole, IsOneBlock}
-use Rattle.mst_shards.specs.Directory.{KeepWithin}
-use Rattle.mst_shards.specs.Sharding.{HaveFewPairs, union, maps_of, map_of}
-use Rattle.mst_shards.proofs.Intervals.{length-shards}
-use Rattle.mst_snapshots.specs.Reading.{pass_at}
+use Rattle.mst_sharded_proof.specs.Shards.{shards as shards_at}
 use Rattle.mst_snapshots.proofs.Staying.{read_at}
 
 -- how many pairs a pass has seen last

@@ -9,3 +9,4 @@ pub mod Routed
 pub mod Shown
 pub mod Staying
 pub mod Tried
+pub mod Names

@@ -1,27 +1,17 @@
 -- What is found in the directory, pair by pair, is all that it has.
-use Rattle.std.proofs.Common.{◌≡◌, ◌≢◌, ℕ, zero, suc, ◌+◌, ◌<◌, ◌≤◌, cond, List, [], ◌∷◌, ◌++◌, find, length, get_or, slice_get, Option, Some, None, Ordering, Less, is_gt, refl, sym, ap, ◌∙◌, subst, arith, below_more}
-use Rattle.std.specs.List.{AllByRecursion}
-use Rattle.std.specs.Option.{option_map}
-use Rattle.std.proofs.lemmas.Option.{same_Some, none-some, slice_get-map, slice_get-get_or, slice_get_past}
-use Rattle.mst_key.specs.declared.format.Format.{Format}
-use Rattle.mst_key.specs.History.{after}
-use Rattle.mst_key.specs.Map.{Pair, key_cmp, above, map_next, IsAscending, AllAbove, IsMap}
-use Rattle.mst_key.proofs.Ascending.{IsAscending-after}
+use Rattle.mst_snapshots.proofs.Names.{◌≡◌, ℕ, zero, suc, ◌+◌, ◌<◌, ◌≤◌, cond, List, [], ◌∷◌, ◌++◌, find, length, get_or, slice_get, Option, Some, None, Less, refl, sym, ap, ◌∙◌, subst, arith, AllByRecursion, option_map, same_Some, none-some, slice_get-map, slice_get-get_or, Format, after, Pair, key_cmp, above, map_next, IsAscending, IsMap, IsAscending-after, Known, format_seen, Shard, least, part_of, directory, length-directory, whole, IsOneBlock, KeepWithin, low_at, shard_at, KeepsTo, sharding, IsSharding, HaveFewPairs, maps_of, map_of, length-shards, Agrees, AgreeTo, low_before, pass_at}
+use Rattle.std.proofs.Common.{◌≢◌, Ordering, is_gt, below_more}
+use Rattle.std.proofs.lemmas.Option.{slice_get_past}
+use Rattle.mst_key.specs.Map.{AllAbove}
 use Rattle.mst_key.proofs.KeyOrder.{equal_from_same, greater_from_less}
 use Rattle.mst_node.specs.Text.{root as root_of}
-use Rattle.mst_store.specs.Passes.{Known, format_seen}
-use Rattle.mst_sharded_proof.specs.Shards.{Shard, least, shards_from, shards as shards_at, part_of, bound_text, listing, directory_from, directory}
-use Rattle.mst_sharded_proof.proofs.Shards.{length-directory}
-use Rattle.mst_shards.specs.BlockHistory.{whole, IsOneBlock}
-use Rattle.mst_shards.specs.Directory.{KeepWithin}
-use Rattle.mst_shards.specs.Entries.{low_at, shard_from_at, shard_at, KeepsTo}
-use Rattle.mst_shards.specs.Sharding.{sharding, IsSharding, HaveFewPairs, maps_of, map_of}
+use Rattle.mst_sharded_proof.specs.Shards.{shards_from, shards as shards_at, bound_text, listing, directory_from}
+use Rattle.mst_shards.specs.Entries.{shard_from_at}
 use Rattle.mst_shards.proofs.Formats.{format_at}
-use Rattle.mst_shards.proofs.Intervals.{next_shard, shard_get, shard_keeps, length-shards}
+use Rattle.mst_shards.proofs.Intervals.{next_shard, shard_get, shard_keeps}
 use Rattle.mst_shards.proofs.Rooted.{part_at}
 use Rattle.mst_shards.proofs.ShardParts.{HasParts, parts}
-use Rattle.mst_snapshots.specs.Agreeing.{listed_pair, Agrees, AgreeTo, low_before}
-use Rattle.mst_snapshots.specs.Reading.{pass_at}
+use Rattle.mst_snapshots.specs.Agreeing.{listed_pair}
 use Rattle.mst_snapshots.proofs.Staying.{read_at, low_at_place}
 
 -- ---- the next pair of a map

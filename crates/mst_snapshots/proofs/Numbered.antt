@@ -1,14 +1,7 @@
 -- What the numbers of two snapshots say of them.
-use Rattle.std.proofs.Common.{◌≡◌, ℕ, ◌≤◌, List, length, length-append, sym, ap, ◌∙◌, arith}
-use Rattle.mst_key.specs.declared.format.Format.{Format}
-use Rattle.mst_key.specs.History.{History, after, format_after, IsPrefix}
-use Rattle.mst_key.specs.Map.{Pair}
-use Rattle.mst_key.proofs.HistoryLaws.{IsPrefix-length}
+use Rattle.mst_snapshots.proofs.Names.{◌≡◌, ℕ, ◌≤◌, List, length, length-append, sym, ap, ◌∙◌, arith, Format, History, after, format_after, Pair, IsPrefix-length, StoreId, format_seen, directory, Whole, IsOneBlock, IsNumber, map_of}
+use Rattle.mst_key.specs.History.{IsPrefix}
 use Rattle.mst_node.specs.Text.{root as root_of}
-use Rattle.mst_store.specs.Passes.{StoreId, format_seen}
-use Rattle.mst_sharded_proof.specs.Shards.{directory}
-use Rattle.mst_shards.specs.BlockHistory.{Whole, IsOneBlock, IsNumber}
-use Rattle.mst_shards.specs.Sharding.{map_of}
 use Rattle.mst_snapshots.specs.Numbers.{root_digest, HaveOneDirectory}
 
 pub rise : (w v : Whole) (n m : ℕ) → IsPrefix w.directory.seen v.directory.seen → IsNumber n w

@@ -1,13 +1,7 @@
 -- A reader: how it begins, and one of its passes that made a step and was laid down again.
-use Rattle.std.proofs.Common.{◌≡◌, ℕ, ◌+◌, ◌<◌, ◌≤◌, List, [], ◌∷◌, ◌++◌, length, set, get_or, slice_index_or, sym, ap, ◌∙◌, subst, arith}
-use Rattle.std.specs.List.{swap_remove, SwappedAt}
-use Rattle.mst_store.specs.Passes.{Known}
-use Rattle.mst_shards.specs.BlockHistory.{whole}
-use Rattle.mst_shards.specs.Opening.{Shards, Dealt, IsLot}
-use Rattle.mst_shards.specs.Sharding.{IsSplits, place, sharding, IsSharding, Routes}
-use Rattle.mst_shards.proofs.Moved.{read_any, put_back}
-use Rattle.mst_shards.proofs.Owned.{as_many}
-use Rattle.mst_snapshots.specs.Reading.{IsLater, SeesOn, IsReader}
+use Rattle.mst_snapshots.proofs.Names.{◌≡◌, ℕ, ◌+◌, ◌<◌, ◌≤◌, List, [], ◌∷◌, ◌++◌, length, set, get_or, sym, ap, ◌∙◌, subst, arith, swap_remove, SwappedAt, Known, whole, Shards, Dealt, IsLot, IsSplits, place, sharding, IsSharding, Routes, read_any, as_many, IsLater, SeesOn, IsReader}
+use Rattle.std.proofs.Common.{slice_index_or}
+use Rattle.mst_shards.proofs.Moved.{put_back}
 use Rattle.mst_snapshots.proofs.Later.{one_on, reader_later}
 
 pub new_reader : (s : Shards) (d : Dealt) (versions : List ℕ) (n : ℕ) → IsSplits s.splits

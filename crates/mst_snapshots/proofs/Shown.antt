@@ -1,24 +1,10 @@
 -- What a snapshot shows: the root digest, the pairs of the directory, and proofs.
-use Rattle.std.proofs.Common.{◌≡◌, ℕ, ◌+◌, ◌≤◌, ◌&&◌, List, length, take, None, sym, ap, ◌∙◌, subst, arith}
-use Rattle.std.proofs.lemmas.List.{take_all}
-use Rattle.mst_key.specs.declared.format.Format.{Format}
-use Rattle.mst_key.specs.Map.{Pair, from_on, below, map_range}
-use Rattle.mst_key.specs.History.{after}
-use Rattle.mst_key.proofs.Alls.{filter-whole}
+use Rattle.mst_snapshots.proofs.Names.{◌≡◌, ℕ, ◌+◌, ◌≤◌, ◌&&◌, List, length, take, None, sym, ap, ◌∙◌, subst, arith, take_all, Format, Pair, from_on, below, map_range, after, filter-whole, proof_text, Known, format_seen, sharded_proof, Shard, least, part_of, directory, HasShardedRoot, length-directory, Whole, whole, IsOneBlock, AllIn, OfClean, low_at, shard_at, sharding, place, map_of, pass_at}
 use Rattle.mst_node.specs.Text.{root as root_of}
-use Rattle.mst_node.specs.Trail.{proof_text}
-use Rattle.mst_store.specs.Passes.{Known, format_seen}
-use Rattle.mst_sharded_proof.specs.Frame.{framing, sharded_proof}
-use Rattle.mst_sharded_proof.specs.Shards.{Shard, least, shard_of, part_of, directory}
-use Rattle.mst_sharded_proof.specs.Theorem.{HasShardedRoot}
-use Rattle.mst_sharded_proof.proofs.Shards.{length-directory}
-use Rattle.mst_shards.specs.BlockHistory.{Whole, whole, IsOneBlock}
-use Rattle.mst_shards.specs.Directory.{AllIn, OfClean}
-use Rattle.mst_shards.specs.Entries.{low_at, shard_at}
-use Rattle.mst_shards.specs.Sharding.{sharding, place, map_of}
+use Rattle.mst_sharded_proof.specs.Frame.{framing}
+use Rattle.mst_sharded_proof.specs.Shards.{shard_of}
 use Rattle.mst_shards.proofs.Places.{place_within}
 use Rattle.mst_shards.proofs.Rooted.{has_root, all_unbound, key_place}
-use Rattle.mst_snapshots.specs.Reading.{pass_at}
 use Rattle.mst_snapshots.proofs.Matching.{own_part, own_format}
 use Rattle.mst_snapshots.proofs.Staying.{read_at, low_at_place}
 

@@ -1,12 +1,6 @@
 -- A pin that was lifted at its place, and laid down again.
-use Rattle.std.proofs.Common.{◌≡◌, ℕ, ◌+◌, ◌<◌, ◌≤◌, List, [], ◌∷◌, ◌++◌, length, get_or, sym, ap, subst, ◌∙◌, arith}
-use Rattle.std.specs.List.{swap_remove, SwappedAt}
-use Rattle.mst_store.specs.Passes.{Known, StoreId}
-use Rattle.mst_shards.specs.Laid.{AreOf}
-use Rattle.mst_shards.specs.Sharding.{sharding, IsSharding}
-use Rattle.mst_shards.proofs.Moved.{read_any}
+use Rattle.mst_snapshots.proofs.Names.{◌≡◌, ℕ, ◌+◌, ◌<◌, ◌≤◌, List, [], ◌∷◌, ◌++◌, length, get_or, sym, ap, subst, ◌∙◌, arith, swap_remove, SwappedAt, Known, StoreId, AreOf, sharding, IsSharding, read_any, no_pass, pass_at}
 use Rattle.mst_shards.proofs.Owned.{stayed}
-use Rattle.mst_snapshots.specs.Reading.{no_pass, pass_at}
 
 -- the list is as it was
 pub pin_back : (ps ys zs : List Known) (i m n k : ℕ) (p q : Known) → i < m → m ≡ length ps

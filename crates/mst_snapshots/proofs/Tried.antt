@@ -1,11 +1,5 @@
 -- A try of a snapshot: all that a reader pinned, and what it keeps of that.
-use Rattle.std.proofs.Common.{◌≡◌, ℕ, List, length, refl, sym, ap, ◌∙◌, subst}
-use Rattle.mst_store.specs.Passes.{Known}
-use Rattle.mst_shards.specs.BlockHistory.{Whole, whole, IsOneBlock}
-use Rattle.mst_shards.specs.Opening.{Shards}
-use Rattle.mst_shards.specs.Sharding.{AllStep, PinsNow}
-use Rattle.mst_shards.proofs.PinningAll.{all_step_length}
-use Rattle.mst_snapshots.specs.Reading.{PinsWhole, versions_of, IsReader, IsSnapshot}
+use Rattle.mst_snapshots.proofs.Names.{◌≡◌, ℕ, List, length, refl, sym, ap, ◌∙◌, subst, Known, Whole, whole, IsOneBlock, Shards, AllStep, PinsNow, all_step_length, PinsWhole, versions_of, IsReader, IsSnapshot}
 use Rattle.mst_snapshots.proofs.Kept.{taken}
 use Rattle.mst_snapshots.proofs.Later.{pins_on, reader_later}
 

@@ -1,16 +1,15 @@
 -- All passes of a store: so they are when they are dealt, and so they stay.
-use Rattle.std.proofs.Common.{◌≡◌, ℕ, zero, suc, append-nil, ◌+◌, ◌<◌, ◌≤◌, ◌≢◌, List, [], ◌∷◌, ◌++◌, length, length-append, get_or, set, map, sym, refl, ap, ◌∙◌, subst, arith}
-use Rattle.std.specs.List.{All, Contains, swap}
+use Rattle.mst_store.proofs.Names.{◌≡◌, ℕ, zero, suc, ◌+◌, ◌<◌, ◌≤◌, ◌≢◌, List, [], ◌∷◌, ◌++◌, length, length-append, get_or, set, map, sym, refl, ap, ◌∙◌, subst, arith, All, All-append, dite, ℕ_discrete, StoreId, Known, having_asked, new_pass, first_passes, numbers, AreAllPasses, having_seen}
+use Rattle.std.proofs.Common.{append-nil}
+use Rattle.std.specs.List.{Contains, swap}
 use Rattle.std.specs.List.Sorted.{IsPermutation}
 use Rattle.std.proofs.lemmas.List.{get_or-append-add}
 use Rattle.std.proofs.Math.ListN.{get_or-append}
-use Rattle.std.proofs.lemmas.List.Elements.{All-append, All-set, Contains-append_left, Contains-append_right}
+use Rattle.std.proofs.lemmas.List.Elements.{All-set, Contains-append_left, Contains-append_right}
 use Rattle.std.proofs.lemmas.List.Sorted.{IsPermutation-map, IsPermutation-swap, All-permutation, Contains-permutation}
 use Rattle.std.proofs.Math.Seq.{map-set_same}
-use mathlib.Core.Logic.{dite}
-use native.Mathlib.Decide.{ℕ_discrete}
-use Rattle.mst_store.specs.Passes.{StoreId, Known, IsSamePass, having_asked, new_pass, first_passes, new_passes}
-use Rattle.mst_store.specs.Settling.{numbers, AreAllPasses, having_seen, Settled}
+use Rattle.mst_store.specs.Passes.{IsSamePass, new_passes}
+use Rattle.mst_store.specs.Settling.{Settled}
 
 pub lone : (s : StoreId) (p : Known) → p.store ≡ s → All (λ q. q.store ≡ s) (p ∷ [])
 lone s p is zero d l = is

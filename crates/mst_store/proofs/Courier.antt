@@ -1,25 +1,14 @@
 -- The courier's way along the line of the passes, and back.
-use Rattle.std.proofs.Common.{◌≡◌, ℕ, zero, suc, ◌+◌, ◌<◌, ◌≤◌, ◌≢◌, Bool, true, false, List, [], ◌∷◌, ◌++◌, length, get_or, set, take, drop, map, sym, refl, ap, ◌∙◌, subst, arith, add-one}
-use Rattle.std.specs.List.{All}
+use Rattle.mst_store.proofs.Names.{◌≡◌, ℕ, zero, suc, ◌+◌, ◌<◌, ◌≤◌, ◌≢◌, Bool, true, false, List, [], ◌∷◌, ◌++◌, length, get_or, set, take, drop, map, sym, refl, ap, ◌∙◌, subst, arith, All, All-map, Seated, PinnedVersion, dite, ℕ_discrete, Event, History, events_of, IsPrefix, View, IsOfPasses, PassParameters, StoreId, Known, IsPinning, having_asked, SeatState, AreAllPasses, IsBeside, GoesOn, IsPrefix-chain, events_of-between}
+use Rattle.std.proofs.Common.{add-one}
 use Rattle.std.specs.Prelude.{◌==◌}
 use Rattle.std.proofs.lemmas.List.{get_or_default}
-use Rattle.std.proofs.lemmas.List.Elements.{All-weaker, All-map}
+use Rattle.std.proofs.lemmas.List.Elements.{All-weaker}
 use Rattle.atomic_table.specs.Seated.{TableId}
-use Rattle.mst_words.specs.Access.{Seated}
 use Rattle.mst_words.specs.Steps.{IsPinned}
-use Rattle.mst_versions.specs.declared.reading.PinnedVersion.{PinnedVersion}
 use Rattle.mst_versions.specs.Pinned.{HasPinned}
-use mathlib.Core.Logic.{dite}
-use native.Mathlib.Decide.{ℕ_discrete}
-use Rattle.mst_key.specs.declared.history.Event.{Event}
-use Rattle.mst_key.specs.History.{History, events_of, IsPrefix}
-use Rattle.mst_words.specs.declared.view.View.{View}
-use Rattle.mst_words.specs.Notes.{having_heard, IsOfPasses, SeesTold}
-use Rattle.mst_versions.specs.declared.parameters.PassParameters.{PassParameters}
-use Rattle.mst_store.specs.Passes.{StoreId, Known, IsPinning, having_asked}
-use Rattle.mst_versions.specs.Turns.{SeatState}
-use Rattle.mst_store.specs.Settling.{AreAllPasses, IsOfOne, IsBeside, GoesOn}
-use Rattle.mst_key.proofs.HistoryLaws.{IsPrefix-chain, events_of-between}
+use Rattle.mst_words.specs.Notes.{having_heard, SeesTold}
+use Rattle.mst_store.specs.Settling.{IsOfOne}
 use Rattle.mst_store.proofs.AllPasses.{all_of_front, all_of_back}
 
 -- what holds below a place and at it holds below the next

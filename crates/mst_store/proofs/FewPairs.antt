@@ -1,14 +1,11 @@
 -- A map that stands on rows of a store has at most as many pairs as the store has rows.
-use Rattle.std.proofs.Common.{◌≡◌, ◌≢◌, ℕ, ◌^◌, ◌<◌, ◌≤◌, ◌||◌, Bool, true, false, eqb, if◌then◌else◌, List, [], ◌∷◌, ◌++◌, length, Option, Some, None, refl, ap, subst, arith}
+use Rattle.mst_store.proofs.Names.{◌≡◌, ◌≢◌, ℕ, ◌<◌, ◌≤◌, Bool, true, false, if◌then◌else◌, List, [], ◌∷◌, ◌++◌, length, Option, Some, None, refl, ap, subst, arith, Format, Edit, after, batched, Pair, after-push, View, Seated, PassParameters, PinnedVersion, Preparation, batch_of, IsPrepared, SeatState, IsPinning}
+use Rattle.std.proofs.Common.{◌^◌, ◌||◌, eqb}
 use Rattle.std.specs.List.{list_any, AllByRecursion, IsDistinct}
 use Rattle.std.proofs.lemmas.Bool.Decides.{nat_tests}
 use Rattle.std.proofs.lemmas.Map.Steps.{length-le_from_distinct_below}
 use Rattle.atomic_table.specs.Table.{Me}
-use Rattle.mst_key.specs.declared.format.Format.{Format}
-use Rattle.mst_key.specs.declared.history.Edit.{Edit}
-use Rattle.mst_key.specs.History.{after, batched}
-use Rattle.mst_key.specs.Map.{Pair, IsMap}
-use Rattle.mst_key.proofs.HistoryLaws.{after-push}
+use Rattle.mst_key.specs.Map.{IsMap}
 use Rattle.mst_arena.specs.Content.{Content}
 use Rattle.mst_arena.specs.Lives as lives
 use Rattle.mst_arena.specs.declared.row.Root.{Root}
@@ -17,18 +14,11 @@ use Rattle.mst_arena.specs.declared.row.Row.TheVariants.{Entry}
 use Rattle.mst_arena.specs.Standing.{Placed, none, head, Chain, end, cell, link_of, first_of, head_row, rows_of, chain_rows, used, chain_used, HasRows, Stands, numbers, IsDistinct as HasNoneTwice}
 use Rattle.mst_arena.proofs.Stands.{all-append, all-front, all-back}
 use Rattle.mst_path.proofs.lemmas.versions.Versions.{rows_of_map}
-use Rattle.mst_words.specs.declared.view.View.{View}
-use Rattle.mst_words.specs.Access.{Seated, may_read, content_of}
+use Rattle.mst_words.specs.Access.{may_read, content_of}
 use Rattle.mst_words.specs.Records.{known_row}
 use Rattle.mst_words.specs.Stored.{rows_in}
 use Rattle.mst_words.proofs.Accesses.{inside}
-use Rattle.mst_versions.specs.declared.parameters.PassParameters.{PassParameters}
-use Rattle.mst_versions.specs.declared.reading.PinnedVersion.{PinnedVersion}
-use Rattle.mst_batching.specs.declared.preparing.Preparation.{Preparation}
 use Rattle.mst_versions.specs.Pinned.{PinsVersion}
-use Rattle.mst_batching.specs.Preparing.{batch_of, IsPrepared}
-use Rattle.mst_versions.specs.Turns.{SeatState}
-use Rattle.mst_store.specs.Passes.{IsPinning}
 
 -- ---- numbers below n, of which none stands twice
 

@@ -1,23 +1,14 @@
 -- From what is said at a seat to what is said of its pass.
-use Rattle.std.proofs.Common.{◌≡◌, ℕ, List, Result, Ok, Err, IfOk, Option, None, sym, subst}
+use Rattle.mst_store.proofs.Names.{◌≡◌, ℕ, List, Option, None, sym, subst, Format, Change, Edit, events_of, Seated, ApplyFault, WriteFault, Busy, VersionsSpent, NoRoom, SeatState, RefusesBatch}
+use Rattle.std.proofs.Common.{Result, Ok, Err, IfOk}
 use Rattle.std.specs.Prelude.{OnErr}
-use Rattle.mst_key.specs.declared.format.Format.{Format}
-use Rattle.mst_key.specs.declared.history.Change.{Change}
 use Rattle.mst_key.specs.declared.history.Change.TheVariants as change
-use Rattle.mst_key.specs.declared.history.Edit.{Edit}
-use Rattle.mst_key.specs.History.{events_of}
-use Rattle.mst_words.specs.Access.{Seated}
-use Rattle.mst_batching.specs.declared.faults.ApplyFault.{ApplyFault}
 use Rattle.mst_batching.specs.declared.faults.ApplyFault.TheVariants as apply
 use Rattle.mst_versions.specs.declared.faults.MigrateFault.{MigrateFault}
 use Rattle.mst_versions.specs.declared.faults.MigrateFault.TheVariants as migrate
-use Rattle.mst_versions.specs.declared.faults.WriteFault.{WriteFault}
-use Rattle.mst_versions.specs.declared.faults.WriteFault.TheVariants.{Busy, VersionsSpent, NoRoom}
 use Rattle.mst_words.specs.Steps.{Misses}
 use Rattle.mst_versions.specs.Known.{Known, known, AtSeat, Looks}
-use Rattle.mst_versions.specs.Turns.{SeatState}
 use Rattle.mst_versions.specs.Writes.{Refuses}
-use Rattle.mst_batching.specs.Applying.{RefusesBatch}
 use Rattle.mst_versions.specs.Migrating.{RefusesMigration}
 
 -- what holds of any version that the pass made last holds of the one that it made

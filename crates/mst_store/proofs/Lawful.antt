@@ -1,26 +1,17 @@
 -- Events of the passes of a store, what passes have seen that met, the rows of the first put, why
 -- at most one edit is refused, and what the number of the free rows decides.
-use Rattle.std.proofs.Common.{◌≡◌, ◌≢◌, ◌⊎◌, ℕ, suc, ◌+◌, ◌<◌, ◌≤◌, Bool, cond, if◌then◌else◌, max, List, [], ◌∷◌, ◌++◌, length, inl, inr, refl, sym, ap, ◌∙◌, subst, arith, ne_eqb}
-use mathlib.Core.Logic.{dite}
-use native.Mathlib.Decide.{ℕ_discrete}
+use Rattle.mst_store.proofs.Names.{◌≡◌, ◌≢◌, ℕ, suc, ◌+◌, ◌<◌, ◌≤◌, Bool, if◌then◌else◌, List, [], ◌∷◌, ◌++◌, length, refl, sym, ap, ◌∙◌, subst, arith, dite, ℕ_discrete, All-head, Format, Change, Edit, Event, History, Reply, after, format_after, events_of, IsPrefix, empty, IsOfPasses, ApplyFault, Memory, RefusesBatch, Known, made_by, Wrote, Refuses}
+use Rattle.std.proofs.Common.{◌⊎◌, cond, max, inl, inr, ne_eqb}
 use Rattle.std.proofs.lemmas.Bool.{eq-eqb}
 use Rattle.std.proofs.lemmas.List.{append_cancel_right}
-use Rattle.std.proofs.lemmas.List.Elements.{All-head, All-tail}
-use Rattle.mst_key.specs.declared.format.Format.{Format}
-use Rattle.mst_key.specs.declared.history.Change.{Change}
-use Rattle.mst_key.specs.declared.history.Edit.{Edit}
-use Rattle.mst_key.specs.declared.history.Event.{Event}
-use Rattle.mst_key.specs.History.{History, Reply, after, format_after, events_of, IsPrefix}
+use Rattle.std.proofs.lemmas.List.Elements.{All-tail}
 use Rattle.mst_key.proofs.HistoryLaws.{IsPrefix-compare}
 use Rattle.mst_key.specs.Layer.{layer_in}
 use Rattle.mst_change.proofs.Formats.{stays}
-use Rattle.mst_node.specs.Tree.{empty, node, last, entry, entries_of, tree_within, tree}
-use Rattle.mst_words.specs.Notes.{IsOfPasses}
-use Rattle.mst_batching.specs.declared.faults.ApplyFault.{ApplyFault}
-use Rattle.mst_batching.specs.declared.faults.ApplyFault.TheVariants.{Busy, VersionsSpent, Memory, NoRoom}
-use Rattle.mst_batching.specs.Applying.{RefusesBatch}
+use Rattle.mst_node.specs.Tree.{node, last, entry, entries_of, tree_within, tree}
+use Rattle.mst_batching.specs.declared.faults.ApplyFault.TheVariants.{Busy, VersionsSpent, NoRoom}
 use Rattle.mst_versions.specs.declared.faults.WriteFault.TheVariants as write
-use Rattle.mst_store.specs.Passes.{Known, made_by, AreFree, Wrote, Refuses}
+use Rattle.mst_store.specs.Passes.{AreFree}
 use Rattle.mst_store.specs.Settling.{Met}
 use Rattle.mst_versions.specs.Writes.{rows_held, rows_needed}
 

@@ -4,3 +4,4 @@ pub mod Lawful
 pub mod Courier
 pub mod AllPasses
 mod Waits
+pub mod Names

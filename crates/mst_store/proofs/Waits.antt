@@ -1,17 +1,11 @@
 -- Tries in vain, and then one that is not.
-use Rattle.std.proofs.Common.{◌≡◌, ℕ, ◌+◌, ◌<◌, List, refl, ap, ◌∙◌, subst, arith}
-use Rattle.mst_key.specs.declared.history.Change.{Change}
-use Rattle.mst_key.specs.declared.history.Edit.{Edit}
-use Rattle.mst_key.specs.History.{Reply}
+use Rattle.mst_store.proofs.Names.{◌≡◌, ℕ, ◌+◌, ◌<◌, List, refl, ap, ◌∙◌, subst, arith, Change, Edit, Reply, RefusesBatch, ApplyFault, WriteFault, Known, made_by, Wrote, Refuses, HasTried}
 use Rattle.mst_store.specs.declared.faults.BatchFault.{BatchFault}
 use Rattle.mst_store.specs.declared.faults.ChangeFault.{ChangeFault}
-use Rattle.mst_batching.specs.Applying.{RefusesBatch}
-use Rattle.mst_batching.specs.declared.faults.ApplyFault.{ApplyFault}
 use Rattle.mst_batching.specs.declared.faults.ApplyFault.TheVariants as apply
-use Rattle.mst_versions.specs.declared.faults.WriteFault.{WriteFault}
 use Rattle.mst_versions.specs.declared.faults.WriteFault.TheVariants as tried
-use Rattle.mst_store.specs.Passes.{Known, having_missed, made_by, Wrote, Refuses, FindsBusy}
-use Rattle.mst_store.specs.Waiting.{HasTried, WroteAfter, RefusesAfter, RefusesBatchAfter, as_tried, as_tried_batch}
+use Rattle.mst_store.specs.Passes.{having_missed, FindsBusy}
+use Rattle.mst_store.specs.Waiting.{WroteAfter, RefusesAfter, RefusesBatchAfter, as_tried, as_tried_batch}
 
 -- before the first
 pub not_tried : (p : Known) → HasTried p p

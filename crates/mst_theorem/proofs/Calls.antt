@@ -1,17 +1,11 @@
 -- What each call leaves of its pass follows from what its contract says.
-use Rattle.std.proofs.Common.{◌≡◌, ◌⊎◌, ℕ, ◌+◌, List, [], ◌∷◌, ◌++◌, length, refl, sym, ap, ◌∙◌, subst, ⊎_elim, arith}
-use Rattle.mst_key.specs.declared.format.Format.{Format}
-use Rattle.mst_key.specs.declared.history.Change.{Change}
-use Rattle.mst_key.specs.declared.history.Change.TheVariants.{Put, Remove, Migrate, Batch}
+use Rattle.mst_theorem.proofs.Names.{◌≡◌, ◌⊎◌, ℕ, ◌+◌, List, [], ◌∷◌, ◌++◌, length, refl, sym, ap, ◌∙◌, subst, ⊎_elim, arith, Format, Change, Put, Event, Pair, map_get, History, Reply, after, IsPrefix-itself, events_own, WriteFault, Known, made_by, Looks, Answers, Wrote, Refuses, Reading, Operation, got, has_seen, refused, wrote, read, left_by, IsTold, Stays, Adds, IsHonest}
+use Rattle.mst_key.specs.declared.history.Change.TheVariants.{Remove, Migrate, Batch}
 use Rattle.mst_key.specs.declared.history.Edit.{Edit}
-use Rattle.mst_key.specs.declared.history.Event.{Event}
-use Rattle.mst_key.specs.Map.{Pair, map_get, map_next, map_range}
-use Rattle.mst_key.specs.History.{History, Reply, after, format_after}
-use Rattle.mst_key.proofs.HistoryLaws.{IsPrefix-itself}
-use Rattle.mst_words.proofs.Histories.{events_own}
+use Rattle.mst_key.specs.Map.{map_next, map_range}
+use Rattle.mst_key.specs.History.{format_after}
 use Rattle.mst_node.specs.Text as text
 use Rattle.mst_node.specs.Trail.{proof_text}
-use Rattle.mst_versions.specs.declared.faults.WriteFault.{WriteFault}
 use Rattle.mst_versions.specs.declared.faults.WriteFault.TheVariants as write
 use Rattle.mst_batching.specs.declared.faults.ApplyFault.{ApplyFault}
 use Rattle.mst_batching.specs.declared.faults.ApplyFault.TheVariants as apply
@@ -22,9 +16,9 @@ use Rattle.mst_batching.specs.Applying.{RefusesBatch}
 use Rattle.mst_versions.specs.Writes.{rows_of}
 use Rattle.mst_store.specs.declared.faults.ChangeFault.{ChangeFault}
 use Rattle.mst_store.specs.declared.faults.BatchFault.{BatchFault}
-use Rattle.mst_store.specs.Passes.{Known, having_asked, having_missed, made_by, format_seen, Looks, FindsBusy, Answers, Wrote, Refuses}
+use Rattle.mst_store.specs.Passes.{having_asked, having_missed, format_seen, FindsBusy}
 use Rattle.mst_store.specs.Waiting.{WroteAfter, RefusesAfter, RefusesBatchAfter, as_tried, as_tried_batch}
-use Rattle.mst_theorem.specs.Headline.{Reading, Operation, got, came_next, ranged, told_format, told_root, proved, told_len, told_version, has_seen, counted, refused, silent, wrote, read, left_by, IsTold, Stays, Adds, IsHonest}
+use Rattle.mst_theorem.specs.Headline.{came_next, ranged, told_format, told_root, proved, told_len, told_version, counted, silent}
 use Rattle.mst_theorem.specs.ByContract.{Reads, IsRefused, IsRefusedMore, Hears, IsSilent, Says, IsPublished, ByContract}
 
 looks_stays : (p q : Known) → Looks p q → Stays p q

@@ -1,16 +1,8 @@
 -- The calls of one pass, one after another: what it sees only grows, and each of its events in the
 -- history is that of exactly one of its writes.
-use Rattle.std.proofs.Common.{◌≡◌, ◌≢◌, ℕ, suc, ◌+◌, ◌<◌, ◌≤◌, ◌==◌, List, [], ◌∷◌, ◌++◌, length, refl, sym, ap, ◌∙◌, subst, arith, eq-eqb, ne_eqb, append-nil, append_assoc, length-append}
-use Rattle.std.specs.List.{AllByRecursion}
-use Rattle.std.proofs.lemmas.List.{append_cancel_left, append_cancel_right}
-use mathlib.Core.Logic.{dite}
-use native.Mathlib.Decide.{ℕ_discrete}
-use Rattle.mst_key.specs.declared.history.Event.{Event}
-use Rattle.mst_key.specs.History.{History, Reply, events_of, IsPrefix}
-use Rattle.mst_key.proofs.HistoryLaws.{IsPrefix-itself, IsPrefix-chain, events_of-append}
-use Rattle.mst_words.proofs.Histories.{events_own}
-use Rattle.mst_store.specs.Passes.{StoreId, Known, made_by, new_pass}
-use Rattle.mst_theorem.specs.Headline.{Operation, wrote, read, Call, Stays, Adds, IsHonest, Leads, rank, reach, NeverFalls}
+use Rattle.mst_theorem.proofs.Names.{◌≡◌, ◌≢◌, ℕ, suc, ◌+◌, ◌<◌, ◌≤◌, ◌==◌, List, [], ◌∷◌, ◌++◌, length, refl, sym, ap, ◌∙◌, subst, arith, eq-eqb, ne_eqb, append-nil, append_assoc, length-append, AllByRecursion, append_cancel_left, dite, ℕ_discrete, Event, History, Reply, events_of, IsPrefix, IsPrefix-itself, IsPrefix-chain, events_own, StoreId, Known, made_by, new_pass, Operation, wrote, read, Call, Stays, Adds, IsHonest, Leads, rank, reach, NeverFalls}
+use Rattle.std.proofs.lemmas.List.{append_cancel_right}
+use Rattle.mst_key.proofs.HistoryLaws.{events_of-append}
 use Rattle.mst_theorem.proofs.Filters.{weaker, take_in, leave_out}
 use Rattle.mst_theorem.proofs.Spread.{of_rank, none_of_rank}
 

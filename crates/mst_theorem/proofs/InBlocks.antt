@@ -1,9 +1,7 @@
 -- A snapshot beside the blocks of the writer of its map.
-use Rattle.std.proofs.Common.{◌≡◌, ◌⊎◌, ℕ, ◌+◌, ◌≤◌, List, ◌++◌, length, take, drop, sym, ap, ◌∙◌, subst, arith}
+use Rattle.mst_theorem.proofs.Names.{◌≡◌, ◌⊎◌, ℕ, ◌+◌, ◌≤◌, List, ◌++◌, length, sym, ap, ◌∙◌, subst, arith, History, IsPrefix, after, Pair, IsPrefix-chain}
+use Rattle.std.proofs.Common.{take, drop}
 use Rattle.std.proofs.lemmas.List.{take-append-drop}
-use Rattle.mst_key.specs.History.{History, IsPrefix, after}
-use Rattle.mst_key.specs.Map.{Pair}
-use Rattle.mst_key.proofs.HistoryLaws.{IsPrefix-chain}
 use Rattle.mst_node.specs.Text.{root as root_of}
 use Rattle.mst_sharded_proof.specs.Shards.{directory}
 use Rattle.mst_sharded_proof.specs.Theorem.{IsSharded, HasShardedRoot, HasBytes, CollideForKey}

@@ -13,3 +13,4 @@ mod Points
 mod Within
 mod TwoOrders
 mod InBlocks
+pub mod Names

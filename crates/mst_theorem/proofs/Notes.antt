@@ -1,13 +1,5 @@
 -- Of two passes of one store the one that has seen as many events has seen the same events.
-use Rattle.std.proofs.Common.{◌≡◌, ℕ, ◌≤◌, length, Some, sym, ◌∙◌, subst, ⊎_elim, arith}
-use Rattle.mst_key.specs.declared.history.Event.{Event}
-use Rattle.mst_key.specs.History.{History, Reply, IsPrefix}
-use Rattle.mst_key.proofs.HistoryLaws.{IsPrefix-itself, IsPrefix-compare, IsPrefix-length}
-use Rattle.mst_words.specs.declared.view.View.{View}
-use Rattle.mst_words.specs.declared.view.Shape.{Shape}
-use Rattle.mst_words.specs.World.{SeatAt}
-use Rattle.mst_words.specs.Laws.{Table, IsRuled}
-use Rattle.mst_store.specs.Passes.{Known, Wrote}
+use Rattle.mst_theorem.proofs.Names.{◌≡◌, ℕ, ◌≤◌, length, Some, sym, ◌∙◌, subst, ⊎_elim, arith, Event, History, Reply, IsPrefix, IsPrefix-itself, IsPrefix-compare, IsPrefix-length, View, Shape, SeatAt, Table, IsRuled, Known, Wrote}
 use Rattle.mst_theorem.proofs.Chains.{shorter}
 
 pub as_many : (f g log : History) → IsPrefix f log → IsPrefix g log → length f ≤ length g

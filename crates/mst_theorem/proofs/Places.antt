@@ -1,14 +1,6 @@
 -- Where each call stands in the history: its answer is the one-thread map's there.
-use Rattle.std.proofs.Common.{◌≡◌, ℕ, suc, ◌+◌, ◌<◌, ◌≤◌, ◌==◌, true, false, List, [], ◌∷◌, ◌++◌, length, filter, refl, sym, ap, ◌∙◌, subst, ⊎_elim, arith, eq-eqb, append_assoc, length-append}
-use Rattle.std.specs.List.{AllByRecursion}
-use Rattle.std.proofs.lemmas.Bool.{cases_Bool, eqb-true}
-use Rattle.mst_key.specs.declared.format.Format.{Format}
-use Rattle.mst_key.specs.declared.history.Change.{Change}
-use Rattle.mst_key.specs.declared.history.Event.{Event}
-use Rattle.mst_key.specs.History.{History, Reply, reply, IsPrefix}
-use Rattle.mst_key.proofs.HistoryLaws.{IsPrefix-chain}
-use Rattle.mst_store.specs.Passes.{StoreId, Known, made_by}
-use Rattle.mst_theorem.specs.Headline.{Reading, Operation, wrote, read, IsTold, left_by, Call, IsHonest, Leads, calls_of, reach, rank}
+use Rattle.mst_theorem.proofs.Names.{◌≡◌, ℕ, suc, ◌+◌, ◌<◌, ◌≤◌, ◌==◌, true, false, List, [], ◌∷◌, ◌++◌, length, filter, refl, sym, ap, ◌∙◌, subst, ⊎_elim, arith, eq-eqb, append_assoc, length-append, AllByRecursion, cases_Bool, Format, Change, Event, History, Reply, reply, IsPrefix, IsPrefix-chain, StoreId, Known, made_by, Reading, Operation, wrote, read, IsTold, left_by, Call, IsHonest, Leads, calls_of, reach, rank}
+use Rattle.std.proofs.lemmas.Bool.{eqb-true}
 use Rattle.mst_theorem.proofs.Filters.{weaker, take_in, leave_out, filter_swap, passes, all_pass}
 use Rattle.mst_theorem.proofs.Spread.{of_rank}
 use Rattle.mst_theorem.proofs.Chains.{IsOwn, own_goes, leads_later, EachOwn}

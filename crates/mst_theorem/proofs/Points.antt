@@ -1,15 +1,6 @@
 -- Calls that take effect one after another have each seen as far as those before them.
-use Rattle.std.proofs.Common.{◌≡◌, ◌+◌, ◌≤◌, Bool, inl, inr, List, [], ◌∷◌, ◌++◌, ℕ, length, filter, ap, ◌∙◌, arith, length-append}
-use Rattle.std.specs.List.{AllByRecursion}
-use Rattle.mst_key.specs.declared.history.Event.{Event}
-use Rattle.mst_key.specs.History.{History}
-use Rattle.mst_words.specs.declared.view.Shape.{Shape}
-use Rattle.mst_words.specs.Deeds.{pinning, trying}
-use Rattle.mst_words.specs.Laws.{Table, IsRuled}
-use Rattle.mst_words.proofs.Deeds.{publication_grows, other_keeps}
-use Rattle.mst_store.specs.Passes.{StoreId}
-use Rattle.mst_theorem.specs.Headline.{Operation, wrote, read, Call, IsOneOrder, NeverFalls, reach, rank}
-use Rattle.mst_theorem.specs.Time.{IsPointOf, ByPoints}
+use Rattle.mst_theorem.proofs.Names.{◌≡◌, ◌+◌, ◌≤◌, Bool, inl, inr, List, [], ◌∷◌, ◌++◌, ℕ, length, filter, ap, ◌∙◌, arith, length-append, AllByRecursion, Event, History, Shape, pinning, trying, Table, IsRuled, publication_grows, other_keeps, StoreId, Operation, wrote, read, Call, IsOneOrder, NeverFalls, reach, rank, IsPointOf}
+use Rattle.mst_theorem.specs.Time.{ByPoints}
 use Rattle.mst_theorem.proofs.Chains.{shorter}
 use Rattle.mst_theorem.proofs.Filters.{weaker}
 use Rattle.mst_theorem.proofs.Times.{log_later, pin_whole, turn_whole, write_whole}

@@ -1,12 +1,8 @@
 -- Asked in the order of their ranks, the one-thread map answers the calls, and its changes are the
 -- events of the history.
-use Rattle.std.proofs.Common.{◌≡◌, ℕ, suc, ◌+◌, ◌<◌, ◌≤◌, List, [], ◌∷◌, ◌++◌, map, length, refl, sym, ap, ◌∙◌, subst, arith, append-nil, append_assoc, length-append}
-use Rattle.std.specs.List.{AllByRecursion}
-use Rattle.mst_key.specs.declared.format.Format.{Format}
-use Rattle.mst_key.specs.declared.history.Event.{Event}
-use Rattle.mst_key.specs.History.{History, reply, IsPrefix}
+use Rattle.mst_theorem.proofs.Names.{◌≡◌, ℕ, suc, ◌+◌, ◌<◌, ◌≤◌, List, [], ◌∷◌, ◌++◌, map, length, refl, sym, ap, ◌∙◌, subst, arith, append-nil, append_assoc, length-append, AllByRecursion, Format, Event, History, reply, IsPrefix, Single, Operation, wrote, read, IsServed, left_by, Call, reach, rank}
 use Rattle.mst_key.proofs.HistoryLaws.{after-push, format_after-push}
-use Rattle.mst_theorem.specs.Headline.{Single, Operation, wrote, read, IsAnswered, then_is, IsServed, left_by, Call, written, written_by, reach, rank}
+use Rattle.mst_theorem.specs.Headline.{IsAnswered, then_is, written, written_by}
 use Rattle.mst_theorem.proofs.Filters.{weaker}
 use Rattle.mst_theorem.proofs.Spread.{of_rank, spread}
 use Rattle.mst_theorem.proofs.Chains.{shorter}

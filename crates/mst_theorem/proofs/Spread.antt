@@ -1,11 +1,8 @@
 -- Calls spread by their rank: those of each rank one after another, in the order in which they
 -- stood.
-use Rattle.std.proofs.Common.{◌≡◌, ◌≢◌, ℕ, zero, suc, ◌+◌, ◌<◌, ◌≤◌, ◌==◌, Bool, List, [], ◌∷◌, ◌++◌, filter, refl, sym, ap, ◌∙◌, arith, eq-eqb, ne_eqb}
-use Rattle.std.specs.List.{AllByRecursion}
+use Rattle.mst_theorem.proofs.Names.{◌≡◌, ◌≢◌, ℕ, suc, ◌+◌, ◌<◌, ◌≤◌, ◌==◌, Bool, List, [], ◌∷◌, ◌++◌, filter, refl, sym, ap, ◌∙◌, arith, eq-eqb, ne_eqb, AllByRecursion, dite, ℕ_discrete, Call, rank, NeverFalls}
+use Rattle.std.proofs.Common.{zero}
 use Rattle.std.proofs.lemmas.List.Elements.{filter-append}
-use mathlib.Core.Logic.{dite}
-use native.Mathlib.Decide.{ℕ_discrete}
-use Rattle.mst_theorem.specs.Headline.{Call, rank, NeverFalls}
 use Rattle.mst_theorem.proofs.Filters.{weaker, take_in, leave_out, filter_swap}
 
 -- the calls of one rank

@@ -1,28 +1,16 @@
 -- The history only grows from step to step, and a pin and a write find the whole of it.
-use Rattle.std.proofs.Common.{◌≡◌, ◌⊎◌, ℕ, ◌+◌, ◌*◌, true, List, [], ◌∷◌, length, get_or, inl, inr, refl, sym, ap, ◌∙◌, subst, ⊎_elim, arith, Option, Some}
+use Rattle.mst_theorem.proofs.Names.{◌≡◌, ◌⊎◌, ℕ, ◌+◌, true, List, [], ◌∷◌, length, get_or, inl, inr, refl, sym, ap, ◌∙◌, subst, ⊎_elim, arith, Option, Some, Me, set_here, Event, History, IsPrefix, IsPrefix-itself, IsPrefix-chain, IsPrefix-length, View, Shape, SeatAt, Deed, pinning, trying, Table, IsRuled, IsPublication, moves_of, Does, MakesCurrent, ChangesSeats, GoesBy, within, publication_grows, other_keeps, GoesOn}
+use Rattle.std.proofs.Common.{◌*◌}
 use Rattle.std.proofs.lemmas.List.{get_or-set_other}
-use Rattle.atomic_table.specs.Table.{Me}
-use Rattle.atomic_table.proofs.Lists.{set_here}
-use Rattle.mst_key.specs.declared.history.Event.{Event}
-use Rattle.mst_key.specs.History.{History, IsPrefix}
-use Rattle.mst_key.proofs.HistoryLaws.{IsPrefix-itself, IsPrefix-chain, IsPrefix-length}
 use Rattle.mst_pin.specs.declared.event.Event as core
 use Rattle.mst_pin.specs.declared.event.Event.TheVariants.{Publish}
 use Rattle.mst_pin.specs.WordParts.{masks}
 use Rattle.mst_arena.specs.Lives as lives
-use Rattle.mst_words.specs.declared.view.View.{View}
-use Rattle.mst_words.specs.declared.view.Shape.{Shape}
 use Rattle.mst_words.specs.Layout.{record_word}
 use Rattle.mst_words.specs.Records.{field}
-use Rattle.mst_words.specs.World.{SeatAt}
-use Rattle.mst_words.specs.Deeds.{Deed, pinning, trying}
-use Rattle.mst_words.specs.Laws.{Table, IsRuled, HaveSeen, IsPublication}
-use Rattle.mst_words.specs.Moves.{moves_of, Does, MakesCurrent, ChangesSeats, GoesBy}
+use Rattle.mst_words.specs.Laws.{HaveSeen}
 use Rattle.mst_words.proofs.Ruling.{one_history}
-use Rattle.mst_words.proofs.Worlds.{within}
-use Rattle.mst_words.proofs.Deeds.{publication_grows, other_keeps}
 use Rattle.mst_words.proofs.Moves.{current_by}
-use Rattle.mst_theorem.specs.Time.{GoesOn}
 
 abbrev pub Mine : Type 0
 Mine = Me (Option lives.State) View

@@ -1,17 +1,6 @@
 -- A put, whose version is told to another pass, which looks and gets: it reads what was put.
-use Rattle.std.proofs.Common.{◌≡◌, ◌↔◌, ℕ, ◌<◌, ◌≤◌, ◌==◌, if◌then◌else◌, Bool, true, List, [], ◌∷◌, length, map, inl, refl, sym, ap, ◌∙◌, subst, arith, eq-eqb, ne_eqb, Option, Some, Result, Ok, Err, IfOk, IfSome}
-use Rattle.std.proofs.lemmas.List.Elements.{All-cons, All-nil}
-use mathlib.Core.Logic.{dite}
-use native.Mathlib.Decide.{ℕ_discrete}
-use Rattle.mst_key.specs.declared.history.Change.TheVariants.{Put}
-use Rattle.mst_key.specs.Map.{map_get}
-use Rattle.mst_key.specs.History.{events_of, IsPrefix, had}
-use Rattle.mst_key.proofs.MapLaws.{map_get-put_same}
-use Rattle.mst_words.specs.Notes.{IsOfPasses}
-use Rattle.mst_versions.specs.declared.faults.WriteFault.{WriteFault}
-use Rattle.mst_store.specs.Passes.{StoreId, Known, Looks, Answers, Wrote, made_by, new_pass}
-use Rattle.mst_store.specs.Settling.{Met}
-use Rattle.mst_theorem.specs.Headline.{Call, IsHonest, Leads, calls_of, IsRun, IsHistoryOf, IsOneOrder, IsServed, NeverFalls, left_by, wrote, read, got, has_seen}
+use Rattle.mst_theorem.proofs.Names.{◌≡◌, ℕ, ◌<◌, ◌≤◌, ◌==◌, if◌then◌else◌, Bool, true, List, [], ◌∷◌, length, map, inl, refl, sym, ap, ◌∙◌, subst, arith, eq-eqb, ne_eqb, Option, Some, Result, Ok, Err, IfOk, All-cons, All-nil, dite, ℕ_discrete, Put, map_get, events_of, IsPrefix, had, map_get-put_same, IsOfPasses, WriteFault, StoreId, Known, Looks, Answers, Wrote, made_by, new_pass, Met, Call, IsHonest, Leads, calls_of, IsRun, IsHistoryOf, IsOneOrder, IsServed, NeverFalls, left_by, wrote, read, got, has_seen}
+use Rattle.std.proofs.Common.{◌↔◌, IfSome}
 use Rattle.mst_theorem.proofs.Calls.{by_contract}
 use Rattle.mst_theorem.proofs.Chains.{IsOwn, own_new, own_goes, shorter}
 use Rattle.mst_theorem.proofs.Filters.{take_in, leave_out}

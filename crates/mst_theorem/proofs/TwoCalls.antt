@@ -1,17 +1,6 @@
 -- A put and a get of two passes that then meet.
-use Rattle.std.proofs.Common.{◌≡◌, ℕ, ◌<◌, ◌≤◌, ◌==◌, if◌then◌else◌, List, [], ◌∷◌, inl, refl, sym, ap, ◌∙◌, subst, arith, Option, Result, Ok, Err, IfOk, IfErr, ◌⊎◌, ⊎_elim, None, Some, map}
-use Rattle.std.proofs.lemmas.List.Elements.{All-cons, All-nil}
-use mathlib.Core.Logic.{dite}
-use native.Mathlib.Decide.{ℕ_discrete}
-use Rattle.mst_key.specs.declared.history.Change.TheVariants.{Put}
-use Rattle.mst_key.specs.Map.{map_get}
-use Rattle.mst_key.specs.History.{History, events_of, IsPrefix, had}
-use Rattle.mst_words.specs.Notes.{IsOfPasses}
-use Rattle.mst_versions.specs.declared.faults.WriteFault.{WriteFault}
-use Rattle.mst_store.specs.Passes.{StoreId, Known, Answers, Wrote, Refuses, made_by, new_pass}
-use Rattle.mst_store.specs.Settling.{Met}
-use Rattle.mst_theorem.specs.Headline.{Call, IsHonest, Leads, calls_of, IsRun, IsHistoryOf, IsOneOrder, IsServed, left_by, wrote, read, got, refused}
-use Rattle.mst_theorem.specs.Shown.{HaveOneOrder, put_was}
+use Rattle.mst_theorem.proofs.Names.{◌≡◌, ℕ, ◌<◌, ◌≤◌, ◌==◌, if◌then◌else◌, List, [], ◌∷◌, inl, refl, sym, ap, ◌∙◌, subst, arith, Option, Result, Ok, Err, IfOk, IfErr, ◌⊎◌, ⊎_elim, None, Some, map, All-cons, All-nil, dite, ℕ_discrete, Put, map_get, History, events_of, IsPrefix, had, IsOfPasses, WriteFault, StoreId, Known, Answers, Wrote, Refuses, made_by, new_pass, Met, Call, IsHonest, Leads, calls_of, IsRun, IsHistoryOf, IsOneOrder, IsServed, left_by, wrote, read, got, refused, put_was}
+use Rattle.mst_theorem.specs.Shown.{HaveOneOrder}
 use Rattle.mst_theorem.proofs.Calls.{by_contract}
 use Rattle.mst_theorem.proofs.Chains.{IsOwn, own_new, own_goes}
 use Rattle.mst_theorem.proofs.TwoOrders.{two_orders, finds_put, finds_none}

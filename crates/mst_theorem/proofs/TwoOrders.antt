@@ -1,13 +1,6 @@
 -- Two calls of two passes stand in one of two orders. So a get beside a put of its key finds
 -- nothing or what was put.
-use Rattle.std.proofs.Common.{◌≡◌, ◌⊎◌, ◌≢◌, ℕ, suc, ◌==◌, List, [], ◌∷◌, length, inl, inr, refl, sym, ap, ◌∙◌, subst, arith, eq-eqb, ne_eqb, Option, Some, None, Result, Ok, Err}
-use mathlib.Core.Logic.{dite}
-use native.Mathlib.Decide.{ℕ_discrete}
-use Rattle.mst_key.specs.declared.format.Format.{Format}
-use Rattle.mst_key.proofs.MapLaws.{map_get-put_same}
-use Rattle.mst_versions.specs.declared.faults.WriteFault.{WriteFault}
-use Rattle.mst_theorem.specs.Headline.{Single, Call, calls_of, IsServed, left_by, read, got}
-use Rattle.mst_theorem.specs.Shown.{put_was}
+use Rattle.mst_theorem.proofs.Names.{◌≡◌, ◌⊎◌, ◌≢◌, ℕ, suc, ◌==◌, List, [], ◌∷◌, length, inl, inr, refl, sym, ap, ◌∙◌, subst, arith, eq-eqb, ne_eqb, Option, Some, None, Result, Ok, Err, dite, ℕ_discrete, Format, map_get-put_same, WriteFault, Single, Call, calls_of, IsServed, left_by, read, got, put_was}
 use Rattle.mst_theorem.proofs.Filters.{take_in, leave_out}
 
 abbrev AreCalls : List Call → List Call → Type 0

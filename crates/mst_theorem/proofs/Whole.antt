@@ -1,20 +1,15 @@
 -- The theorem, from its parts: of any run of a store whose passes a history holds, of passes that
 -- settled, and at any moment of the table.
-use Rattle.std.proofs.Common.{◌≡◌, ℕ, ◌+◌, ◌<◌, ◌≤◌, ◌==◌, Bool, true, false, List, [], ◌∷◌, ◌++◌, length, filter, get_or, refl, sym, ap, ◌∙◌, subst, ⊎_elim, arith, ne_eqb, All, Contains, Some}
-use Rattle.std.specs.List.{AllByRecursion}
+use Rattle.mst_theorem.proofs.Names.{◌≡◌, ℕ, ◌+◌, ◌<◌, ◌≤◌, ◌==◌, Bool, true, false, List, [], ◌∷◌, ◌++◌, length, filter, get_or, refl, sym, ap, ◌∙◌, subst, ⊎_elim, arith, ne_eqb, Some, AllByRecursion, Event, History, events_of, IsPrefix, IsPrefix-chain, Shape, Table, IsRuled, StoreId, Known, new_pass, Call, calls_of, rank, NeverFalls, IsRun, IsHistoryOf, IsOneOrder, Sits}
+use Rattle.std.proofs.Common.{All, Contains}
 use Rattle.std.proofs.lemmas.Bool.{cases_lt}
 use Rattle.std.proofs.lemmas.List.{get_or-map, length-map}
 use Rattle.std.proofs.lemmas.List.Elements.{All-weaker, recursion_from_All}
-use Rattle.mst_key.specs.declared.history.Event.{Event}
-use Rattle.mst_key.specs.History.{History, events_of, IsPrefix}
-use Rattle.mst_key.proofs.HistoryLaws.{IsPrefix-chain}
-use Rattle.mst_words.specs.declared.view.Shape.{Shape}
-use Rattle.mst_words.specs.Laws.{Table, IsRuled}
 use Rattle.mst_words.specs.Stored.{stored}
 use Rattle.mst_words.proofs.Deeds.{live_stays, words_tell}
-use Rattle.mst_store.specs.Passes.{StoreId, Known, HasShape, new_pass}
+use Rattle.mst_store.specs.Passes.{HasShape}
 use Rattle.mst_store.specs.Settling.{numbers, AreAllPasses, IsOfOne, Settled}
-use Rattle.mst_theorem.specs.Headline.{Call, calls_of, rank, NeverFalls, IsRun, IsHistoryOf, IsOneOrder, IsNow, Sits, Holds}
+use Rattle.mst_theorem.specs.Headline.{IsNow, Holds}
 use Rattle.mst_theorem.proofs.Filters.{weaker, kept, none_pass}
 use Rattle.mst_theorem.proofs.Spread.{spread, filter-spread, spread_same}
 use Rattle.mst_theorem.proofs.Chains.{own_new, leads_own, leads_rises, each_own}

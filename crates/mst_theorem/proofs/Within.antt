@@ -1,29 +1,11 @@
 -- The point of a write lies within its call: it is the one publication of its event.
-use Rattle.std.proofs.Common.{◌≡◌, ◌⊎◌, ℕ, ◌+◌, List, [], ◌∷◌, ◌++◌, length, inl, inr, refl, sym, ap, ◌∙◌, subst, ⊎_elim, arith, Option, length-append}
-use Rattle.std.proofs.lemmas.List.{append_cancel_left}
-use mathlib.Core.Logic.{dite}
-use native.Mathlib.Decide.{ℕ_discrete}
-use Rattle.atomic_table.specs.Table.{Me}
-use Rattle.atomic_table.proofs.Lists.{set_here}
-use Rattle.mst_key.specs.declared.history.Change.{Change}
-use Rattle.mst_key.specs.declared.history.Event.{Event}
-use Rattle.mst_key.specs.History.{History, Reply, events_of, IsPrefix}
-use Rattle.mst_key.proofs.HistoryLaws.{IsPrefix-length, IsPrefix-compare, events_of-begins}
+use Rattle.mst_theorem.proofs.Names.{◌≡◌, ◌⊎◌, ℕ, ◌+◌, List, [], ◌∷◌, ◌++◌, length, inl, inr, refl, sym, ap, ◌∙◌, subst, ⊎_elim, arith, Option, length-append, append_cancel_left, dite, ℕ_discrete, Me, set_here, Change, Event, History, Reply, events_of, IsPrefix, IsPrefix-length, IsPrefix-compare, View, Shape, SeatAt, Deed, Table, IsRuled, IsPublication, moves_of, Does, MakesCurrent, ChangesSeats, GoesBy, within, events_own, publication_grows, other_keeps, made_by, Operation, Call, wrote, Adds, IsHonest, Sits, GoesOn, IsPointOf}
+use Rattle.mst_key.proofs.HistoryLaws.{events_of-begins}
 use Rattle.mst_pin.specs.declared.event.Event as core
 use Rattle.mst_pin.specs.declared.event.Event.TheVariants as move
 use Rattle.mst_arena.specs.Lives as lives
-use Rattle.mst_words.specs.declared.view.View.{View}
-use Rattle.mst_words.specs.declared.view.Shape.{Shape}
-use Rattle.mst_words.specs.World.{SeatAt}
-use Rattle.mst_words.specs.Deeds.{Deed}
-use Rattle.mst_words.specs.Laws.{Table, IsRuled, IsPublication}
-use Rattle.mst_words.specs.Moves.{moves_of, Does, MakesCurrent, ChangesSeats, GoesBy}
-use Rattle.mst_words.proofs.Worlds.{within}
-use Rattle.mst_words.proofs.Histories.{events_own, events_other, all_seen}
-use Rattle.mst_words.proofs.Deeds.{publication_grows, other_keeps}
-use Rattle.mst_store.specs.Passes.{made_by}
-use Rattle.mst_theorem.specs.Headline.{Operation, Call, wrote, Adds, IsHonest, Sits}
-use Rattle.mst_theorem.specs.Time.{GoesOn, Publishes, IsPointOf, HasPoint}
+use Rattle.mst_words.proofs.Histories.{events_other, all_seen}
+use Rattle.mst_theorem.specs.Time.{Publishes, HasPoint}
 use Rattle.mst_theorem.proofs.Times.{Mine, same_log, log_later, write_whole}
 use Rattle.mst_theorem.proofs.Whole.{sits_begins, sits_own}
 

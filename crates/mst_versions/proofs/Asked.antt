@@ -1,19 +1,8 @@
 -- One record more is asked.
-use Rattle.std.proofs.Common.{◌≡◌, ℕ, ◌+◌, ◌<◌, List, [], ◌∷◌, ◌++◌, length, slice_index, inl, inr, refl, sym, ap, ◌∙◌, subst, ⊎_elim, arith, Bool, true, false, eqb}
-use mathlib.Core.Logic.{dite}
-use native.Mathlib.Decide.{ℕ_discrete}
-use Rattle.std.proofs.lemmas.Bool.{eq-eqb}
-use Rattle.std.proofs.lemmas.Bool.Decides.{nat_tests}
-use Rattle.mst_arena.specs.Lives.{State, version}
+use Rattle.mst_versions.proofs.Names.{◌≡◌, ℕ, ◌+◌, ◌<◌, List, [], ◌∷◌, ◌++◌, length, slice_index, inr, refl, sym, ap, ◌∙◌, subst, ⊎_elim, arith, Bool, true, false, eqb, dite, ℕ_discrete, eq-eqb, nat_tests, State, version, In, in_either, one_row, stored, SeatState, StoodAtAsk, KnowsRecords, HasAsked, AsksEach, Asked, in_nothing, in_first, in_later, in_cases}
+use Rattle.std.proofs.Common.{inl}
 use Rattle.mst_arena.proofs.ListLemmas.{times-append}
-use Rattle.mst_arena.specs.Lists.{In}
-use Rattle.mst_arena.proofs.ListLemmas.{in_either, one_row}
 use Rattle.mst_words.specs.Steps.{Drained, Blocked}
-use Rattle.mst_words.specs.Stored.{stored}
-use Rattle.mst_versions.specs.Turns.{SeatState, StoodAtAsk}
-use Rattle.mst_versions.specs.Asking.{KnowsRecords, HasAsked, AsksEach}
-use Rattle.mst_versions.specs.declared.turn.Asked.{Asked}
-use Rattle.mst_words.proofs.Members.{in_nothing, in_first, in_later, in_cases}
 
 -- the last of a list stands in it, and so do those before it
 pub in_last : (x : ℕ) (xs : List ℕ) → In x (xs ++ x ∷ [])

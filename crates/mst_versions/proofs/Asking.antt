@@ -1,12 +1,5 @@
 -- How the records are asked, from the desk as it was taken.
-use Rattle.std.proofs.Common.{◌≡◌, ℕ, ◌+◌, ◌<◌, ◌≤◌, true, List, [], ◌∷◌, length, None, sym, ap, ◌∙◌, subst, arith}
-use Rattle.mst_arena.specs.Lives.{State}
-use Rattle.mst_words.specs.declared.view.View.{View}
-use Rattle.mst_words.specs.Steps.{IsHolder, Takes}
-use Rattle.mst_words.specs.Stored.{stored, state_of}
-use Rattle.mst_versions.specs.declared.turn.Asked.{Asked}
-use Rattle.mst_versions.specs.Asking.{KnowsRecords, HasAsked, AsksOnly, AsksEach}
-use Rattle.mst_versions.specs.Turns.{SeatState, TakesDesk}
+use Rattle.mst_versions.proofs.Names.{◌≡◌, ℕ, ◌+◌, ◌<◌, ◌≤◌, true, List, [], ◌∷◌, length, None, sym, ap, ◌∙◌, subst, arith, State, View, IsHolder, Takes, stored, state_of, Asked, KnowsRecords, HasAsked, AsksOnly, AsksEach, SeatState, TakesDesk}
 use Rattle.mst_versions.proofs.Slots.{desk_there}
 
 -- from the seat with the desk out of the slot to the one that has asked

@@ -1,39 +1,18 @@
 -- What the holder of the turn has, once it has asked and swept.
-use Rattle.std.proofs.Common.{◌≡◌, ℕ, ◌+◌, ◌<◌, ◌≤◌, ◌&&◌, is_none, nat_lt, Bool, true, List, [], ◌∷◌, length, map, slice_index, Option, Some, None, refl, sym, ap, ◌∙◌, subst, ⊎_elim, arith}
-use mathlib.Core.Logic.{dite}
-use native.Mathlib.Decide.{ℕ_discrete}
-use Rattle.std.specs.Prelude.{◌↔◌, slice_get, IsTrue}
-use Rattle.std.specs.List.{AllByRecursion}
-use Rattle.std.proofs.lemmas.Bool.{eq-eqb, lt-ltb}
-use Rattle.std.proofs.lemmas.List.{length-map}
-use Rattle.mst_key.specs.declared.format.Format.{Format}
-use Rattle.mst_key.specs.History.{format_after}
+use Rattle.mst_versions.proofs.Names.{◌≡◌, ℕ, ◌+◌, ◌<◌, ◌≤◌, ◌&&◌, Bool, true, List, [], ◌∷◌, length, map, slice_index, Option, Some, None, refl, sym, ap, ◌∙◌, subst, ⊎_elim, arith, dite, ℕ_discrete, slice_get, AllByRecursion, eq-eqb, lt-ltb, length-map, Format, format_after, State, version, reaches, free_count, swept_life, Free, IsDistinct, numbers, Root, In, HasPlace, same_swept, free_swept, View, row, field, Takes, contents_after, format_number, rows_in, root_in, stored, state_of, content_of, aged_frame, Asked, Turn, HasAsked, SeatState, StoodAtAsk, IsLiveVersion, AreLiveVersions, LeavesFree, HoldsDesk, HasTurn, each, in_later}
+use Rattle.std.proofs.Common.{is_none, nat_lt}
+use Rattle.std.specs.Prelude.{◌↔◌, IsTrue}
 use Rattle.mst_node.specs.Stays.{held}
-use Rattle.mst_arena.specs.Lives.{State, version, reaches, free_count, swept_life}
-use Rattle.mst_arena.specs.declared.life.Life.TheVariants.{Free}
-use Rattle.mst_arena.specs.Standing.{IsDistinct, numbers}
-use Rattle.mst_arena.specs.declared.row.Root.{Root}
-use Rattle.mst_arena.specs.Lists.{In}
-use Rattle.mst_path.specs.Ages.{HasPlace}
 use Rattle.mst_path.specs.Reached.{TogetherReach, swept_by}
 use Rattle.mst_path.proofs.lemmas.rows.FreeCounts.{count_swept}
 use Rattle.mst_path.proofs.lemmas.versions.KeptRoom.{held_free}
-use Rattle.mst_path.proofs.lemmas.versions.Reached.{same_swept, settled_swept, free_swept}
-use Rattle.mst_words.specs.declared.view.View.{View}
+use Rattle.mst_path.proofs.lemmas.versions.Reached.{settled_swept}
 use Rattle.mst_words.specs.Layout.{table_words}
-use Rattle.mst_words.specs.Records.{IsBlank, row, field}
-use Rattle.mst_words.specs.Steps.{Takes}
-use Rattle.mst_words.specs.Stored.{contents_after, format_number, rows_in, root_in, stored, state_of}
-use Rattle.mst_words.specs.Access.{content_of, is_unreached, may_write}
+use Rattle.mst_words.specs.Records.{IsBlank}
+use Rattle.mst_words.specs.Access.{is_unreached, may_write}
 use Rattle.mst_words.proofs.Accesses.{blank_row}
-use Rattle.mst_words.proofs.Framed.{aged_frame}
 use Rattle.mst_words.proofs.AgeFrames.{SameAges}
-use Rattle.mst_versions.specs.declared.turn.Asked.{Asked}
-use Rattle.mst_versions.specs.declared.turn.Turn.{Turn}
-use Rattle.mst_versions.specs.Asking.{HasAsked}
-use Rattle.mst_versions.specs.Turns.{SeatState, StoodAtAsk, IsLiveVersion, AreLiveVersions, LeavesFree, HoldsDesk, HasTurn}
 use Rattle.mst_versions.proofs.Asked.{some_drained}
-use Rattle.mst_words.proofs.Members.{each, in_later}
 use Rattle.mst_versions.proofs.Places.{reached_inside, place_of}
 use Rattle.mst_versions.proofs.Pinning.{link_of_root, reads_all}
 use Rattle.mst_versions.proofs.SweptLives.{free_inside, is_not, live_of, same_ages, same_rows, unreached}

@@ -1,23 +1,10 @@
 -- From the turn that was begun to how many rows the map takes, and how many are free.
-use Rattle.std.proofs.Common.{◌≡◌, ℕ, ◌+◌, ◌-◌, ◌*◌, ◌%◌, ◌<◌, ◌≤◌, eqb, if◌then◌else◌, List, [], ◌∷◌, ◌++◌, length, length-append, is_some, IfSome, Option, Some, None, Bool, true, false, refl, sym, ap, ◌∙◌, subst, ⊎_elim, arith}
-use Rattle.std.proofs.lemmas.Bool.{eq-eqb}
-use Rattle.std.proofs.lemmas.Bool.Decides.{nat_tests}
+use Rattle.mst_versions.proofs.Names.{◌≡◌, ℕ, ◌+◌, ◌-◌, ◌*◌, ◌<◌, ◌≤◌, eqb, if◌then◌else◌, List, [], ◌∷◌, ◌++◌, length, length-append, is_some, Option, Some, None, Bool, true, false, refl, sym, ap, ◌∙◌, subst, ⊎_elim, arith, eq-eqb, nat_tests, Format, after, format_after, free_count, In, in_either, one_row, View, Seated, IsSameSeat, NotesCurrent, AsksCurrent, found_now, in_nothing, within, Turn, SeatState, HoldsDesk, HasTurn, Begun, known, AtSeat, rows_of}
+use Rattle.std.proofs.Common.{◌%◌, IfSome}
 use Rattle.std.proofs.lemmas.Nat.{mod-mul-add}
-use Rattle.mst_key.specs.declared.format.Format.{Format}
-use Rattle.mst_key.specs.History.{after, format_after}
-use Rattle.mst_arena.specs.Lives.{free_count}
-use Rattle.mst_arena.specs.Lists.{In}
-use Rattle.mst_arena.proofs.ListLemmas.{in_either, one_row}
 use Rattle.mst_pin.specs.WordParts.{masks}
-use Rattle.mst_words.specs.declared.view.View.{View}
-use Rattle.mst_words.specs.Access.{Seated, IsSameSeat}
-use Rattle.mst_words.specs.Steps.{NotesCurrent, AsksCurrent, found_now}
-use Rattle.mst_words.proofs.Members.{in_nothing, contained, within}
-use Rattle.mst_versions.specs.declared.turn.Turn.{Turn}
-use Rattle.mst_versions.specs.Turns.{SeatState, HoldsDesk, HasTurn, Begun}
+use Rattle.mst_words.proofs.Members.{contained}
 use Rattle.mst_versions.specs.Counting.{Counts, CountsFree}
-use Rattle.mst_versions.specs.Known.{known, AtSeat}
-use Rattle.mst_versions.specs.Writes.{rows_of}
 use Rattle.mst_versions.proofs.Shown.{at_seat}
 use Rattle.mst_versions.proofs.Written.{room_left, room_alone_left, are_found, gave, looks, looks_back, given_back}
 

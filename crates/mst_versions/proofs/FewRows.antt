@@ -1,8 +1,6 @@
 -- Some subtrees of a map's tree have at most two rows for each of its pairs.
-use Rattle.std.proofs.Common.{◌≡◌, ℕ, ◌+◌, ◌*◌, ◌<◌, ◌≤◌, Bool, true, false, not, cond, List, ◌∷◌, length, length-append, ap, arith}
-use Rattle.mst_key.specs.declared.format.Format.{Format}
-use Rattle.mst_key.specs.Map.{Pair}
-use Rattle.mst_node.specs.Tree.{Tree, empty, node, Entries, last, entry, entry_count, pairs, entries_pairs, tree, IsMst, IsMstEntries}
+use Rattle.mst_versions.proofs.Names.{◌≡◌, ℕ, ◌+◌, ◌*◌, ◌<◌, ◌≤◌, Bool, true, false, not, cond, List, ◌∷◌, length, length-append, ap, arith, Format, Pair, tree}
+use Rattle.mst_node.specs.Tree.{Tree, empty, node, Entries, last, entry, entry_count, pairs, entries_pairs, IsMst, IsMstEntries}
 use Rattle.mst_node.specs.Cost.{subtrees, entries_subtrees, is_subtree, new_rows}
 use Rattle.mst_node.proofs.Weights.{weigh, weigh_is, weigh-append}
 use Rattle.mst_node.proofs.UniqueTree.{pairs_tree, tree_mst}

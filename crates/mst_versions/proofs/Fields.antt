@@ -1,8 +1,5 @@
 -- A record's words stay readable while the seat stays as it is.
-use Rattle.std.proofs.Common.{◌≡◌, ℕ, ◌<◌, sym, subst}
-use Rattle.mst_words.specs.Layout.{record_word, record_words}
-use Rattle.mst_words.specs.Access.{Seated}
-use Rattle.mst_words.specs.Steps.{IsReadable}
+use Rattle.mst_versions.proofs.Names.{◌≡◌, ℕ, ◌<◌, sym, subst, record_word, record_words, Seated, IsReadable}
 
 pub still_readable : (which : ℕ) {s z : Seated} → z ≡ s
     → ((j : ℕ) → j < record_words → IsReadable s.me.0 (record_word which j)) → (j : ℕ)

@@ -1,9 +1,5 @@
 -- Word after word of a record is stored.
-use Rattle.std.proofs.Common.{◌≡◌, ℕ, ◌+◌, ◌<◌, List, length, set, get_or, refl, sym, ap, ◌∙◌, arith, length-set, get_or-set_same, get_or-set_other}
-use mathlib.Core.Logic.{dite}
-use native.Mathlib.Decide.{ℕ_discrete}
-use Rattle.mst_words.specs.Layout.{record_word, record_words}
-use Rattle.mst_versions.specs.Filing.{IsFiled}
+use Rattle.mst_versions.proofs.Names.{◌≡◌, ℕ, ◌+◌, ◌<◌, List, length, set, get_or, refl, sym, ap, ◌∙◌, arith, length-set, get_or-set_same, get_or-set_other, dite, ℕ_discrete, record_word, record_words, IsFiled}
 
 pub filed_none : (which : ℕ) (words old : List ℕ) → IsFiled which 0 words old old
 filed_none which words old = record {

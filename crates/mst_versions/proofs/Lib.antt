@@ -16,3 +16,4 @@ pub mod Undone
 mod Counted
 mod Listed
 pub mod FewRows
+pub mod Names

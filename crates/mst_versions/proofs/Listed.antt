@@ -1,31 +1,17 @@
 -- From the records that were asked to the list of the versions that were found pinned.
-use Rattle.std.proofs.Common.{◌≡◌, ℕ, ◌+◌, ◌<◌, ◌≤◌, Bool, true, false, cond, ◌||◌, nat_eq, List, [], ◌∷◌, ◌++◌, length, length-append, take, drop, get_or, slice_index, Option, Some, None, refl, sym, ap, ◌∙◌, subst, ⊎_elim, arith}
-use mathlib.Core.Logic.{dite}
-use native.Mathlib.Decide.{ℕ_discrete}
+use Rattle.mst_versions.proofs.Names.{◌≡◌, ℕ, ◌+◌, ◌<◌, ◌≤◌, Bool, true, false, cond, ◌||◌, List, [], ◌∷◌, ◌++◌, length, length-append, get_or, slice_index, Option, Some, None, refl, sym, ap, ◌∙◌, subst, ⊎_elim, arith, dite, ℕ_discrete, list_any, take_all, History, events_of, State, version, In, in_either, View, Seated, IsSameSeat, IsGiving, Takes, NotesCurrent, AsksCurrent, found_now, stored, state_of, desk_state, in_later, within, Asked, HasAsked, AsksOnly, AsksEach, known, AtSeat, added, IsListing, SeatState, StoodAtAsk, TakesDesk}
+use Rattle.std.proofs.Common.{nat_eq, take, drop}
 use Rattle.std.specs.Cmp.{nat_eq_equiv}
-use Rattle.std.specs.List.{list_any, IsDistinct}
+use Rattle.std.specs.List.{IsDistinct}
 use Rattle.std.specs.List.Sorted.{IsPermutation, IsNonDecreasing}
 use Rattle.std.proofs.lemmas.Bool.Decides.{Decides-eqb}
-use Rattle.std.proofs.lemmas.List.{take_all}
 use Rattle.std.proofs.lemmas.List.Folds.{list_any-append, list_any_more}
 use Rattle.std.proofs.lemmas.List.Sorted.{IsPermutation-sym, Contains-permutation, length_permutation}
 use Rattle.std.proofs.lemmas.Map.Keys.{IsDistinct-push, IsDistinct-IsPermutation, IsStrictlyIncreasing-from_distinct}
 use Rattle.std.proofs.lemmas.Map.Steps.{list_any_congr}
 use Rattle.std.proofs.lemmas.Map.Views.{Contains-from_any, list_any-from_Contains}
-use Rattle.mst_key.specs.History.{History, events_of}
-use Rattle.mst_arena.specs.Lives.{State, version}
-use Rattle.mst_arena.specs.Lists.{In}
-use Rattle.mst_arena.proofs.ListLemmas.{in_either}
-use Rattle.mst_words.specs.declared.view.View.{View}
-use Rattle.mst_words.specs.Access.{Seated, IsSameSeat}
-use Rattle.mst_words.specs.Steps.{IsFree, IsGiving, Takes, NotesCurrent, AsksCurrent, found_now}
-use Rattle.mst_words.specs.Stored.{stored, state_of, desk_state}
-use Rattle.mst_words.proofs.Members.{in_later, within}
-use Rattle.mst_versions.specs.declared.turn.Asked.{Asked}
-use Rattle.mst_versions.specs.Asking.{HasAsked, AsksOnly, AsksEach}
-use Rattle.mst_versions.specs.Known.{known, AtSeat}
-use Rattle.mst_versions.specs.Listing.{AsksAll, added, IsListing, FindsPinned}
-use Rattle.mst_versions.specs.Turns.{SeatState, StoodAtAsk, TakesDesk}
+use Rattle.mst_words.specs.Steps.{IsFree}
+use Rattle.mst_versions.specs.Listing.{AsksAll, FindsPinned}
 use Rattle.mst_versions.specs.Writes.{KeepsPass}
 use Rattle.mst_versions.proofs.Asking.{none_drained, none_blocked, all_asked}
 use Rattle.mst_versions.proofs.Counted.{at_most_one, it_is, asked_both}

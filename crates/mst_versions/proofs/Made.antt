@@ -1,34 +1,19 @@
 -- A change that path copying made over the seat: what the holder of the turn then has.
-use Rattle.std.proofs.Common.{◌≡◌, ℕ, ◌+◌, ◌<◌, ◌≤◌, List, [], ◌∷◌, ◌++◌, length, slice_index, refl, sym, ap, ◌∙◌, subst, arith}
-use Rattle.mst_key.specs.declared.format.Format.{Format}
-use Rattle.mst_key.specs.declared.history.Change.{Change}
-use Rattle.mst_key.specs.declared.history.Event.{Event}
-use Rattle.mst_key.specs.Map.{Pair}
-use Rattle.mst_key.specs.History.{History, after, changed, format_after, changed_format, Reply, reply}
+use Rattle.mst_versions.proofs.Names.{◌≡◌, ℕ, ◌+◌, ◌<◌, ◌≤◌, List, [], ◌∷◌, ◌++◌, length, slice_index, refl, sym, ap, ◌∙◌, subst, arith, Format, Change, Event, Pair, History, after, changed, format_after, Reply, tree, State, version, reaches, free_count, last_version, Stands, numbers, tree_of, Root, In, HasAges, AllByRecursion, ReachesExactly, reached_old, Seated, beside, content_of, IsSameSeat, Agrees, stored, desk_state, version_of, Turn, SeatState, HoldsDesk, HasTurn, HasMade, made_at_seat, rows_taken, Made}
+use Rattle.mst_key.specs.History.{changed_format, reply}
 use Rattle.mst_key.proofs.HistoryLaws.{after-push, format_after-push}
-use Rattle.mst_node.specs.Tree.{tree}
 use Rattle.mst_node.specs.Cost.{cost}
 use Rattle.mst_arena.specs.Content.{Content}
-use Rattle.mst_arena.specs.Lives.{State, version, reaches, free_count, last_version}
-use Rattle.mst_arena.specs.Standing.{Stands, numbers, tree_of}
-use Rattle.mst_arena.specs.declared.row.Root.{Root}
-use Rattle.mst_arena.specs.Lists.{In}
-use Rattle.mst_arena.specs.Ages.{placed_nodes, HasAges}
+use Rattle.mst_arena.specs.Ages.{placed_nodes}
 use Rattle.mst_path.specs.Ages.{IsAged}
-use Rattle.std.specs.List.{AllByRecursion}
 use Rattle.mst_path.specs.Changing.{MapStands, OnlyFreeWritten}
 use Rattle.mst_path.specs.Made.{IsMade}
-use Rattle.mst_path.specs.Reached.{ReachesExactly, Changes, IsSettled}
+use Rattle.mst_path.specs.Reached.{Changes, IsSettled}
 use Rattle.mst_path.proofs.lemmas.versions.AgeSteps.{ages_next}
 use Rattle.mst_path.proofs.lemmas.versions.KeyAges.{all_aged}
-use Rattle.mst_path.proofs.lemmas.versions.Reached.{older, newest, settled_after, reached_old}
+use Rattle.mst_path.proofs.lemmas.versions.Reached.{older, newest, settled_after}
 use Rattle.mst_path.proofs.lemmas.rows.RowCounts.{as_many}
-use Rattle.mst_words.specs.Access.{Seated, Beside, beside, with_words, content_of, IsSameSeat}
-use Rattle.mst_words.specs.Records.{Agrees}
-use Rattle.mst_words.specs.Stored.{stored, desk_state, version_of}
-use Rattle.mst_versions.specs.declared.turn.Turn.{Turn}
-use Rattle.mst_versions.specs.Turns.{SeatState, HoldsDesk, HasTurn, HasMade}
-use Rattle.mst_versions.specs.Writes.{made_at_seat, rows_taken, Made}
+use Rattle.mst_words.specs.Access.{Beside, with_words}
 
 -- the map that stands may be changed
 pub map_stands : {A : Type 0} (t : Turn A) (m : SeatState) → HasTurn t m → MapStands t.format

@@ -1,20 +1,12 @@
 -- From the tree that was planted and the one that was felled to the migration that is made.
-use Rattle.std.proofs.Common.{◌≡◌, ℕ, ◌+◌, ◌<◌, ◌≤◌, ◌&&◌, false, None, List, [], ◌∷◌, length, refl, sym, ap, ◌∙◌, subst, arith}
-use Rattle.std.specs.Prelude.{◌≢◌, take, filter}
-use Rattle.std.proofs.lemmas.List.{take_all}
-use Rattle.mst_key.specs.declared.format.Format.{Format}
+use Rattle.mst_versions.proofs.Names.{◌≡◌, ℕ, ◌+◌, ◌<◌, ◌≤◌, ◌&&◌, false, None, List, [], ◌∷◌, length, refl, sym, ap, ◌∙◌, subst, arith, take, take_all, Format, Migrate, Pair, map_range, after, format_after, was, tree, State, free_count, last_version, In, Stands, numbers, Root, reached_old, Seated, IsSameSeat, beside, content_of, stands_frame, each, Turn, SeatState, HasTurn, Begun, rows_taken, Made, LacksRows, AtSeat}
+use Rattle.std.specs.Prelude.{◌≢◌, filter}
 use Rattle.mst_key.specs.declared.format.Format.TheVariants.{One, Two}
-use Rattle.mst_key.specs.declared.history.Change.TheVariants.{Migrate}
-use Rattle.mst_key.specs.Map.{Pair, from_on, below, map_range}
-use Rattle.mst_key.specs.History.{after, format_after, was}
-use Rattle.mst_node.specs.Tree.{tree}
+use Rattle.mst_key.specs.Map.{from_on, below}
 use Rattle.mst_node.specs.Cost.{same_format}
 use Rattle.mst_node.proofs.FormatsShareNothing as formats
 use Rattle.mst_change.proofs.Formats.{stays}
-use Rattle.mst_arena.specs.Lives.{State, free_count, last_version}
-use Rattle.mst_arena.specs.Lists.{In, times}
-use Rattle.mst_arena.specs.Standing.{Stands, numbers}
-use Rattle.mst_arena.specs.declared.row.Root.{Root}
+use Rattle.mst_arena.specs.Lists.{times}
 use Rattle.mst_path.specs.Changing.{AreOld}
 use Rattle.mst_path.specs.Felling.{MayFall}
 use Rattle.mst_path.specs.Moves.{Moves}
@@ -24,16 +16,8 @@ use Rattle.mst_path.proofs.lemmas.cost.NodeCounts.{count_nodes}
 use Rattle.mst_path.proofs.lemmas.rows.Moving.{out_of_times, moves_takes, alive_out, old_stays}
 use Rattle.mst_path.proofs.lemmas.versions.Changes.{after_change, unchanged_map}
 use Rattle.mst_path.proofs.lemmas.versions.Migrated.{moved, changes, all_new}
-use Rattle.mst_path.proofs.lemmas.versions.Reached.{reached_old}
-use Rattle.mst_words.specs.Access.{Seated, IsSameSeat, beside, content_of}
-use Rattle.mst_words.proofs.Framed.{stands_frame}
-use Rattle.mst_words.proofs.Members.{each}
-use Rattle.mst_versions.specs.declared.turn.Turn.{Turn}
 use Rattle.mst_key.specs.declared.memory.Memory.{Memory}
 use Rattle.mst_versions.specs.declared.faults.MigrateFault.TheVariants as fault
-use Rattle.mst_versions.specs.Turns.{SeatState, HasTurn, Begun}
-use Rattle.mst_versions.specs.Writes.{rows_taken, Made, LacksRows}
-use Rattle.mst_versions.specs.Known.{AtSeat}
 use Rattle.mst_versions.specs.Migrating.{RefusesMigration}
 use Rattle.mst_versions.proofs.Made.{map_stands, key_aged, change_made}
 use Rattle.mst_versions.proofs.Written.{room_left, looks_back, lacks_room, given_back}

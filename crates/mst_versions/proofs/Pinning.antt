@@ -1,24 +1,12 @@
 -- What a pin says, as the reads ask for it.
-use Rattle.std.proofs.Common.{◌+◌, ◌≡◌, ℕ, ◌<◌, ◌≤◌, Bool, true, ◌&&◌, ◌||◌, is_some, eqb, if◌then◌else◌, Option, Some, None, List, [], ◌∷◌, refl, sym, ap, ◌∙◌, subst, ⊎_elim, arith}
-use Rattle.std.specs.List.{AllByRecursion, list_any}
-use Rattle.std.proofs.lemmas.Bool.{lt-ltb, eq-eqb}
+use Rattle.mst_versions.proofs.Names.{◌+◌, ◌≡◌, ℕ, ◌<◌, ◌≤◌, Bool, true, ◌&&◌, ◌||◌, is_some, eqb, if◌then◌else◌, Option, Some, None, List, [], ◌∷◌, refl, sym, ap, ◌∙◌, subst, ⊎_elim, arith, AllByRecursion, list_any, lt-ltb, eq-eqb, after, format_after, Format, tree, numbers, Stands, In, View, row, known_row, field, contents_after, rows_in, root_in, stored, content_of, stands_frame, in_nothing, in_first, in_cases, each, PinsVersion}
 use Rattle.std.proofs.Math.Bool.{or-true}
 use Rattle.atomic_table.specs.Table.{Me}
-use Rattle.mst_key.specs.History.{after, format_after}
 use Rattle.mst_arena.specs.Lives as lives
-use Rattle.mst_key.specs.declared.format.Format.{Format}
-use Rattle.mst_node.specs.Tree.{tree}
-use Rattle.mst_arena.specs.Standing.{Placed, none, head, link_of, used, chain_used, numbers, Stands, StandsAt}
-use Rattle.mst_arena.specs.Lists.{In}
-use Rattle.mst_words.specs.declared.view.View.{View}
-use Rattle.mst_words.specs.Records.{row, known_row, field}
+use Rattle.mst_arena.specs.Standing.{Placed, none, head, link_of, used, chain_used, StandsAt}
 use Rattle.mst_words.specs.Steps.{PinsNow}
-use Rattle.mst_words.specs.Stored.{Contents, contents_after, rows_in, root_in, StandsOn, stored}
-use Rattle.mst_words.specs.Access.{content_of}
-use Rattle.mst_words.proofs.Framed.{stands_frame}
-use Rattle.mst_words.proofs.Members.{in_nothing, in_first, in_cases, each}
+use Rattle.mst_words.specs.Stored.{Contents, StandsOn}
 use Rattle.mst_versions.specs.declared.reading.PinnedVersion.{PinnedVersion}
-use Rattle.mst_versions.specs.Pinned.{PinsVersion}
 
 -- a tree stands at no link beyond the rows
 link_inside : (p : Placed) (n : ℕ) → ((x : ℕ) → In x (used p) → x < n) → link_of p ≤ n

@@ -1,20 +1,7 @@
 -- The place in rows of the version of a record that stands.
-use Rattle.std.proofs.Common.{◌≡◌, ℕ, ◌<◌, ◌≤◌, true, List, length, length-append, Option, Some, None, refl, sym, ap, ◌∙◌, subst, arith}
-use Rattle.std.specs.Prelude.{take, slice_get, ◌++◌}
-use Rattle.std.proofs.lemmas.List.{take_all, take-append-le}
-use Rattle.std.proofs.lemmas.Option.{slice_get_within}
-use Rattle.mst_key.specs.declared.format.Format.{Format}
-use Rattle.mst_key.specs.History.{History, after, format_after}
-use Rattle.mst_node.specs.Tree.{tree}
-use Rattle.mst_arena.specs.Lives.{reaches, reached_at}
-use Rattle.mst_arena.specs.Standing.{tree_of}
-use Rattle.mst_arena.specs.declared.life.Life.{Life}
-use Rattle.mst_arena.specs.Lists.{In}
-use Rattle.mst_arena.specs.Ages.{HasAges}
-use Rattle.mst_path.specs.Ages.{HasPlace}
-use Rattle.mst_words.specs.declared.view.DeskState.{DeskState}
-use Rattle.mst_words.specs.Records.{Standing}
-use Rattle.mst_words.specs.Stored.{stored, version_of}
+use Rattle.mst_versions.proofs.Names.{◌≡◌, ℕ, ◌<◌, ◌≤◌, true, List, length, length-append, Option, Some, None, refl, sym, ap, ◌∙◌, subst, arith, take, slice_get, take_all, slice_get_within, Format, History, after, format_after, tree, reaches, reached_at, tree_of, Life, In, HasAges, HasPlace, DeskState, Standing, stored, version_of}
+use Rattle.std.specs.Prelude.{◌++◌}
+use Rattle.std.proofs.lemmas.List.{take-append-le}
 
 -- a row that a version reaches is one of the rows
 pub reached_inside : (lives : List Life) (v x : ℕ) → reaches lives v x ≡ true → x < length lives

@@ -1,32 +1,15 @@
 -- A version that is made stands ready to be published.
-use Rattle.std.proofs.Common.{◌≡◌, ℕ, ◌+◌, ◌<◌, ◌≤◌, true, false, Option, Some, None, List, [], ◌∷◌, ◌++◌, length, slice_get, set, get_or, refl, sym, ap, ◌∙◌, subst, arith, length-set, get_or-set_same, get_or-set_other}
-use Rattle.std.specs.List.{AllByRecursion}
-use mathlib.Core.Logic.{dite}
-use native.Mathlib.Decide.{ℕ_discrete}
-use Rattle.std.proofs.lemmas.Option.{slice_get_within}
-use Rattle.mst_key.specs.declared.history.Event.{Event}
-use Rattle.mst_key.specs.declared.format.Format.{Format}
-use Rattle.mst_key.specs.History.{History, after, format_after}
+use Rattle.mst_versions.proofs.Names.{◌≡◌, ℕ, ◌+◌, ◌<◌, ◌≤◌, true, false, Option, Some, None, List, [], ◌∷◌, ◌++◌, length, set, get_or, refl, sym, ap, ◌∙◌, subst, arith, length-set, get_or-set_same, get_or-set_other, AllByRecursion, dite, ℕ_discrete, slice_get_within, Event, Format, History, after, format_after, State, version, next, reaches, reached_at, Stands, numbers, HasAges, Life, Root, In, ReachesExactly, DeskState, content_of, row, known_row, field, Standing, Agrees, IsGiving, stored, desk_state, rows_in, root_in, format_number, version_of, aged_frame, Turn, SeatState, HoldsDesk, HasMade, each}
+use Rattle.std.proofs.Common.{slice_get}
 use Rattle.mst_key.proofs.HistoryLaws.{IsPrefix-itself}
-use Rattle.mst_arena.specs.Lives.{State, version, next, reaches, reached_at}
-use Rattle.mst_arena.specs.Standing.{Stands, numbers}
-use Rattle.mst_arena.specs.Ages.{HasAges}
-use Rattle.mst_arena.specs.declared.life.Life.{Life}
-use Rattle.mst_arena.specs.declared.row.Root.{Root}
-use Rattle.mst_arena.specs.Lists.{In}
-use Rattle.mst_path.specs.Reached.{ReachesExactly, advanced}
+use Rattle.mst_path.specs.Reached.{advanced}
 use Rattle.mst_words.specs.Layout.{row_word}
-use Rattle.mst_words.specs.declared.view.DeskState.{DeskState}
-use Rattle.mst_words.specs.Access.{content_of}
-use Rattle.mst_words.specs.Records.{row, known_row, field, Standing, Agrees}
-use Rattle.mst_words.specs.Steps.{IsReady, IsGiving}
-use Rattle.mst_words.specs.Stored.{AgedOn, stored, desk_state, rows_in, root_in, format_number, version_of}
-use Rattle.mst_words.proofs.Framed.{aged_frame, same_row}
+use Rattle.mst_words.specs.Steps.{IsReady}
+use Rattle.mst_words.specs.Stored.{AgedOn}
+use Rattle.mst_words.proofs.Framed.{same_row}
 use Rattle.mst_words.proofs.Places.{place_above}
-use Rattle.mst_versions.specs.declared.turn.Turn.{Turn}
-use Rattle.mst_versions.specs.Turns.{SeatState, HoldsDesk, HasMade, IsFilled}
+use Rattle.mst_versions.specs.Turns.{IsFilled}
 use Rattle.mst_versions.specs.Filing.{OthersKept}
-use Rattle.mst_words.proofs.Members.{each}
 use Rattle.mst_versions.proofs.Pinning.{reads_all}
 
 -- a version reaches only rows that there are

@@ -1,15 +1,10 @@
 -- What a seat shows of its pass, after what was told of the seat.
-use Rattle.std.proofs.Common.{◌≡◌, ℕ, refl, sym, ap, ◌∙◌, subst}
+use Rattle.mst_versions.proofs.Names.{◌≡◌, ℕ, refl, sym, ap, ◌∙◌, subst, Format, Change, events_of, Seated, IsSameSeat, known, AtSeat, SeatState, Refuses}
 use Rattle.atomic_table.specs.Seated.{TableId}
-use Rattle.mst_key.specs.declared.format.Format.{Format}
-use Rattle.mst_key.specs.declared.history.Change.{Change}
-use Rattle.mst_key.specs.History.{events_of}
-use Rattle.mst_words.specs.Access.{Seated, IsSameSeat}
 use Rattle.mst_words.specs.Steps.{Misses}
 use Rattle.mst_versions.specs.declared.faults.WriteFault.TheVariants.{VersionsSpent}
-use Rattle.mst_versions.specs.Known.{StoreId, store_of, known, AtSeat, FindsBusy}
-use Rattle.mst_versions.specs.Turns.{SeatState, Spent}
-use Rattle.mst_versions.specs.Writes.{Refuses}
+use Rattle.mst_versions.specs.Known.{StoreId, store_of, FindsBusy}
+use Rattle.mst_versions.specs.Turns.{Spent}
 
 abbrev seat_at : TableId → ℕ → SeatState → Seated
 seat_at table id m = record { table = table; id = id; me = m }

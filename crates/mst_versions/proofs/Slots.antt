@@ -1,10 +1,5 @@
 -- The desk in the slot: as it is taken, and as it is given back.
-use Rattle.std.proofs.Common.{◌≡◌, ℕ, List, [], ◌∷◌, Option, Some, None, refl, sym, ap, ◌∙◌, subst}
-use Rattle.mst_arena.specs.Lives.{State, IsSettled}
-use Rattle.mst_words.specs.Steps.{Takes, IsGiving}
-use Rattle.mst_words.specs.Stored.{stored, state_of, desk_state}
-use Rattle.mst_versions.specs.declared.turn.Turn.{Turn}
-use Rattle.mst_versions.specs.Turns.{SeatState, HoldsDesk}
+use Rattle.mst_versions.proofs.Names.{◌≡◌, ℕ, List, [], ◌∷◌, Option, Some, None, refl, sym, ap, ◌∙◌, subst, State, IsSettled, Takes, IsGiving, stored, state_of, desk_state, Turn, SeatState, HoldsDesk}
 
 -- the desk in the slot
 abbrev or_else : State → Option State → State

@@ -1,19 +1,10 @@
 -- Which rows the holder of the turn may read, and what a sweep leaves of their lives.
-use Rattle.std.proofs.Common.{◌≡◌, ℕ, zero, suc, ◌<◌, ◌&&◌, ◌||◌, not, eqb, if◌then◌else◌, Bool, true, false, List, length, map, slice_index, Option, Some, None, refl, sym, ap, ◌∙◌, subst, arith}
-use Rattle.std.specs.Prelude.{slice_get, option_map}
-use Rattle.std.specs.List.{list_any}
-use Rattle.std.proofs.lemmas.Bool.Decides.{nat_tests}
-use Rattle.std.proofs.lemmas.Option.{slice_get_within, slice_get-map}
-use Rattle.std.proofs.lemmas.List.{length-map}
-use Rattle.mst_arena.specs.Lives.{State, reaches, reached_at, swept_life, IsSettled}
-use Rattle.mst_arena.specs.declared.life.Life.{Life}
-use Rattle.mst_arena.specs.declared.life.Life.TheVariants.{Free, Born, Dead}
-use Rattle.mst_arena.specs.Lists.{In}
-use Rattle.mst_path.proofs.lemmas.versions.Reached.{same_swept, free_swept, some_reach}
+use Rattle.mst_versions.proofs.Names.{◌≡◌, ℕ, ◌<◌, ◌&&◌, ◌||◌, not, eqb, if◌then◌else◌, Bool, true, false, List, length, map, slice_index, Option, Some, None, refl, sym, ap, ◌∙◌, subst, arith, slice_get, list_any, nat_tests, slice_get_within, length-map, State, reaches, reached_at, swept_life, IsSettled, Life, Free, Born, Dead, In, same_swept, free_swept, Asked, HasAsked, SeatState}
+use Rattle.std.proofs.Common.{zero, suc}
+use Rattle.std.specs.Prelude.{option_map}
+use Rattle.std.proofs.lemmas.Option.{slice_get-map}
+use Rattle.mst_path.proofs.lemmas.versions.Reached.{some_reach}
 use Rattle.mst_words.specs.Access.{all_below}
-use Rattle.mst_versions.specs.declared.turn.Asked.{Asked}
-use Rattle.mst_versions.specs.Asking.{HasAsked}
-use Rattle.mst_versions.specs.Turns.{SeatState}
 use Rattle.mst_versions.proofs.Pinning.{in_list}
 
 pub all_below_true : (n : ℕ) (p : ℕ → Bool) → ((r : ℕ) → r < n → p r ≡ true) → all_below n p ≡ true

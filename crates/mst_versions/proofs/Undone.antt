@@ -1,14 +1,7 @@
 -- The turn, after what was made in it is taken back.
-use Rattle.std.proofs.Common.{◌≡◌, ℕ, ◌+◌, ◌<◌, ◌≤◌, sym, subst, ◌∙◌, arith}
-use Rattle.std.proofs.lemmas.List.{length-map}
-use Rattle.mst_arena.specs.Lives.{State, version, next, reaches, IsSettled}
+use Rattle.mst_versions.proofs.Names.{◌≡◌, ℕ, ◌+◌, ◌<◌, ◌≤◌, sym, subst, ◌∙◌, arith, length-map, State, version, next, reaches, IsSettled, In, Agrees, stored, desk_state, version_of, Turn, SeatState, HoldsDesk}
 use Rattle.mst_arena.specs.Undone.{undone_life, undone}
-use Rattle.mst_arena.specs.Lists.{In}
 use Rattle.mst_arena.proofs.UndoLemmas.{same_undone, undone_past}
-use Rattle.mst_words.specs.Records.{Agrees}
-use Rattle.mst_words.specs.Stored.{stored, desk_state, version_of}
-use Rattle.mst_versions.specs.declared.turn.Turn.{Turn}
-use Rattle.mst_versions.specs.Turns.{SeatState, HoldsDesk}
 
 module _ {A : Type 0} (t : Turn A) (m : SeatState) (k : HoldsDesk t m) where
   abbrev back : State

@@ -1,33 +1,14 @@
 -- From the turn that was begun to what the pass knows after its write.
-use Rattle.std.proofs.Common.{◌≡◌, ℕ, ◌+◌, ◌<◌, ◌≤◌, Bool, cond, List, [], ◌∷◌, ◌++◌, length, map, slice_index, Option, Some, true, false, refl, sym, ap, ◌∙◌, subst, arith}
-use Rattle.std.proofs.lemmas.Bool.{eq-eqb}
+use Rattle.mst_versions.proofs.Names.{◌≡◌, ℕ, ◌+◌, ◌<◌, ◌≤◌, Bool, cond, List, [], ◌∷◌, ◌++◌, length, map, slice_index, Option, Some, true, false, refl, sym, ap, ◌∙◌, subst, arith, eq-eqb, dite, ℕ_discrete, Format, Change, Event, History, after, format_after, Reply, events_of, version, reaches, free_count, swept_life, last_version, numbers, Life, Free, Born, Dead, Root, In, one_row, View, Seated, IsSameSeat, content_of, in_nothing, within, Turn, NoRoom, SeatState, IsLiveVersion, AreLiveVersions, LeavesFree, HasTurn, Begun, Added, known, AtSeat, made_at_seat, rows_of, rows_taken, Made, LacksRows, Refuses}
 use Rattle.std.proofs.lemmas.List.Elements.{All-append, All-cons}
-use mathlib.Core.Logic.{dite}
-use native.Mathlib.Decide.{ℕ_discrete}
-use Rattle.mst_key.specs.declared.format.Format.{Format}
-use Rattle.mst_key.specs.declared.history.Change.{Change}
-use Rattle.mst_key.specs.declared.history.Event.{Event}
-use Rattle.mst_key.specs.History.{History, after, format_after, Reply, reply_of, events_of}
+use Rattle.mst_key.specs.History.{reply_of}
 use Rattle.mst_key.proofs.HistoryLaws.{events_of-append}
-use Rattle.mst_arena.specs.Lives.{version, reaches, free_count, swept_life, last_version}
-use Rattle.mst_arena.specs.Standing.{numbers}
-use Rattle.mst_arena.specs.declared.life.Life.{Life}
-use Rattle.mst_arena.specs.declared.life.Life.TheVariants.{Free, Born, Dead}
-use Rattle.mst_arena.specs.declared.row.Root.{Root}
-use Rattle.mst_arena.specs.Lists.{In}
 use Rattle.mst_path.specs.Versions.{HasMap}
-use Rattle.mst_arena.proofs.ListLemmas.{one_row}
 use Rattle.mst_path.proofs.lemmas.rows.Taking.{frees, frees_is}
 use Rattle.mst_path.proofs.lemmas.versions.Versions.{room_alone, rows_of_map}
-use Rattle.mst_words.specs.declared.view.View.{View}
-use Rattle.mst_words.specs.Access.{Seated, IsSameSeat, content_of}
 use Rattle.mst_words.specs.Notes.{IsOfPasses}
-use Rattle.mst_words.proofs.Members.{in_nothing, within}
-use Rattle.mst_versions.specs.declared.turn.Turn.{Turn}
-use Rattle.mst_versions.specs.declared.faults.WriteFault.TheVariants.{NoRoom}
-use Rattle.mst_versions.specs.Turns.{SeatState, IsLiveVersion, AreLiveVersions, LeavesFree, HasTurn, Begun, Added}
-use Rattle.mst_versions.specs.Known.{Known, known, AtSeat, Looks}
-use Rattle.mst_versions.specs.Writes.{made_at_seat, rows_of, rows_taken, Made, LacksRows, AreFound, FindsRoom, LacksRoomBeside, WroteAtSeat, Refuses}
+use Rattle.mst_versions.specs.Known.{Known, Looks}
+use Rattle.mst_versions.specs.Writes.{AreFound, FindsRoom, LacksRoomBeside, WroteAtSeat}
 use Rattle.mst_versions.proofs.Asked.{in_last}
 use Rattle.mst_versions.proofs.Shown.{at_seat, store_at, store_is}
 

@@ -1,28 +1,15 @@
 -- What a pass may read and write of the rows, as the steps ask for it.
-use Rattle.std.proofs.Common.{◌≡◌, ℕ, zero, suc, ◌+◌, ◌<◌, ◌≤◌, ◌≢◌, ◌⊎◌, inl, inr, Bool, true, false, not, ◌&&◌, ◌||◌, eqb, is_some, is_none, nat_lt, Option, Some, None, IsSome, IfSome, List, [], length, map, take, set, get_or, subst, refl, sym, ap, ◌∙◌, arith, ⊎_elim, if◌then◌else◌, length-set, get_or-set_same, get_or-set_other}
-use Rattle.std.specs.Prelude.{option_and_then}
-use Rattle.std.specs.List.{list_any, range_with_len}
-use mathlib.Core.Logic.{dite}
-use native.Mathlib.Decide.{ℕ_discrete}
-use Rattle.std.proofs.lemmas.Bool.{ltb-true, lt-ltb, eqb-true}
+use Rattle.mst_words.proofs.Names.{◌≡◌, ℕ, zero, suc, ◌+◌, ◌<◌, ◌≤◌, ◌≢◌, ◌⊎◌, inl, inr, Bool, true, false, eqb, Option, Some, None, List, [], length, map, take, set, get_or, subst, refl, sym, ap, ◌∙◌, arith, ⊎_elim, if◌then◌else◌, length-set, get_or-set_same, get_or-set_other, option_and_then, range_with_len, dite, ℕ_discrete, ltb-true, length-map-range_with_len, get_or-map-range_with_len, TableId, Me, Writes, part_at, keyed_links, row_in, Row, any_times, View, row_word, row_words, first_row, table_words, IsBlank, IsReadable, IsWritable, stored, rows_in, version_of, IsAt, Seated, with_words, may_read, content_of, may_write, RowStored}
+use Rattle.std.proofs.Common.{not, ◌&&◌, ◌||◌, is_some, is_none, nat_lt, IsSome, IfSome}
+use Rattle.std.specs.List.{list_any}
+use Rattle.std.proofs.lemmas.Bool.{lt-ltb, eqb-true}
 use Rattle.std.proofs.lemmas.List.{ext_get_or, get_or-take, length-take-le}
-use Rattle.std.proofs.lemmas.List.FromFn.{fill_by_all, length-map-range_with_len, get_or-map-range_with_len}
-use Rattle.atomic_table.specs.Seated.{TableId}
-use Rattle.atomic_table.specs.Table.{Me}
+use Rattle.std.proofs.lemmas.List.FromFn.{fill_by_all}
 use Rattle.mst_arena.specs.Lives as lives
-use Rattle.mst_arena.specs.Content.{Writes, part_at, relinked}
-use Rattle.mst_arena.specs.Row.{keyed_links}
-use Rattle.mst_arena.specs.Words.{row_in}
-use Rattle.mst_arena.specs.declared.row.Row.{Row}
-use Rattle.mst_arena.proofs.ListLemmas.{any_times}
+use Rattle.mst_arena.specs.Content.{relinked}
 use Rattle.mst_arena.proofs.Readers.{relinked_words}
-use Rattle.mst_words.specs.declared.view.View.{View}
-use Rattle.mst_words.specs.Layout.{row_word, row_words, first_row, table_words}
 use Rattle.mst_words.specs.Records as records
-use Rattle.mst_words.specs.Records.{IsBlank}
-use Rattle.mst_words.specs.Steps.{IsReadable, IsWritable}
-use Rattle.mst_words.specs.Stored.{stored, rows_in, version_of}
-use Rattle.mst_words.specs.Access.{IsAt, Seated, with_words, beside, may_read, content_of, all_below, is_unreached, may_write, RowStored}
+use Rattle.mst_words.specs.Access.{beside, all_below, is_unreached}
 use Rattle.mst_words.proofs.Framed.{same_row}
 use Rattle.mst_words.proofs.Places.{place_above, place_below, place_apart}
 

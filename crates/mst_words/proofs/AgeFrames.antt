@@ -1,14 +1,9 @@
 -- The ages of the rows of a tree are known to each desk that says of these rows what the old one
 -- said.
-use Rattle.std.proofs.Common.{◌≡◌, ℕ, ◌≤◌, List, length, ◌∙◌}
-use Rattle.mst_key.specs.declared.format.Format.{Format}
-use Rattle.mst_key.specs.History.{History}
+use Rattle.mst_words.proofs.Names.{◌≡◌, ℕ, ◌≤◌, List, length, ◌∙◌, Format, History, reaches, Life, In, HasAges}
 use Rattle.mst_key.proofs.SpanLaws.{contains-all}
-use Rattle.mst_arena.specs.Lives.{reaches}
-use Rattle.mst_arena.specs.declared.life.Life.{Life}
 use Rattle.mst_arena.specs.Standing.{Placed, used}
-use Rattle.mst_arena.specs.Lists.{In}
-use Rattle.mst_arena.specs.Ages.{placed_nodes, HasAge, HasAges}
+use Rattle.mst_arena.specs.Ages.{placed_nodes, HasAge}
 use Rattle.mst_arena.proofs.NodeRows.{all_contained, top_inside}
 
 -- two desks say of these rows that the same versions reach them, up to the last of the history

@@ -1,24 +1,11 @@
 -- Tables that are not as the rule says: for each of its parts one, in which the worked new table,
 -- or a table of one pass, breaks that part.
-use Rattle.std.proofs.Common.{◌≡◌, ℕ, zero, suc, ◌+◌, ◌*◌, ◌%◌, ◌<◌, inl, true, Option, Some, List, [], ◌∷◌, length, set, get_or, sym, refl, ap, ◌∙◌, subst, ⊎_elim, arith}
-use Rattle.std.specs.Int.{bit_at}
-use Rattle.std.proofs.lemmas.Option.{none-some, same_Some}
-use mathlib.Core.Option.{none, some, some-injective, some-ne-none}
+use Rattle.mst_words.proofs.Names.{◌≡◌, ℕ, zero, suc, ◌+◌, ◌*◌, ◌%◌, ◌<◌, inl, true, Option, Some, List, [], ◌∷◌, length, set, get_or, sym, refl, ap, ◌∙◌, subst, ⊎_elim, arith, bit_at, none-some, same_Some, none, some, some-injective, some-ne-none, One, History, masks, record_word, first_record, View, Shape, SeatAt, dealer, idle, Pin, Unpin, Publish, Transfer, ComesTo, Blamed, pin_bit, Table, IsRuled}
 use lib.ListN.{get_elem?}
-use Rattle.mst_key.specs.declared.format.Format.TheVariants.{One}
-use Rattle.mst_key.specs.History.{History}
 use Rattle.mst_arena.specs.Lives as lives
-use Rattle.mst_pin.specs.WordParts.{masks}
-use Rattle.mst_words.specs.Layout.{record_word, first_record}
-use Rattle.mst_words.specs.declared.view.View.{View}
-use Rattle.mst_words.specs.declared.view.Shape.{Shape}
-use Rattle.mst_words.specs.World.{SeatAt, dealer, idle}
 use Rattle.mst_pin.specs.declared.event.Event as core
-use Rattle.mst_pin.specs.declared.event.Event.TheVariants.{Pin, Unpin, Write, Publish, Transfer, Ask}
+use Rattle.mst_pin.specs.declared.event.Event.TheVariants.{Write, Ask}
 use Rattle.mst_pin.specs.State as pin
-use Rattle.mst_words.specs.Path.{ComesTo}
-use Rattle.mst_words.specs.Pins.{Blamed, pin_bit}
-use Rattle.mst_words.specs.Laws.{Table, IsRuled}
 use Rattle.mst_words.proofs.Worked.{shape, words, begun, event}
 
 abbrev Slot : Type 0

@@ -1,17 +1,7 @@
 -- Every deed that a seat may do keeps the rule, and tells what it says: one lemma for all of them.
-use Rattle.std.proofs.Common.{◌≡◌, ℕ, ◌+◌, ◌-◌, ◌^◌, Bool, true, false, cond, eqb, Option, sym, refl, ◌∙◌, subst, arith}
-use Rattle.std.specs.Prelude.{slice_index}
-use mathlib.Core.Option.{none}
+use Rattle.mst_words.proofs.Names.{◌≡◌, ℕ, ◌+◌, ◌-◌, ◌^◌, Bool, true, false, cond, eqb, Option, sym, refl, ◌∙◌, subst, arith, slice_index, none, Me, step, stepped, Allows, Format, View, Meaning, IsFramed, Ruled, IsFree, IsHolder, stored, Deed, told_by, trying, giving, pinning, unpinning, forgetting, reading, writing, transferring, asking, noting, asking_current, seeing_all, seeing_told, glancing, MayDo, word_after}
 use prog.Atomic.{either}
-use Rattle.atomic_table.specs.Table.{Me, step, stepped, Allows}
-use Rattle.mst_key.specs.declared.format.Format.{Format}
 use Rattle.mst_arena.specs.Lives as lives
-use Rattle.mst_words.specs.declared.view.View.{View}
-use Rattle.mst_words.specs.Records.{Meaning, IsFramed}
-use Rattle.mst_words.specs.Rule.{Ruled}
-use Rattle.mst_words.specs.Steps.{IsFree, IsHolder}
-use Rattle.mst_words.specs.Stored.{stored}
-use Rattle.mst_words.specs.Deeds.{Deed, told_by, trying, giving, pinning, unpinning, forgetting, reading, writing, transferring, asking, noting, asking_current, seeing_all, seeing_told, glancing, MayDo, word_after}
 use Rattle.mst_words.proofs.Framed.{stored_framed}
 use Rattle.mst_words.proofs.Formats.{takes_by, gives_by, pins_by, asks_by}
 use Rattle.mst_words.proofs.Steps.{reads_allows, writes_allows}

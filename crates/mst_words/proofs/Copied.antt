@@ -1,17 +1,8 @@
 -- An entry that is copied into a blank row, part by part.
-use Rattle.std.proofs.Common.{◌≡◌, ℕ, zero, suc, ◌+◌, ◌-◌, ◌<◌, ◌≤◌, Bool, true, false, Option, List, [], ◌∷◌, length, map, set, get_or, subst, refl, sym, ap, ◌∙◌, arith, length-set, get_or-set_same, get_or-set_other}
-use Rattle.std.specs.Prelude.{IsTrue, nat_lt}
-use Rattle.std.specs.List.{range_with_len}
-use mathlib.Core.Logic.{dite}
-use native.Mathlib.Decide.{ℕ_discrete}
+use Rattle.mst_words.proofs.Names.{◌≡◌, ℕ, zero, suc, ◌+◌, ◌-◌, ◌<◌, ◌≤◌, Bool, true, false, Option, List, [], ◌∷◌, length, map, set, get_or, subst, refl, sym, ap, ◌∙◌, arith, length-set, get_or-set_same, get_or-set_other, IsTrue, nat_lt, range_with_len, dite, ℕ_discrete, length-map-range_with_len, get_or-map-range_with_len, Me, View, row_word, row_words, table_words, may_write, RowStored, PartStored, IsPadded, relinked_list}
 use Rattle.std.proofs.lemmas.Bool.Decides.{nat_tests}
-use Rattle.std.proofs.lemmas.List.FromFn.{length-map-range_with_len, get_or-map-range_with_len}
-use Rattle.atomic_table.specs.Table.{Me}
 use Rattle.mst_arena.specs.Lives as lives
-use Rattle.mst_words.specs.declared.view.View.{View}
-use Rattle.mst_words.specs.Layout.{row_word, row_words, table_words}
 use Rattle.mst_words.specs.Records as records
-use Rattle.mst_words.specs.Access.{may_write, RowStored, PartStored, IsPadded, relinked_list}
 use Rattle.mst_words.proofs.Accesses.{blank_stays, fill_from}
 use Rattle.mst_words.proofs.Places.{place_below, place_apart}
 

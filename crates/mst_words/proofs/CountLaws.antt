@@ -1,11 +1,6 @@
 -- What each step adds to the count of its seat.
-use Rattle.std.proofs.Common.{◌≡◌, ℕ, ◌+◌, Option, refl, ap, ◌∙◌, arith}
-use mathlib.Core.Logic.{dite}
-use native.Mathlib.Decide.{ℕ_discrete}
-use Rattle.atomic_table.specs.Table.{Me, Step}
+use Rattle.mst_words.proofs.Names.{◌≡◌, ℕ, ◌+◌, Option, refl, ap, ◌∙◌, arith, dite, ℕ_discrete, Me, Step, View, Deed, told_by, trying, giving, pinning, unpinning, forgetting, reading, writing, transferring, asking, noting, asking_current, seeing_all, seeing_told, glancing}
 use Rattle.mst_arena.specs.Lives as lives
-use Rattle.mst_words.specs.declared.view.View.{View}
-use Rattle.mst_words.specs.Deeds.{Deed, told_by, trying, giving, pinning, unpinning, forgetting, reading, writing, transferring, asking, noting, asking_current, seeing_all, seeing_told, glancing}
 use Rattle.mst_words.specs.Laws.{count_of, HasCounted}
 
 abbrev pub Mine : Type 0

@@ -1,28 +1,9 @@
 -- The steps of the laws, each of which keeps the history but a publication; what is writable; and
 -- what the words say.
-use Rattle.std.proofs.Common.{◌≡◌, ◌⊎◌, ℕ, ◌+◌, ◌<◌, inl, inr, true, Option, List, [], ◌∷◌, ◌++◌, length, set, sym, refl, ap, ◌∙◌, subst, ⊎_elim, arith}
-use mathlib.Core.Logic.{dite}
-use native.Mathlib.Decide.{ℕ_discrete}
-use Rattle.atomic_table.specs.Table.{State, Me, Step}
-use Rattle.atomic_table.proofs.Lists.{set_here, set_again}
-use Rattle.mst_key.specs.declared.history.Event.{Event}
-use Rattle.mst_key.specs.History.{History, IsPrefix}
-use Rattle.mst_key.proofs.HistoryLaws.{IsPrefix-nil, IsPrefix-itself}
-use Rattle.mst_arena.specs.Lists.{In}
+use Rattle.mst_words.proofs.Names.{◌≡◌, ◌⊎◌, ℕ, ◌+◌, ◌<◌, inl, inr, true, Option, List, [], ◌∷◌, ◌++◌, length, set, sym, refl, ap, ◌∙◌, subst, ⊎_elim, arith, dite, ℕ_discrete, State, Me, Step, set_here, set_again, Event, History, IsPrefix, IsPrefix-nil, IsPrefix-itself, In, record_word, record_words, row_word, row_words, View, Shape, DeskState, SeatAt, World, Fits, having_dealt, newcomer, Drains, Meaning, IsLive, IsBlank, field, row, Ruled, note_of, having_heard, IsWritable, stored, StandsOn, Deed, told_by, trying, giving, pinning, unpinning, forgetting, reading, writing, transferring, asking, noting, asking_current, seeing_all, seeing_told, glancing, Table, IsRuled, Makes, Adds, Hears}
 use Rattle.mst_arena.specs.Lives as lives
-use Rattle.mst_words.specs.Layout.{record_word, record_words, row_word, row_words}
-use Rattle.mst_words.specs.declared.view.View.{View}
-use Rattle.mst_words.specs.declared.view.Shape.{Shape}
-use Rattle.mst_words.specs.declared.view.DeskState.{DeskState}
-use Rattle.mst_words.specs.World.{SeatAt, World, Fits, having_dealt, newcomer}
-use Rattle.mst_words.specs.Pins.{Drains}
-use Rattle.mst_words.specs.Records.{Meaning, IsLive, IsBlank, field, row}
-use Rattle.mst_words.specs.Rule.{Ruled}
-use Rattle.mst_words.specs.Notes.{note_of, having_heard}
-use Rattle.mst_words.specs.Steps.{IsWritable}
-use Rattle.mst_words.specs.Stored.{stored, StandsOn, contents_after}
-use Rattle.mst_words.specs.Deeds.{Deed, told_by, trying, giving, pinning, unpinning, forgetting, reading, writing, transferring, asking, noting, asking_current, seeing_all, seeing_told, glancing}
-use Rattle.mst_words.specs.Laws.{Table, IsRuled, IsWordOf, Tells, Makes, IsPublication, Adds, Hears, IsOther}
+use Rattle.mst_words.specs.Stored.{contents_after}
+use Rattle.mst_words.specs.Laws.{IsWordOf, Tells, IsPublication, IsOther}
 use Rattle.mst_words.proofs.Places.{place_above, place_apart}
 use Rattle.mst_words.proofs.Follows.{live_not_drained}
 use Rattle.mst_words.proofs.Worlds.{within}

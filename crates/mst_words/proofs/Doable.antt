@@ -1,19 +1,6 @@
 -- From each ruled table a seat can do each deed that it may, and can publish what is ready.
-use Rattle.std.proofs.Common.{◌≡◌, ℕ, ◌*◌, ◌^◌, ◌<◌, Option, List, length, get_or, refl}
-use mathlib.Core.Option.{none}
-use Rattle.atomic_table.specs.Table.{Me, step, carried_after, stepped}
-use Rattle.mst_key.specs.declared.history.Event.{Event}
+use Rattle.mst_words.proofs.Names.{◌≡◌, ℕ, ◌*◌, ◌^◌, ◌<◌, Option, List, length, get_or, refl, none, Me, step, carried_after, stepped, Event, masks, View, Shape, DeskState, SeatAt, IsReady, stored, Deed, MayDo, word_after, Table, IsRuled, Does, MakesCurrent}
 use Rattle.mst_arena.specs.Lives as lives
-use Rattle.mst_pin.specs.WordParts.{masks}
-use Rattle.mst_words.specs.declared.view.View.{View}
-use Rattle.mst_words.specs.declared.view.Shape.{Shape}
-use Rattle.mst_words.specs.declared.view.DeskState.{DeskState}
-use Rattle.mst_words.specs.World.{SeatAt}
-use Rattle.mst_words.specs.Steps.{IsReady}
-use Rattle.mst_words.specs.Stored.{stored}
-use Rattle.mst_words.specs.Deeds.{Deed, MayDo, word_after}
-use Rattle.mst_words.specs.Laws.{Table, IsRuled}
-use Rattle.mst_words.specs.Moves.{Does, MakesCurrent}
 use Rattle.mst_words.proofs.Formats.{publishes_by}
 use Rattle.mst_words.proofs.ByDeed.{allowed}
 

@@ -1,19 +1,7 @@
 -- The lengths and the pair of an entry in the words of its row.
-use Rattle.std.proofs.Common.{◌≡◌, ℕ, ◌+◌, ◌*◌, ◌≤◌, ◌/◌, ◌%◌, List, length, take, Bool, true, false, Some, None, map, refl, sym, ap, arith, if◌then◌else◌}
-use Rattle.std.specs.Prelude.{slice_index, option_and_then, IsSome}
-use Rattle.std.specs.List.{range_with_len}
-use Rattle.mst_key.specs.Bytes.{IsKey, IsValue}
-use Rattle.mst_key.specs.Map.{Pair}
-use Rattle.mst_arena.specs.Content.{part_at}
-use Rattle.mst_arena.specs.Row.{HasBytes, keyed_links, entry_pair}
-use Rattle.mst_arena.specs.Words.{bytes_in, lengths_word, first_key_word, first_value_word}
-use Rattle.mst_arena.specs.declared.row.Row.TheVariants.{Entry}
-use Rattle.mst_arena.proofs.Readers.{EntryIn, entry_with}
+use Rattle.mst_words.proofs.Names.{◌≡◌, ℕ, ◌+◌, ◌*◌, ◌≤◌, ◌/◌, ◌%◌, List, length, take, Bool, true, false, Some, None, map, refl, sym, ap, arith, if◌then◌else◌, slice_index, option_and_then, IsSome, range_with_len, IsKey, IsValue, Pair, part_at, HasBytes, keyed_links, entry_pair, bytes_in, Entry, EntryIn, entry_with, View, known_row, rows_in, may_read, content_of}
+use Rattle.mst_arena.specs.Words.{lengths_word, first_key_word, first_value_word}
 use Rattle.mst_arena.proofs.EntryWords.{PairIn, pair_in_words}
-use Rattle.mst_words.specs.declared.view.View.{View}
-use Rattle.mst_words.specs.Records.{known_row}
-use Rattle.mst_words.specs.Stored.{rows_in}
-use Rattle.mst_words.specs.Access.{may_read, content_of}
 
 -- the lengths of a key and a value
 pub record LengthsAt (v : View) (x : ℕ) : Type 0 where

@@ -1,17 +1,6 @@
 -- What follows from the parts of the rule, in each state.
-use Rattle.std.proofs.Common.{◌≡◌, ◌⊎◌, ℕ, ◌+◌, ◌<◌, inl, inr, true, Option, Some, List, [], ◌∷◌, ◌++◌, length, sym, ap, ◌∙◌, subst, ⊎_elim}
-use mathlib.Core.Option.{some}
+use Rattle.mst_words.proofs.Names.{◌≡◌, ◌⊎◌, ℕ, ◌+◌, ◌<◌, inl, inr, true, Option, Some, List, [], ◌∷◌, ◌++◌, length, sym, ap, ◌∙◌, subst, ⊎_elim, some, State, Event, History, In, View, DeskState, SeatAt, World, Drains, Meaning, IsFramed, IsLive, IsBlank, Parts, Ruled}
 use lib.ListN.{get_elem?}
-use Rattle.atomic_table.specs.Table.{State}
-use Rattle.mst_key.specs.declared.history.Event.{Event}
-use Rattle.mst_key.specs.History.{History}
-use Rattle.mst_arena.specs.Lists.{In}
-use Rattle.mst_words.specs.declared.view.View.{View}
-use Rattle.mst_words.specs.declared.view.DeskState.{DeskState}
-use Rattle.mst_words.specs.World.{SeatAt, World}
-use Rattle.mst_words.specs.Pins.{Drains}
-use Rattle.mst_words.specs.Records.{Meaning, IsFramed, IsLive, IsBlank}
-use Rattle.mst_words.specs.Rule.{Parts, Ruled}
 use Rattle.mst_words.proofs.Histories.{last_of, last_named, all_seen}
 
 -- a record that is live was not found drained

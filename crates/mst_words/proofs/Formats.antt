@@ -1,19 +1,7 @@
 -- Each seat knows the format of version 0, so what a step says by the rule's it says by the seat's.
-use Rattle.std.proofs.Common.{◌≡◌, ◌≢◌, ℕ, ◌+◌, ◌-◌, ◌*◌, ◌^◌, ◌<◌, eqb, bit_xor, List, Option, sym, subst}
-use Rattle.std.specs.Prelude.{slice_index}
-use mathlib.Core.Option.{none}
+use Rattle.mst_words.proofs.Names.{◌≡◌, ◌≢◌, ℕ, ◌+◌, ◌-◌, ◌*◌, ◌^◌, ◌<◌, eqb, bit_xor, List, Option, sym, subst, slice_index, none, Me, Allows, step, carried_after, Event, In, Format, masks, View, DeskState, Ruled, IsFree, IsHolder, IsGiving, IsReady, takes_turn, gives_turn, pins_now, asks, publishes, stored}
 use prog.Atomic.{either}
-use Rattle.atomic_table.specs.Table.{Me, Allows, step, carried_after}
-use Rattle.mst_key.specs.declared.history.Event.{Event}
-use Rattle.mst_arena.specs.Lists.{In}
-use Rattle.mst_key.specs.declared.format.Format.{Format}
 use Rattle.mst_arena.specs.Lives.{State}
-use Rattle.mst_pin.specs.WordParts.{masks}
-use Rattle.mst_words.specs.declared.view.View.{View}
-use Rattle.mst_words.specs.declared.view.DeskState.{DeskState}
-use Rattle.mst_words.specs.Rule.{Ruled}
-use Rattle.mst_words.specs.Steps.{IsFree, IsHolder, IsGiving, IsReady, takes_turn, gives_turn, pins_now, asks, publishes}
-use Rattle.mst_words.specs.Stored.{stored}
 use Rattle.mst_words.proofs.Framed.{stored_framed}
 use Rattle.mst_words.proofs.HoldSteps.{asks_allows, publishes_allows}
 use Rattle.mst_words.proofs.PinSteps.{pins_now_allows}

@@ -1,22 +1,13 @@
 -- What stands by the words of a record and of some rows stands by any words that agree there.
-use Rattle.std.proofs.Common.{◌≡◌, ℕ, zero, suc, ◌<◌, Bool, true, false, List, length, refl, sym, ap, ◌∙◌, subst, arith}
-use Rattle.std.specs.List.{AllByRecursion}
-use Rattle.mst_key.specs.declared.format.Format.{Format}
-use Rattle.mst_key.specs.History.{History, after, format_after}
-use Rattle.mst_key.specs.Map.{Pair}
+use Rattle.mst_words.proofs.Names.{◌≡◌, ℕ, zero, suc, ◌<◌, Bool, true, false, List, length, refl, sym, ap, ◌∙◌, subst, arith, AllByRecursion, Format, History, Pair, reaches, Life, In, HasAges, record_words, row_words, Agrees, IsFramed, rows_in, StandsOn, AgedOn, version_of, stored, DeskState}
+use Rattle.mst_key.specs.History.{after, format_after}
 use Rattle.mst_arena.specs.Content.{Content}
-use Rattle.mst_arena.specs.Lives.{reaches}
-use Rattle.mst_arena.specs.declared.life.Life.{Life}
 use Rattle.mst_arena.specs.Standing as standing
 use Rattle.mst_arena.specs.Standing.{Stands, numbers}
 use Rattle.mst_arena.specs.declared.row.Root.{Root}
 use Rattle.mst_arena.proofs.Stands.{placed_frame}
-use Rattle.mst_arena.specs.Lists.{In}
-use Rattle.mst_arena.specs.Ages.{HasAges}
-use Rattle.mst_words.specs.Layout.{record_words, row_words}
-use Rattle.mst_words.specs.Records.{SameWords, Agrees, IsFramed}
-use Rattle.mst_words.specs.Stored.{rows_in, root_in, Contents, StandsOn, AgedOn, Reaches, version_of, stored}
-use Rattle.mst_words.specs.declared.view.DeskState.{DeskState}
+use Rattle.mst_words.specs.Records.{SameWords}
+use Rattle.mst_words.specs.Stored.{root_in, Contents, Reaches}
 use Rattle.mst_words.proofs.AgeFrames.{SameAges, ages_to}
 use Rattle.mst_words.proofs.Members.{each}
 

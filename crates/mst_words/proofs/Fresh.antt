@@ -1,25 +1,14 @@
 -- A new table: its words and its desk stand for the empty map, on no rows.
-use Rattle.std.proofs.Common.{◌≡◌, ℕ, ◌+◌, ◌<◌, ◌≤◌, true, false, List, [], ◌∷◌, length, map, set, get_or, replicate, Option, Some, None, refl, sym, ap, ◌∙◌, subst, arith, length-set, get_or-set_same, get_or-set_other}
-use Rattle.std.specs.Prelude.{slice_index, slice_get}
-use Rattle.std.specs.List.{range_with_len}
-use Rattle.std.proofs.lemmas.List.{length-replicate, get_or-replicate}
+use Rattle.mst_words.proofs.Names.{◌≡◌, ℕ, ◌+◌, ◌<◌, ◌≤◌, true, false, List, [], ◌∷◌, length, map, set, get_or, replicate, Option, Some, None, refl, sym, ap, ◌∙◌, subst, arith, length-set, get_or-set_same, get_or-set_other, slice_index, range_with_len, length-replicate, dec_le, IsBytes, Format, IsPrefix-nil, digest_of, Life, Free, reaches, word_from, bytes_in, first_record, field, row, Standing, DeskState, AgedOn, stored, fresh_desk, desk_state}
+use Rattle.std.specs.Prelude.{slice_get}
+use Rattle.std.proofs.lemmas.List.{get_or-replicate}
 use Rattle.std.proofs.lemmas.Option.{slice_get-get_or, slice_get_past}
-use native.Mathlib.Decide.{dec_le}
-use Rattle.mst_key.specs.Bytes.{IsBytes}
-use Rattle.mst_key.specs.declared.format.Format.{Format}
-use Rattle.mst_key.proofs.HistoryLaws.{IsPrefix-nil}
-use Rattle.mst_node.specs.Text.{digest_of}
 use Rattle.mst_node.specs.Tree.{tree, tree_within}
-use Rattle.mst_arena.specs.declared.life.Life.{Life}
-use Rattle.mst_arena.specs.declared.life.Life.TheVariants.{Free}
-use Rattle.mst_arena.specs.Lives.{reached_at, reaches, version, IsPast}
+use Rattle.mst_arena.specs.Lives.{reached_at, version, IsPast}
 use Rattle.mst_arena.specs.Standing.{none}
-use Rattle.mst_arena.specs.Words.{word_from, byte_of_words, bytes_in}
+use Rattle.mst_arena.specs.Words.{byte_of_words}
 use Rattle.mst_arena.proofs.Packing.{packed, bytes_back}
-use Rattle.mst_words.specs.Layout.{first_record}
-use Rattle.mst_words.specs.Records.{field, row, Standing}
-use Rattle.mst_words.specs.declared.view.DeskState.{DeskState}
-use Rattle.mst_words.specs.Stored.{AgedOn, IsDesk, stored, format_number, fresh_desk, desk_state}
+use Rattle.mst_words.specs.Stored.{IsDesk, format_number}
 use Rattle.mst_words.proofs.Members.{in_nothing}
 
 -- ---- a digest in four words

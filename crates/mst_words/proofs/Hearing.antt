@@ -1,17 +1,8 @@
 -- A look, and the writing and hearing of a note, keep the rule.
-use Rattle.std.proofs.Common.{◌≡◌, ℕ, ◌+◌, ◌<◌, false, inl, List, [], ◌∷◌, ◌++◌, set, get_or, sym, refl, ap, ◌∙◌, subst, ⊎_elim, arith}
-use Rattle.std.proofs.lemmas.Option.{none-some}
-use mathlib.Core.Option.{none}
-use Rattle.atomic_table.specs.Table.{State, Me, step, keeps, stepped, Allows, Splits, Joins}
-use Rattle.atomic_table.proofs.Lists.{at_snoc, at_longer, set_again, set_else}
-use Rattle.mst_key.specs.History.{History, events_of, IsPrefix}
-use Rattle.mst_key.proofs.HistoryLaws.{IsPrefix-itself, IsPrefix-nil, events_of-between}
-use Rattle.mst_key.specs.declared.format.Format.{Format}
-use Rattle.mst_words.specs.declared.view.View.{View}
-use Rattle.mst_words.specs.World.{SeatAt, Fits, IsPlaced, World}
-use Rattle.mst_words.specs.Records.{Meaning, IsFramed}
-use Rattle.mst_words.specs.Rule.{Parts, Ruled}
-use Rattle.mst_words.specs.Notes.{note_of, having_heard, Finds, sees_all, sees_told}
+use Rattle.mst_words.proofs.Names.{◌≡◌, ℕ, ◌+◌, ◌<◌, false, inl, List, [], ◌∷◌, ◌++◌, set, get_or, sym, refl, ap, ◌∙◌, subst, ⊎_elim, arith, none-some, none, State, Me, step, keeps, stepped, Allows, Splits, at_snoc, at_longer, set_again, set_else, History, events_of, IsPrefix, IsPrefix-itself, IsPrefix-nil, Format, View, SeatAt, Fits, IsPlaced, World, Meaning, IsFramed, Parts, Ruled, note_of, having_heard}
+use Rattle.atomic_table.specs.Table.{Joins}
+use Rattle.mst_key.proofs.HistoryLaws.{events_of-between}
+use Rattle.mst_words.specs.Notes.{Finds, sees_all, sees_told}
 use Rattle.mst_words.proofs.Histories.{events_none}
 use Rattle.mst_words.proofs.Worlds.{each_dealt}
 use Rattle.mst_words.proofs.PinParts.{drains_same}

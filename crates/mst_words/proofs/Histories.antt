@@ -1,11 +1,7 @@
 -- A history that grows by an event: what began it still does, and whose event it is.
-use Rattle.std.proofs.Common.{◌≡◌, ◌⊎◌, ℕ, suc, ◌+◌, ◌<◌, ◌≢◌, inl, inr, Bool, [], ◌∷◌, ◌++◌, length, refl, sym, ap, ◌∙◌, subst, ⊎_elim, arith, eq-eqb, ne_eqb, cond, append-nil, length-append}
-use Rattle.std.specs.List.{All, slice_index_or}
-use mathlib.Core.Logic.{dite}
-use native.Mathlib.Decide.{ℕ_discrete}
-use Rattle.mst_key.specs.declared.history.Event.{Event}
-use Rattle.mst_key.specs.History.{History, events_of, IsPrefix}
-use Rattle.mst_key.proofs.HistoryLaws.{IsPrefix-itself, IsPrefix-append, IsPrefix-chain, IsPrefix-length, IsPrefix-compare, events_of-append, events_of-begins}
+use Rattle.mst_words.proofs.Names.{◌≡◌, ◌⊎◌, ℕ, suc, ◌+◌, ◌<◌, ◌≢◌, inl, inr, Bool, [], ◌∷◌, ◌++◌, length, refl, sym, ap, ◌∙◌, subst, ⊎_elim, arith, eq-eqb, ne_eqb, cond, append-nil, length-append, All, dite, ℕ_discrete, Event, History, events_of, IsPrefix, IsPrefix-itself, events_of-append}
+use Rattle.std.specs.List.{slice_index_or}
+use Rattle.mst_key.proofs.HistoryLaws.{IsPrefix-append, IsPrefix-chain, IsPrefix-length, IsPrefix-compare, events_of-begins}
 
 pub begins_longer : (seen log more : History) → IsPrefix seen log → IsPrefix seen (log ++ more)
 begins_longer seen log more b = IsPrefix-chain seen log (log ++ more) b (IsPrefix-append log more)

@@ -1,25 +1,9 @@
 -- Publication, transfer and ask keep the rule.
-use Rattle.std.proofs.Common.{◌≡◌, ℕ, ◌+◌, ◌*◌, ◌%◌, ◌^◌, ◌<◌, ◌≤◌, ◌≢◌, inl, inr, true, Some, None, List, [], ◌∷◌, ◌++◌, length, set, get_or, sym, refl, ap, ◌∙◌, subst, arith, bit_xor, length-set, get_or-set_same}
-use mathlib.Core.Logic.{dite}
-use mathlib.Core.Option.{some, none}
-use native.Mathlib.Decide.{ℕ_discrete}
+use Rattle.mst_words.proofs.Names.{◌≡◌, ℕ, ◌+◌, ◌*◌, ◌%◌, ◌^◌, ◌<◌, ◌≤◌, ◌≢◌, inl, inr, true, Some, None, List, [], ◌∷◌, ◌++◌, length, set, get_or, sym, refl, ap, ◌∙◌, subst, arith, bit_xor, length-set, get_or-set_same, dite, some, none, ℕ_discrete, bit_at, bit_at-zero, Me, step, keeps, stepped, Allows, Publish, Transfer, masks, first_record, View, Event, DeskState, History, last_version, In, done, pin_bit, Blamed, Meaning, IsFramed, IsLive, Agrees, Standing, Turn, Parts, Ruled, IsReady, publishes, transfers, IsHolder, asks}
 use lib.ListN.{get_elem?}
-use Rattle.std.specs.Int.{bit_at, trailing_zeros, w64}
-use Rattle.std.proofs.lemmas.Nat.Bits.{bit_at-zero, bit_at-trailing_zeros}
-use Rattle.atomic_table.specs.Table.{Me, step, keeps, stepped, Allows}
-use Rattle.mst_pin.specs.declared.event.Event.TheVariants.{Publish, Transfer}
-use Rattle.mst_pin.specs.WordParts.{masks}
-use Rattle.mst_words.specs.Layout.{first_record}
-use Rattle.mst_words.specs.declared.view.View.{View}
-use Rattle.mst_key.specs.declared.history.Event.{Event}
-use Rattle.mst_words.specs.declared.view.DeskState.{DeskState}
-use Rattle.mst_key.specs.History.{History}
-use Rattle.mst_arena.specs.Lives.{last_version}
-use Rattle.mst_arena.specs.Lists.{In}
-use Rattle.mst_words.specs.Pins.{done, pin_bit, Blamed}
-use Rattle.mst_words.specs.Records.{Meaning, IsFramed, IsLive, Agrees, Standing}
-use Rattle.mst_words.specs.Rule.{Turn, Parts, Ruled}
-use Rattle.mst_words.specs.Steps.{IsReady, publishes, transfers, IsHolder, asks, notes_current, asks_current, found_now}
+use Rattle.std.specs.Int.{trailing_zeros, w64}
+use Rattle.std.proofs.lemmas.Nat.Bits.{bit_at-trailing_zeros}
+use Rattle.mst_words.specs.Steps.{notes_current, asks_current, found_now}
 use Rattle.mst_words.proofs.Worlds.{world_set, world_add}
 use Rattle.mst_words.proofs.Seats.{same_view}
 use Rattle.mst_words.proofs.Turns.{turn_held, only_one}

@@ -1,14 +1,8 @@
 -- The steps of a table from its opening on, and what one list of events leads to.
-use Rattle.std.proofs.Common.{◌≡◌, ◌⊎◌, ℕ, ◌<◌, None, List, [], ◌∷◌, ◌++◌, sym, ap, ◌∙◌, subst, ⊎_elim, lit<}
+use Rattle.mst_words.proofs.Names.{◌≡◌, ◌⊎◌, ℕ, ◌<◌, None, List, [], ◌∷◌, ◌++◌, sym, ap, ◌∙◌, subst, ⊎_elim, lit<, Publish, View, Shape, SeatAt, dealer, Deed, Table, IsRuled, IsReachedBy, moves_of, Does, MakesCurrent, ChangesSeats, GoesBy, IsLedTo}
 use Rattle.mst_pin.specs.declared.event.Event as core
-use Rattle.mst_pin.specs.declared.event.Event.TheVariants.{Publish}
 use Rattle.mst_pin.specs.State.{State}
-use Rattle.mst_words.specs.declared.view.View.{View}
-use Rattle.mst_words.specs.declared.view.Shape.{Shape}
-use Rattle.mst_words.specs.World.{SeatAt, dealer}
-use Rattle.mst_words.specs.Deeds.{Deed}
-use Rattle.mst_words.specs.Laws.{Table, IsRuled}
-use Rattle.mst_words.specs.Moves.{IsReachedBy, IsOpened, moves_of, Does, MakesCurrent, ChangesSeats, GoesBy, IsLedTo}
+use Rattle.mst_words.specs.Moves.{IsOpened}
 use Rattle.mst_words.proofs.Paths.{path_opening, comes_one}
 use Rattle.mst_words.proofs.Moves.{current_by, due_free, arrives, publication, seats_change, goes_on}
 

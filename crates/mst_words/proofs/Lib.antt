@@ -39,3 +39,4 @@ pub mod Doable
 pub mod Worked
 pub mod WorkedMoves
 pub mod Breaches
+pub mod Names

@@ -1,17 +1,9 @@
 -- A head that words spell is within its limits.
-use Rattle.std.proofs.Common.{◌≡◌, ℕ, List, Bool, true, false, Option, Some, None, refl, subst, if◌then◌else◌}
-use Rattle.std.specs.Prelude.{option_and_then}
-use Rattle.mst_arena.specs.Content.{part_at}
-use Rattle.mst_arena.specs.Row.{IsRow, IsHead, head_links}
-use Rattle.mst_arena.specs.Words.{row_in}
+use Rattle.mst_words.proofs.Names.{◌≡◌, ℕ, List, Bool, true, false, Option, Some, None, refl, subst, if◌then◌else◌, option_and_then, part_at, head_links, row_in, Row, Entry, View, known_row, rows_in, may_read, content_of}
+use Rattle.mst_arena.specs.Row.{IsRow, IsHead}
 use Rattle.mst_arena.specs.declared.row.HeadLinks.{HeadLinks}
-use Rattle.mst_arena.specs.declared.row.Row.{Row}
-use Rattle.mst_arena.specs.declared.row.Row.TheVariants.{Entry, Head}
+use Rattle.mst_arena.specs.declared.row.Row.TheVariants.{Head}
 use Rattle.mst_arena.proofs.Spelling.{words_of_row}
-use Rattle.mst_words.specs.declared.view.View.{View}
-use Rattle.mst_words.specs.Records.{known_row}
-use Rattle.mst_words.specs.Stored.{rows_in}
-use Rattle.mst_words.specs.Access.{may_read, content_of}
 
 spelt_head : (words : List ℕ) (h : HeadLinks) → option_and_then head_links (row_in words) ≡ Some h
     → IsHead h

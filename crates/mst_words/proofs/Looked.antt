@@ -1,12 +1,6 @@
 -- A step that changes no word, no pin and nothing that the turn ties keeps the rule.
-use Rattle.std.proofs.Common.{◌≡◌, ℕ, ◌+◌, inl, true, List, set, get_or, sym, refl, ◌∙◌, subst}
+use Rattle.mst_words.proofs.Names.{◌≡◌, ℕ, ◌+◌, inl, true, List, set, get_or, sym, refl, ◌∙◌, subst, State, keeps, stepped, View, SeatAt, Fits, Drains, Counts, Meaning, IsFramed, Parts, Still}
 use lib.Seq.{set-get_or}
-use Rattle.atomic_table.specs.Table.{State, keeps, stepped}
-use Rattle.mst_words.specs.declared.view.View.{View}
-use Rattle.mst_words.specs.World.{SeatAt, Fits}
-use Rattle.mst_words.specs.Pins.{Drains, Counts}
-use Rattle.mst_words.specs.Records.{Meaning, IsFramed}
-use Rattle.mst_words.specs.Rule.{Parts, Still}
 use Rattle.mst_words.proofs.Worlds.{world_set}
 use Rattle.mst_words.proofs.Turns.{turn_same}
 use Rattle.mst_words.proofs.PinParts.{pins_same, drains_same}

@@ -1,16 +1,7 @@
 -- The parts Clear and Counts of the rule hold on where one view or one word changes.
-use Rattle.std.proofs.Common.{◌≡◌, ℕ, suc, ◌+◌, ◌<◌, ◌≤◌, ◌≢◌, ◌⊎◌, inl, inr, true, false, eqb, ne_eqb, List, [], ◌∷◌, Option, Some, None, length, set, sym, refl, ap, ◌∙◌, subst, ⊎_elim, arith}
-use Rattle.std.specs.List.{IsDistinct, AllByRecursion}
+use Rattle.mst_words.proofs.Names.{◌≡◌, ℕ, suc, ◌+◌, ◌<◌, ◌≤◌, ◌≢◌, ◌⊎◌, inl, inr, true, false, eqb, ne_eqb, List, [], ◌∷◌, Option, Some, None, length, set, sym, refl, ap, ◌∙◌, subst, ⊎_elim, arith, AllByRecursion, same_Some, none-some, dite, ℕ_discrete, set_here, set_else, In, any_times, View, SeatAt, pin_bit, Clear, Blamed, Counts}
+use Rattle.std.specs.List.{IsDistinct}
 use Rattle.std.proofs.lemmas.Map.Steps.{length-le_from_distinct_below}
-use Rattle.std.proofs.lemmas.Option.{same_Some, none-some}
-use mathlib.Core.Logic.{dite}
-use native.Mathlib.Decide.{ℕ_discrete}
-use Rattle.atomic_table.proofs.Lists.{set_here, set_else}
-use Rattle.mst_arena.specs.Lists.{In}
-use Rattle.mst_arena.proofs.ListLemmas.{any_times}
-use Rattle.mst_words.specs.declared.view.View.{View}
-use Rattle.mst_words.specs.World.{SeatAt}
-use Rattle.mst_words.specs.Pins.{pin_bit, Clear, Blamed, Counts}
 use Rattle.mst_words.proofs.Members.{in_nothing, in_first, in_later, in_cases}
 use Rattle.mst_words.proofs.Seats.{each_seat, same_view}
 use Rattle.mst_words.proofs.Worlds.{within}

@@ -1,9 +1,9 @@
 -- That a number stands in a list, taken apart and put together; and as the library says it.
-use Rattle.std.proofs.Common.{◌≡◌, ℕ, ◌⊎◌, inl, inr, List, [], ◌∷◌, Contains, sym, ap, refl, ⊎_elim, arith}
-use Rattle.std.specs.List.{AllByRecursion}
+use Rattle.mst_words.proofs.Names.{◌≡◌, ℕ, ◌⊎◌, inl, inr, List, [], ◌∷◌, sym, ap, refl, ⊎_elim, arith, AllByRecursion, In}
+use Rattle.std.proofs.Common.{Contains}
 use Rattle.std.proofs.lemmas.Bool.{eq-eqb}
 use Rattle.mst_key.proofs.SpanLaws.{contains-cases, contains-nothing, contains-first, contains-later}
-use Rattle.mst_arena.specs.Lists.{In, bit}
+use Rattle.mst_arena.specs.Lists.{bit}
 use Rattle.mst_arena.proofs.ListLemmas.{in_either, one_row}
 
 pub in_nothing : (x : ℕ) → In x [] → ⊥

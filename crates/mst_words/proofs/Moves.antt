@@ -1,29 +1,9 @@
 -- Each step carries the path of the core of pins on, by the events that it adds.
-use Rattle.std.proofs.Common.{◌≡◌, ◌⊎◌, ℕ, ◌+◌, ◌-◌, ◌*◌, ◌^◌, ◌<◌, ◌≤◌, ◌≢◌, true, Bool, cond, ne_eqb, Option, Some, None, List, [], ◌∷◌, ◌++◌, length, set, get_or, sym, refl, ap, ◌∙◌, subst, ⊎_elim, arith, lit<, bit_xor, get_or-set_same}
-use mathlib.Core.Logic.{dite}
-use native.Mathlib.Decide.{ℕ_discrete}
+use Rattle.mst_words.proofs.Names.{◌≡◌, ◌⊎◌, ℕ, ◌+◌, ◌-◌, ◌*◌, ◌^◌, ◌<◌, ◌≤◌, ◌≢◌, true, Bool, cond, ne_eqb, Option, Some, None, List, [], ◌∷◌, ◌++◌, length, set, get_or, sym, refl, ap, ◌∙◌, subst, ⊎_elim, arith, lit<, bit_xor, get_or-set_same, dite, ℕ_discrete, Me, set_here, set_else, set_again, at_longer, Pin, Unpin, Publish, Transfer, In, masks, first_record, record_word, record_words, row_word, row_words, View, Shape, DeskState, SeatAt, having_dealt, newcomer, IsBlank, note_of, having_heard, IsPathOf, IsFree, IsWritable, stored, Deed, told_by, trying, giving, pinning, unpinning, forgetting, reading, writing, transferring, asking, noting, asking_current, seeing_all, seeing_told, glancing, Table, IsRuled, Makes, Adds, Hears, IsReachedBy, moves_of, Does, MakesCurrent, ChangesSeats, xor_low, xor_small}
 use lib.Seq.{set-get_or}
-use Rattle.atomic_table.specs.Table.{Me}
-use Rattle.atomic_table.proofs.Lists.{set_here, set_else, set_again, at_longer}
 use Rattle.mst_pin.specs.declared.event.Event as core
-use Rattle.mst_pin.specs.declared.event.Event.TheVariants.{Pin, Unpin, Publish, Transfer}
-use Rattle.mst_arena.specs.Lists.{In}
 use Rattle.mst_arena.specs.Lives as lives
-use Rattle.mst_pin.specs.WordParts.{masks}
-use Rattle.mst_words.specs.Layout.{first_record, record_word, record_words, row_word, row_words}
-use Rattle.mst_words.specs.declared.view.View.{View}
-use Rattle.mst_words.specs.declared.view.Shape.{Shape}
-use Rattle.mst_words.specs.declared.view.DeskState.{DeskState}
-use Rattle.mst_words.specs.World.{SeatAt, having_dealt, newcomer}
-use Rattle.mst_words.specs.Records.{IsBlank}
-use Rattle.mst_words.specs.Notes.{note_of, having_heard}
-use Rattle.mst_words.specs.Path.{IsPathOf}
-use Rattle.mst_words.specs.Steps.{IsFree, IsWritable}
-use Rattle.mst_words.specs.Stored.{stored}
-use Rattle.mst_words.specs.Deeds.{Told, Deed, told_by, trying, giving, pinning, unpinning, forgetting, reading, writing, transferring, asking, noting, asking_current, seeing_all, seeing_told, glancing}
-use Rattle.mst_words.specs.Laws.{Table, IsRuled, Makes, Adds, Hears}
-use Rattle.mst_words.specs.Moves.{IsReachedBy, moves_of, Does, MakesCurrent, ChangesSeats}
-use Rattle.mst_pin.proofs.Bits.{xor_low, xor_small}
+use Rattle.mst_words.specs.Deeds.{Told}
 use Rattle.mst_words.proofs.Places.{place_above}
 use Rattle.mst_words.proofs.Seats.{each_seat, same_view}
 use Rattle.mst_words.proofs.Worlds.{within}

@@ -1,18 +1,5 @@
 -- The rule at the start, and a pass more.
-use Rattle.std.proofs.Common.{◌≡◌, ℕ, zero, suc, ◌+◌, ◌-◌, ◌%◌, ◌<◌, ◌≤◌, ◌≢◌, inl, true, false, List, [], ◌∷◌, ◌++◌, length, set, get_or, Some, None, sym, refl, ap, ◌∙◌, subst, ⊎_elim, arith, lit<}
-use Rattle.std.specs.Int.{bit_at}
-use Rattle.std.proofs.lemmas.Option.{none-some}
-use Rattle.std.proofs.lemmas.Nat.Bits.{bit_at-zero}
-use mathlib.Core.Option.{some-injective, some-ne-none}
-use Rattle.atomic_table.specs.Table.{State, opening, Splits}
-use Rattle.mst_key.proofs.HistoryLaws.{IsPrefix-nil}
-use Rattle.mst_words.specs.Layout.{first_record, table_words}
-use Rattle.mst_words.specs.declared.view.View.{View}
-use Rattle.mst_words.specs.declared.view.DeskState.{DeskState}
-use Rattle.mst_words.specs.World.{SeatAt, Fits, IsPlaced, dealer, having_dealt, newcomer}
-use Rattle.mst_words.specs.Pins.{done, pin_bit, SeatPins}
-use Rattle.mst_words.specs.Records.{Meaning, IsFramed, Standing}
-use Rattle.mst_words.specs.Rule.{Parts, Ruled}
+use Rattle.mst_words.proofs.Names.{◌≡◌, ℕ, zero, suc, ◌+◌, ◌-◌, ◌%◌, ◌<◌, ◌≤◌, ◌≢◌, inl, true, false, List, [], ◌∷◌, ◌++◌, length, set, get_or, Some, None, sym, refl, ap, ◌∙◌, subst, ⊎_elim, arith, lit<, bit_at, none-some, bit_at-zero, some-injective, some-ne-none, State, opening, Splits, IsPrefix-nil, first_record, table_words, View, DeskState, SeatAt, Fits, IsPlaced, dealer, having_dealt, newcomer, done, pin_bit, SeatPins, Meaning, IsFramed, Standing, Parts, Ruled}
 use Rattle.mst_words.proofs.Worlds.{world_deal}
 use Rattle.mst_words.proofs.Turns.{turn_same}
 use Rattle.mst_words.proofs.PinParts.{pins_same}

@@ -1,20 +1,8 @@
 -- The part Path: the core of pins takes each step that moves a pin, the current record or a mask.
-use Rattle.std.proofs.Common.{◌≡◌, ℕ, zero, suc, ◌+◌, ◌<◌, ◌≤◌, ◌≢◌, true, false, eqb, List, [], ◌∷◌, Option, Some, None, set, sym, refl, ap, ◌∙◌, subst}
-use Rattle.std.specs.Prelude.{is_some}
-use mathlib.Core.Logic.{dite}
-use mathlib.Core.Option.{some-injective, some-ne-none}
-use native.Mathlib.Decide.{ℕ_discrete}
-use Rattle.std.proofs.lemmas.Nat.Bits.{bit_at-zero}
-use Rattle.std.proofs.lemmas.Option.{none-some}
-use Rattle.atomic_table.proofs.Lists.{set_here, set_else}
+use Rattle.mst_words.proofs.Names.{◌≡◌, ℕ, zero, suc, ◌+◌, ◌<◌, ◌≤◌, ◌≢◌, true, false, eqb, List, [], ◌∷◌, Option, Some, None, set, sym, refl, ap, ◌∙◌, subst, is_some, dite, some-injective, some-ne-none, ℕ_discrete, bit_at-zero, none-some, set_here, set_else, Pin, Unpin, Publish, Transfer, after, View, Format, SeatAt, dealer, IsPathOf, ComesTo}
 use Rattle.mst_pin.specs.declared.event.Event as core
-use Rattle.mst_pin.specs.declared.event.Event.TheVariants.{Pin, Unpin, Publish, Transfer}
-use Rattle.mst_pin.specs.State.{State, opening, after, with_value, AreUsable, row_set}
+use Rattle.mst_pin.specs.State.{State, opening, with_value, AreUsable, row_set}
 use Rattle.mst_pin.proofs.Masks.{with_here, with_else}
-use Rattle.mst_words.specs.declared.view.View.{View}
-use Rattle.mst_key.specs.declared.format.Format.{Format}
-use Rattle.mst_words.specs.World.{SeatAt, dealer}
-use Rattle.mst_words.specs.Path.{IsPathOf, ComesTo}
 use Rattle.mst_words.proofs.Seats.{each_seat, same_view}
 use Rattle.mst_words.proofs.Worlds.{within}
 

@@ -1,16 +1,7 @@
 -- The part Pins under an unpinning, a publication, a transfer and an ask.
-use Rattle.std.proofs.Common.{◌≡◌, ℕ, ◌+◌, ◌-◌, ◌*◌, ◌%◌, ◌^◌, ◌<◌, ◌≤◌, ◌≢◌, Bool, true, false, cond, eqb, eq-eqb, ne_eqb, List, [], ◌∷◌, Option, Some, None, set, get_or, sym, refl, ap, ◌∙◌, subst, ⊎_elim, arith, bit_xor, lit<}
-use Rattle.std.specs.Int.{bit_at}
-use mathlib.Core.Logic.{dite}
-use native.Mathlib.Decide.{ℕ_discrete}
-use Rattle.std.proofs.lemmas.Nat.Bits.{bit_at-lt, bit_at-zero, bit_at_xor}
-use Rattle.std.proofs.lemmas.Option.{same_Some, none-some}
-use Rattle.mst_arena.specs.Lists.{In}
-use Rattle.mst_pin.specs.WordParts.{masks}
-use Rattle.mst_words.specs.declared.view.View.{View}
-use Rattle.mst_words.specs.World.{SeatAt}
-use Rattle.mst_words.specs.Pins.{done, pin_bit, SeatPins, Drains, Pins}
-use Rattle.mst_pin.proofs.Bits.{bit_other, bit_same, turn_right}
+use Rattle.mst_words.proofs.Names.{◌≡◌, ℕ, ◌+◌, ◌-◌, ◌*◌, ◌%◌, ◌^◌, ◌<◌, ◌≤◌, ◌≢◌, Bool, true, false, cond, eqb, eq-eqb, ne_eqb, List, [], ◌∷◌, Option, Some, None, set, get_or, sym, refl, ap, ◌∙◌, subst, ⊎_elim, arith, bit_xor, lit<, bit_at, dite, ℕ_discrete, bit_at-lt, bit_at-zero, same_Some, none-some, In, masks, View, SeatAt, done, pin_bit, SeatPins, Drains, Pins, bit_other, bit_same}
+use Rattle.std.proofs.lemmas.Nat.Bits.{bit_at_xor}
+use Rattle.mst_pin.proofs.Bits.{turn_right}
 use Rattle.mst_words.proofs.Members.{in_nothing, in_cases}
 use Rattle.mst_words.proofs.Seats.{each_seat}
 use Rattle.mst_words.proofs.PinParts.{seat_keeps, drains_keep, bits_stay}

@@ -1,16 +1,6 @@
 -- The part Pins of the rule holds on where one view or one word changes.
-use Rattle.std.proofs.Common.{◌≡◌, ℕ, ◌+◌, ◌-◌, ◌*◌, ◌%◌, ◌^◌, ◌<◌, ◌≤◌, ◌≢◌, Bool, true, false, cond, eqb, eq-eqb, ne_eqb, List, Option, Some, None, set, get_or, sym, refl, ap, ◌∙◌, subst, arith, bit_xor}
-use Rattle.std.specs.Int.{bit_at}
-use mathlib.Core.Logic.{dite}
-use native.Mathlib.Decide.{ℕ_discrete}
-use Rattle.std.proofs.lemmas.Nat.Bits.{bit_at-lt}
-use Rattle.std.proofs.lemmas.Option.{same_Some, none-some}
-use Rattle.mst_arena.specs.Lists.{In}
-use Rattle.mst_pin.specs.WordParts.{masks}
-use Rattle.mst_words.specs.declared.view.View.{View}
-use Rattle.mst_words.specs.World.{SeatAt}
-use Rattle.mst_words.specs.Pins.{done, pin_bit, SeatPins, Drains, Pins}
-use Rattle.mst_pin.proofs.Bits.{xor_small, bit_other, bit_same, turn_left}
+use Rattle.mst_words.proofs.Names.{◌≡◌, ℕ, ◌+◌, ◌-◌, ◌*◌, ◌%◌, ◌^◌, ◌<◌, ◌≤◌, ◌≢◌, Bool, true, false, cond, eqb, eq-eqb, ne_eqb, List, Option, Some, None, set, get_or, sym, refl, ap, ◌∙◌, subst, arith, bit_xor, bit_at, dite, ℕ_discrete, bit_at-lt, same_Some, none-some, In, masks, View, SeatAt, done, pin_bit, SeatPins, Drains, Pins, xor_small, bit_other, bit_same}
+use Rattle.mst_pin.proofs.Bits.{turn_left}
 use Rattle.mst_words.proofs.Seats.{each_seat}
 
 -- ---- frames

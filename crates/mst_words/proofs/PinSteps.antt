@@ -1,20 +1,6 @@
 -- A pin and its end keep the rule.
-use Rattle.std.proofs.Common.{◌≡◌, ℕ, ◌+◌, ◌-◌, ◌*◌, ◌^◌, ◌<◌, ◌≤◌, ◌≢◌, inl, inr, true, false, Some, None, List, ◌∷◌, length, set, get_or, sym, refl, ap, ◌∙◌, subst, arith, bit_xor, length-set, get_or-set_same}
-use mathlib.Core.Option.{none}
-use Rattle.std.proofs.lemmas.Option.{same_Some, none-some}
-use Rattle.atomic_table.specs.Table.{Me, step, keeps, stepped, Allows}
-use Rattle.mst_key.specs.History.{History}
-use Rattle.mst_key.proofs.HistoryLaws.{IsPrefix-itself}
-use Rattle.mst_pin.specs.declared.event.Event.TheVariants.{Pin, Unpin}
-use Rattle.mst_pin.specs.WordParts.{masks}
-use Rattle.mst_words.specs.Layout.{record_word, row_word, table_words}
-use Rattle.mst_words.specs.declared.view.View.{View}
-use Rattle.mst_words.specs.World.{SeatAt, Fits}
-use Rattle.mst_words.specs.Pins.{done, pin_bit}
-use Rattle.mst_words.specs.Records.{Meaning, IsFramed, field, row, Reads}
-use Rattle.mst_words.specs.Rule.{Turn, Parts, Ruled}
-use Rattle.mst_words.specs.Steps.{IsFree, IsPinned, pins_now, unpins, forgets}
-use Rattle.mst_pin.proofs.Bits.{xor_low}
+use Rattle.mst_words.proofs.Names.{◌≡◌, ℕ, ◌+◌, ◌-◌, ◌*◌, ◌^◌, ◌<◌, ◌≤◌, ◌≢◌, inl, inr, true, false, Some, None, List, ◌∷◌, length, set, get_or, sym, refl, ap, ◌∙◌, subst, arith, bit_xor, length-set, get_or-set_same, none, same_Some, none-some, Me, step, keeps, stepped, Allows, History, IsPrefix-itself, Pin, Unpin, masks, record_word, row_word, table_words, View, SeatAt, Fits, done, pin_bit, Meaning, IsFramed, field, row, Reads, Turn, Parts, Ruled, IsFree, IsPinned, pins_now, xor_low}
+use Rattle.mst_words.specs.Steps.{unpins, forgets}
 use Rattle.mst_words.proofs.Places.{place_above}
 use Rattle.mst_words.proofs.Worlds.{IsInPlaceOf, world_set, each_dealt}
 use Rattle.mst_words.proofs.Turns.{turn_same}

@@ -1,8 +1,7 @@
 -- Where the words of rows lie: each word of each row has a place of its own, behind the records.
-use Rattle.std.proofs.Common.{◌≡◌, ℕ, ◌+◌, ◌-◌, ◌*◌, ◌<◌, ◌≤◌, Bool, true, false, refl, ap, ◌∙◌, arith, if◌then◌else◌}
-use Rattle.std.specs.Prelude.{nat_lt}
-use Rattle.std.proofs.lemmas.Bool.{ltb-true, ltb-false}
-use Rattle.mst_words.specs.Layout.{first_row, row_word, row_words, table_words}
+use Rattle.mst_words.proofs.Names.{◌≡◌, ℕ, ◌+◌, ◌-◌, ◌*◌, ◌<◌, ◌≤◌, Bool, true, false, refl, ap, ◌∙◌, arith, if◌then◌else◌, nat_lt, ltb-true, first_row, row_words, table_words}
+use Rattle.std.proofs.lemmas.Bool.{ltb-false}
+use Rattle.mst_words.specs.Layout.{row_word}
 
 by_test : (P : Type 0) (k n : ℕ) → (nat_lt k n ≡ true → P) → (nat_lt k n ≡ false → P) → P
 by_test P k n less more = go (nat_lt k n) refl

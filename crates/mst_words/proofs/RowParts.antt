@@ -1,17 +1,6 @@
 -- The part Rows of the rule holds on where one view or one word changes.
-use Rattle.std.proofs.Common.{◌≡◌, ℕ, ◌+◌, ◌<◌, ◌≤◌, ◌≢◌, inl, inr, Bool, true, cond, eqb, eq-eqb, ne_eqb, List, [], ◌∷◌, ◌++◌, length, set, get_or, sym, refl, ap, ◌∙◌, subst, ⊎_elim, arith, Some}
-use mathlib.Core.Logic.{dite}
-use mathlib.Core.Option.{some}
-use native.Mathlib.Decide.{ℕ_discrete}
+use Rattle.mst_words.proofs.Names.{◌≡◌, ℕ, ◌+◌, ◌<◌, ◌≤◌, ◌≢◌, inl, inr, Bool, true, cond, eqb, eq-eqb, ne_eqb, List, [], ◌∷◌, ◌++◌, length, set, get_or, sym, refl, ap, ◌∙◌, subst, ⊎_elim, arith, Some, dite, some, ℕ_discrete, first_record, record_word, record_words, row_word, row_words, View, Event, DeskState, History, last_version, In, Meaning, IsFramed, field, row, IsLive, Agrees, Standing, Reads, Rows}
 use lib.ListN.{get_elem?}
-use Rattle.mst_words.specs.Layout.{first_record, record_word, record_words, row_word, row_words}
-use Rattle.mst_words.specs.declared.view.View.{View}
-use Rattle.mst_key.specs.declared.history.Event.{Event}
-use Rattle.mst_words.specs.declared.view.DeskState.{DeskState}
-use Rattle.mst_key.specs.History.{History}
-use Rattle.mst_arena.specs.Lives.{last_version}
-use Rattle.mst_arena.specs.Lists.{In}
-use Rattle.mst_words.specs.Records.{Meaning, IsFramed, field, row, IsLive, Agrees, Standing, Reads, Rows}
 use Rattle.mst_words.proofs.Places.{place_above}
 use Rattle.mst_words.proofs.Seats.{each_seat}
 use Rattle.mst_words.proofs.Histories.{begins_longer}

@@ -1,17 +1,9 @@
 -- Of two ruled states: when their histories are one, and how a step changes the history. What is
 -- writable is apart from what is live.
-use Rattle.std.proofs.Common.{◌≡◌, ◌⊎◌, ℕ, ◌+◌, zero, suc, ◌<◌, ◌≤◌, ◌≢◌, inl, inr, Bool, cond, eq-eqb, ne_eqb, List, [], ◌∷◌, ◌++◌, length, set, sym, refl, ap, ◌∙◌, subst, ⊎_elim, arith, append-nil, append_assoc, length-append}
-use Rattle.std.specs.List.{All}
+use Rattle.mst_words.proofs.Names.{◌≡◌, ◌⊎◌, ℕ, ◌+◌, zero, suc, ◌<◌, ◌≤◌, ◌≢◌, inl, inr, Bool, cond, eq-eqb, ne_eqb, List, [], ◌∷◌, ◌++◌, length, set, sym, refl, ap, ◌∙◌, subst, ⊎_elim, arith, append-nil, length-append, All, dite, dec_le, ℕ_discrete, at_set, at_snoc, at_longer, set_here, set_else, Format, Event, History, events_of, IsPrefix, IsPrefix-nil, events_of-append, View, SeatAt, World}
+use Rattle.std.proofs.Common.{append_assoc}
 use Rattle.std.proofs.lemmas.List.Elements.{All-head, All-tail}
-use mathlib.Core.Logic.{dite}
-use native.Mathlib.Decide.{dec_le, ℕ_discrete}
-use Rattle.atomic_table.proofs.Lists.{at_set, at_snoc, at_longer, set_here, set_else}
-use Rattle.mst_key.specs.declared.format.Format.{Format}
-use Rattle.mst_key.specs.declared.history.Event.{Event}
-use Rattle.mst_key.specs.History.{History, events_of, IsPrefix}
-use Rattle.mst_key.proofs.HistoryLaws.{IsPrefix-nil, IsPrefix-both_ways, events_of-append}
-use Rattle.mst_words.specs.declared.view.View.{View}
-use Rattle.mst_words.specs.World.{SeatAt, World}
+use Rattle.mst_key.proofs.HistoryLaws.{IsPrefix-both_ways}
 use Rattle.mst_words.proofs.Histories.{events_none, events_own, last_of, last_named}
 use Rattle.mst_words.proofs.Seats.{each_seat, same_view}
 use Rattle.mst_words.proofs.Worlds.{within}

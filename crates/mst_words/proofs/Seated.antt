@@ -1,17 +1,6 @@
 -- Each part of the rule with a seat more, which has no turn and no pin.
-use Rattle.std.proofs.Common.{◌≡◌, ℕ, ◌<◌, ◌≤◌, ◌≢◌, ◌⊎◌, inl, inr, true, false, List, [], ◌∷◌, ◌++◌, length, get_or, Option, Some, None, sym, ◌∙◌, subst, ⊎_elim}
-use Rattle.std.proofs.lemmas.Option.{none-some}
-use Rattle.atomic_table.proofs.Lists.{at_snoc, at_longer}
-use Rattle.mst_key.specs.History.{History}
-use Rattle.mst_words.specs.Layout.{first_record}
-use Rattle.mst_words.specs.declared.view.View.{View}
-use Rattle.mst_words.specs.declared.view.DeskState.{DeskState}
-use Rattle.mst_words.specs.World.{SeatAt}
-use Rattle.mst_words.specs.Pins.{SeatPins, Drains, Pins, Clear, Blamed, Counts}
+use Rattle.mst_words.proofs.Names.{◌≡◌, ℕ, ◌<◌, ◌≤◌, ◌≢◌, ◌⊎◌, inl, inr, true, false, List, [], ◌∷◌, ◌++◌, length, get_or, Option, Some, None, sym, ◌∙◌, subst, ⊎_elim, none-some, at_snoc, at_longer, History, first_record, View, DeskState, SeatAt, SeatPins, Drains, Pins, Clear, Blamed, Counts, IsPathOf, Meaning, IsLive, Reads, Rows, Turn, Still}
 use Rattle.mst_pin.specs.declared.event.Event as core
-use Rattle.mst_words.specs.Path.{IsPathOf}
-use Rattle.mst_words.specs.Records.{Meaning, IsLive, Reads, Rows}
-use Rattle.mst_words.specs.Rule.{Turn, Still}
 
 -- a fact of each seat, and of one more
 pub more : (P : View → Type 0) (vs : List View) (n : View)

@@ -1,9 +1,6 @@
 -- One view among the views.
-use Rattle.std.proofs.Common.{◌≡◌, ℕ, ◌≢◌, List, set, subst, ⊎_elim, sym, ◌∙◌}
-use mathlib.Core.Option.{some, some-injective}
+use Rattle.mst_words.proofs.Names.{◌≡◌, ℕ, ◌≢◌, List, set, subst, ⊎_elim, sym, ◌∙◌, some, some-injective, at_set, View}
 use lib.ListN.{get_elem?}
-use Rattle.atomic_table.proofs.Lists.{at_set}
-use Rattle.mst_words.specs.declared.view.View.{View}
 
 -- a fact of each seat after one view changed
 pub each_seat : (P : ℕ → View → Type 0) (vs : List View) (id : ℕ) (w : View) → P id w

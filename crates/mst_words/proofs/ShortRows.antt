@@ -1,17 +1,9 @@
 -- The words of an entry behind a key of 16 bytes, and behind a value of 32, are 0.
-use Rattle.std.proofs.Common.{◌≡◌, ℕ, zero, suc, ◌+◌, ◌*◌, ◌<◌, ◌≤◌, ◌/◌, ◌%◌, List, [], ◌∷◌, length, Bool, true, false, Some, None, refl, sym, ◌∙◌, ap, arith, if◌then◌else◌}
-use Rattle.std.specs.Prelude.{slice_index, slice_index_or, option_and_then, IsSome}
-use Rattle.mst_arena.specs.Content.{part_at}
-use Rattle.mst_arena.specs.Row.{HasBytes, keyed_links, bare_links, entry_value}
-use Rattle.mst_arena.specs.Words.{words_of, word_from}
-use Rattle.mst_arena.specs.declared.row.Row.TheVariants.{Entry}
+use Rattle.mst_words.proofs.Names.{◌≡◌, ℕ, zero, suc, ◌+◌, ◌*◌, ◌<◌, ◌≤◌, ◌/◌, ◌%◌, List, [], ◌∷◌, length, Bool, true, false, Some, None, refl, sym, ◌∙◌, ap, arith, if◌then◌else◌, slice_index, slice_index_or, option_and_then, IsSome, part_at, HasBytes, keyed_links, word_from, Entry, EntryIn, entry_with, View, known_row, rows_in, may_read, content_of, IsPadded}
+use Rattle.mst_arena.specs.Row.{bare_links, entry_value}
+use Rattle.mst_arena.specs.Words.{words_of}
 use Rattle.mst_arena.proofs.Packing.{past_word}
-use Rattle.mst_arena.proofs.Readers.{EntryIn, entry_with}
 use Rattle.mst_arena.proofs.EntryParts.{links_in_words}
-use Rattle.mst_words.specs.declared.view.View.{View}
-use Rattle.mst_words.specs.Records.{known_row}
-use Rattle.mst_words.specs.Stored.{rows_in}
-use Rattle.mst_words.specs.Access.{may_read, content_of, IsPadded}
 
 key_ends : (words : List ℕ) → EntryIn words → slice_index words 3 % 256 ≡ 16
     → (0 ≡ slice_index words 6) × (0 ≡ slice_index words 7)

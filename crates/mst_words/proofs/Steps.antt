@@ -1,18 +1,8 @@
 -- Each step keeps the rule.
-use Rattle.std.proofs.Common.{◌≡◌, ℕ, ◌+◌, ◌<◌, ◌≤◌, ◌≢◌, ◌⊎◌, inl, true, Some, None, List, set, get_or, sym, refl, ap, ◌∙◌, subst, ⊎_elim, arith, length-set, get_or-set_same, get_or-set_other}
-use mathlib.Core.Logic.{dite}
-use mathlib.Core.Option.{some, none}
-use native.Mathlib.Decide.{ℕ_discrete}
+use Rattle.mst_words.proofs.Names.{◌≡◌, ℕ, ◌+◌, ◌<◌, ◌≤◌, ◌≢◌, ◌⊎◌, inl, true, Some, None, List, set, get_or, sym, refl, ap, ◌∙◌, subst, ⊎_elim, arith, length-set, get_or-set_same, get_or-set_other, dite, some, none, ℕ_discrete, State, Me, step, keeps, stepped, Allows, set_again, In, first_record, record_word, record_words, row_word, row_words, table_words, View, Meaning, IsFramed, IsLive, IsBlank, Turn, Parts, Ruled, IsReadable, IsWritable}
 use lib.ListN.{get_elem?}
 use lib.Seq.{set-get_or}
-use Rattle.atomic_table.specs.Table.{State, Me, step, keeps, stepped, Allows}
-use Rattle.atomic_table.proofs.Lists.{set_again}
-use Rattle.mst_arena.specs.Lists.{In}
-use Rattle.mst_words.specs.Layout.{first_record, record_word, record_words, row_word, row_words, table_words}
-use Rattle.mst_words.specs.declared.view.View.{View}
-use Rattle.mst_words.specs.Records.{Meaning, IsFramed, IsLive, IsBlank}
-use Rattle.mst_words.specs.Rule.{Turn, Parts, Ruled}
-use Rattle.mst_words.specs.Steps.{IsReadable, IsWritable, reads, writes}
+use Rattle.mst_words.specs.Steps.{reads, writes}
 use Rattle.mst_words.proofs.Worlds.{world_set}
 use Rattle.mst_words.proofs.Turns.{turn_same, only_one}
 use Rattle.mst_words.proofs.PinParts.{bits_stay, pins_same, drains_same}

@@ -1,19 +1,7 @@
 -- The part Still: in a store of one pass the word of the current record is as its holder noted it,
 -- and that record's word DONE is the mask that was noted.
-use Rattle.std.proofs.Common.{◌≡◌, ℕ, ◌+◌, ◌*◌, ◌%◌, ◌<◌, ◌≤◌, ◌≢◌, true, false, List, Option, Some, None, set, get_or, sym, ap, ◌∙◌, subst, arith}
-use Rattle.std.specs.Int.{bit_at}
-use mathlib.Core.Logic.{dite}
-use native.Mathlib.Decide.{ℕ_discrete}
-use Rattle.std.proofs.lemmas.Nat.Bits.{bit_at-lt, same_from_bits}
-use Rattle.std.proofs.lemmas.Option.{none-some}
-use Rattle.atomic_table.specs.Table.{State}
-use Rattle.mst_pin.specs.WordParts.{masks}
-use Rattle.mst_words.specs.declared.view.View.{View}
-use Rattle.mst_words.specs.declared.view.DeskState.{DeskState}
-use Rattle.mst_words.specs.World.{SeatAt}
-use Rattle.mst_words.specs.Pins.{done, pin_bit, Pins, Clear}
-use Rattle.mst_words.specs.Records.{Meaning}
-use Rattle.mst_words.specs.Rule.{Still, Parts}
+use Rattle.mst_words.proofs.Names.{◌≡◌, ℕ, ◌+◌, ◌*◌, ◌%◌, ◌<◌, ◌≤◌, ◌≢◌, true, false, List, Option, Some, None, set, get_or, sym, ap, ◌∙◌, subst, arith, bit_at, dite, ℕ_discrete, bit_at-lt, none-some, State, masks, View, DeskState, SeatAt, done, pin_bit, Pins, Clear, Meaning, Still, Parts}
+use Rattle.std.proofs.lemmas.Nat.Bits.{same_from_bits}
 use Rattle.mst_words.proofs.Seats.{each_seat, same_view}
 
 -- what is noted at a seat is the word

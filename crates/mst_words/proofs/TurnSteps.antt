@@ -1,21 +1,11 @@
 -- Taking and giving back the turn keep the rule.
-use Rattle.std.proofs.Common.{◌≡◌, ℕ, ◌+◌, ◌<◌, ◌≤◌, ◌≢◌, inl, inr, true, false, Some, None, eqb, List, [], ◌∷◌, set, get_or, sym, refl, ap, ◌∙◌, subst, arith, length-set, get_or-set_same}
-use mathlib.Core.Option.{some, none}
+use Rattle.mst_words.proofs.Names.{◌≡◌, ℕ, ◌+◌, ◌<◌, ◌≤◌, ◌≢◌, inl, inr, true, false, Some, None, eqb, List, [], ◌∷◌, set, get_or, sym, refl, ap, ◌∙◌, subst, arith, length-set, get_or-set_same, some, none, Me, step, keeps, carried_after, rest, stepped, Allows, first_record, table_words, View, DeskState, History, In, Meaning, IsFramed, Agrees, Standing, Turn, Parts, Ruled, IsFree, takes_turn, IsGiving, gives_turn, IsPrefix-itself}
 use lib.ListN.{get_elem?}
 use prog.Atomic.{either}
-use Rattle.atomic_table.specs.Table.{Me, step, Act, keeps, takes, gives, Valid, carried_after, rest, stepped, Allows}
+use Rattle.atomic_table.specs.Table.{Act, takes, gives, Valid}
 use Rattle.atomic_table.proofs.Lists.{exchanged}
-use Rattle.mst_words.specs.Layout.{first_record, table_words}
-use Rattle.mst_words.specs.declared.view.View.{View}
-use Rattle.mst_words.specs.declared.view.DeskState.{DeskState}
-use Rattle.mst_key.specs.History.{History}
-use Rattle.mst_arena.specs.Lists.{In}
-use Rattle.mst_words.specs.Records.{Meaning, IsFramed, Agrees, Standing}
-use Rattle.mst_words.specs.Rule.{Turn, Parts, Ruled}
-use Rattle.mst_words.specs.Steps.{IsFree, takes_turn, IsGiving, gives_turn}
 use Rattle.mst_words.proofs.Members.{in_nothing}
 use Rattle.mst_words.proofs.Worlds.{world_set, each_dealt}
-use Rattle.mst_key.proofs.HistoryLaws.{IsPrefix-itself}
 use Rattle.mst_words.proofs.Seats.{same_view}
 use Rattle.mst_words.proofs.Turns.{turn_taken, turn_given, only_one}
 use Rattle.mst_words.proofs.PinParts.{bits_stay, pins_same}

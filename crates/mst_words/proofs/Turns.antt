@@ -1,15 +1,6 @@
 -- The part Turn of the rule holds on where one view or one word changes.
-use Rattle.std.proofs.Common.{◌≡◌, ℕ, ◌<◌, true, false, Option, None, List, [], ◌∷◌, set, sym, ap, ◌∙◌, subst, arith}
-use mathlib.Core.Logic.{dite}
-use mathlib.Core.Option.{some, none}
-use native.Mathlib.Decide.{ℕ_discrete}
+use Rattle.mst_words.proofs.Names.{◌≡◌, ℕ, ◌<◌, true, false, Option, None, List, [], ◌∷◌, set, sym, ap, ◌∙◌, subst, arith, dite, some, none, ℕ_discrete, set_here, set_else, View, DeskState, History, Meaning, Turn}
 use lib.ListN.{get_elem?}
-use Rattle.atomic_table.proofs.Lists.{set_here, set_else}
-use Rattle.mst_words.specs.declared.view.View.{View}
-use Rattle.mst_words.specs.declared.view.DeskState.{DeskState}
-use Rattle.mst_key.specs.History.{History}
-use Rattle.mst_words.specs.Records.{Meaning}
-use Rattle.mst_words.specs.Rule.{Turn}
 use Rattle.mst_words.proofs.Seats.{each_seat, same_view}
 use Rattle.mst_words.proofs.Worlds.{within}
 

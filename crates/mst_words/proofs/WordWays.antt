@@ -1,21 +1,13 @@
 -- The way to a key from a row that a pass may read, by the row's words.
-use Rattle.std.proofs.Common.{◌≡◌, ℕ, ◌+◌, ◌-◌, ◌<◌, ◌≤◌, List, Option, subst, Bool, true, false, Ordering, Less, Equal, Greater, refl, sym, ◌∙◌, ap, Some, None, if◌then◌else◌}
-use Rattle.std.specs.Prelude.{option_and_then, IsSome}
-use Rattle.mst_key.specs.Bytes.{IsKey, IsBytes}
+use Rattle.mst_words.proofs.Names.{◌≡◌, ℕ, ◌+◌, ◌-◌, ◌<◌, ◌≤◌, List, Option, subst, Bool, true, false, Ordering, refl, sym, ◌∙◌, ap, Some, None, if◌then◌else◌, option_and_then, IsSome, IsKey, IsBytes, part_at, keyed_links, words_order, Goes, entry_met, Me, View, known_row, rows_in, may_read, content_of}
+use Rattle.std.proofs.Common.{Less, Equal, Greater}
 use Rattle.mst_node.specs.Trail.{by_order}
-use Rattle.mst_arena.specs.Content.{part_at}
-use Rattle.mst_arena.specs.Row.{keyed_links}
 use Rattle.mst_arena.specs.Lives as lives
-use Rattle.mst_arena.specs.Ways.{entry_way, stop_from, words_order}
+use Rattle.mst_arena.specs.Ways.{entry_way, stop_from}
 use Rattle.mst_arena.specs.declared.sought.Way.TheVariants.{Child, Here, Next}
 use Rattle.mst_arena.specs.declared.sought.Stop.TheVariants.{Gap, Found}
 use Rattle.mst_arena.proofs.WayLemmas.{way_in_words}
-use Rattle.mst_arena.proofs.StopLemmas.{Goes, entry_met, in_gap, at_key, past_entry}
-use Rattle.atomic_table.specs.Table.{Me}
-use Rattle.mst_words.specs.declared.view.View.{View}
-use Rattle.mst_words.specs.Records.{known_row}
-use Rattle.mst_words.specs.Stored.{rows_in}
-use Rattle.mst_words.specs.Access.{may_read, content_of}
+use Rattle.mst_arena.proofs.StopLemmas.{in_gap, at_key, past_entry}
 use Rattle.mst_words.proofs.ShortRows.{key_of}
 
 -- the links of an entry are small, and the order by words chooses the way

@@ -1,35 +1,15 @@
 -- A worked table of two passes and four rows, made by steps: pass 1 pins the empty version 0, and
 -- pass 2 then publishes a remove in record 1, whose words were there from the start, and moves the
 -- pin to record 0.
-use Rattle.std.proofs.Common.{◌≡◌, ℕ, zero, suc, ◌+◌, ◌*◌, ◌^◌, ◌<◌, true, Option, Some, None, List, [], ◌∷◌, ◌++◌, length, set, get_or, replicate, sym, refl, ap, ◌∙◌, subst, ⊎_elim, arith, lit<, bit_xor}
-use Rattle.std.proofs.lemmas.Option.{same_Some}
-use mathlib.Core.Option.{none, some, some-injective, some-ne-none}
+use Rattle.mst_words.proofs.Names.{◌≡◌, ℕ, zero, suc, ◌+◌, ◌*◌, ◌^◌, ◌<◌, true, Option, Some, None, List, [], ◌∷◌, ◌++◌, length, set, get_or, replicate, sym, refl, ap, ◌∙◌, subst, ⊎_elim, arith, lit<, bit_xor, same_Some, none, some, some-injective, some-ne-none, Me, step, opening, Allows, carried_after, One, Event, History, IsPrefix-itself, digest_of, Free, In, word_from, bytes_in, masks, View, Shape, DeskState, SeatAt, dealer, idle, done, Meaning, IsFramed, Standing, Agrees, field, row, Parts, Ruled, IsReady, asks, publishes, transfers, stored, AgedOn, fresh_desk, desk_state, Table, IsRuled}
 use lib.ListN.{get_elem?}
-use Rattle.atomic_table.specs.Table.{Me, step, opening, Allows, carried_after, homes_after}
-use Rattle.mst_key.specs.declared.format.Format.TheVariants.{One}
+use Rattle.atomic_table.specs.Table.{homes_after}
 use Rattle.mst_key.specs.declared.history.Change.TheVariants.{Remove}
-use Rattle.mst_key.specs.declared.history.Event.{Event}
-use Rattle.mst_key.specs.History.{History}
-use Rattle.mst_key.proofs.HistoryLaws.{IsPrefix-itself}
-use Rattle.mst_node.specs.Text.{digest_of}
 use Rattle.mst_node.specs.Tree.{tree, tree_within}
 use Rattle.mst_node.proofs.MapTextsInGrammar.{sha256_digest}
-use Rattle.mst_arena.specs.declared.life.Life.TheVariants.{Free}
-use Rattle.mst_arena.specs.Lists.{In}
 use Rattle.mst_arena.specs.Lives as lives
 use Rattle.mst_arena.specs.Standing as standing
-use Rattle.mst_arena.specs.Words.{word_from, bytes_in}
-use Rattle.mst_pin.specs.WordParts.{masks}
-use Rattle.mst_words.specs.declared.view.View.{View}
-use Rattle.mst_words.specs.declared.view.Shape.{Shape}
-use Rattle.mst_words.specs.declared.view.DeskState.{DeskState}
-use Rattle.mst_words.specs.World.{SeatAt, dealer, idle}
-use Rattle.mst_words.specs.Pins.{done}
-use Rattle.mst_words.specs.Records.{Meaning, IsFramed, Standing, Agrees, field, row}
-use Rattle.mst_words.specs.Rule.{Parts, Ruled}
-use Rattle.mst_words.specs.Steps.{IsReady, asks, publishes, transfers}
-use Rattle.mst_words.specs.Stored.{stored, AgedOn, fresh_desk, desk_state, state_of}
-use Rattle.mst_words.specs.Laws.{Table, IsRuled}
+use Rattle.mst_words.specs.Stored.{state_of}
 use Rattle.mst_words.proofs.Framed.{stored_framed}
 use Rattle.mst_words.proofs.Fresh.{digest_back, unreached, fresh_standing, fresh_is_desk}
 use Rattle.mst_words.proofs.Members.{in_nothing, in_first}

@@ -1,27 +1,8 @@
 -- The worked table is reached by the events of its steps: pass 1 pins record 0, record 1 is
 -- published, and the pin is moved. It is not reached if one of them is left out.
-use Rattle.std.proofs.Common.{◌≡◌, ℕ, inl, inr, Some, None, List, [], ◌∷◌, set, sym, refl, ap, ◌∙◌, subst, arith, lit<}
-use Rattle.std.specs.Prelude.{is_some}
+use Rattle.mst_words.proofs.Names.{◌≡◌, ℕ, inl, inr, Some, None, List, [], ◌∷◌, set, sym, refl, ap, ◌∙◌, subst, arith, lit<, is_some, none-some, none, step, One, History, IsPrefix-nil, Pin, Publish, Transfer, after, masks, View, DeskState, dealer, Standing, ComesTo, pins_now, takes_turn, desk_state, pinning, trying, asking, transferring, Table, IsReachedBy, GoesBy, IsLedTo}
 use Rattle.std.proofs.lemmas.Bool.{false≢true}
-use Rattle.std.proofs.lemmas.Option.{none-some}
-use mathlib.Core.Option.{none}
-use Rattle.atomic_table.specs.Table.{step}
-use Rattle.mst_key.specs.declared.format.Format.TheVariants.{One}
-use Rattle.mst_key.specs.History.{History}
-use Rattle.mst_key.proofs.HistoryLaws.{IsPrefix-nil}
-use Rattle.mst_pin.specs.declared.event.Event.TheVariants.{Pin, Publish, Transfer}
-use Rattle.mst_pin.specs.State.{State, opening, after}
-use Rattle.mst_pin.specs.WordParts.{masks}
-use Rattle.mst_words.specs.declared.view.View.{View}
-use Rattle.mst_words.specs.declared.view.DeskState.{DeskState}
-use Rattle.mst_words.specs.World.{dealer}
-use Rattle.mst_words.specs.Records.{Standing}
-use Rattle.mst_words.specs.Path.{ComesTo}
-use Rattle.mst_words.specs.Steps.{pins_now, takes_turn}
-use Rattle.mst_words.specs.Stored.{desk_state}
-use Rattle.mst_words.specs.Deeds.{pinning, trying, asking, transferring}
-use Rattle.mst_words.specs.Laws.{Table}
-use Rattle.mst_words.specs.Moves.{IsReachedBy, GoesBy, IsLedTo}
+use Rattle.mst_pin.specs.State.{State, opening}
 use Rattle.mst_words.proofs.Members.{in_nothing, in_first}
 use Rattle.mst_words.proofs.Fresh.{fresh_is_desk}
 use Rattle.mst_words.proofs.Moves.{due_held}

@@ -1,20 +1,9 @@
 -- What keeps a world lawful: one view changes, an event is added, a pass is dealt.
-use Rattle.std.proofs.Common.{◌≡◌, ℕ, zero, suc, ◌+◌, ◌<◌, ◌≤◌, ◌≢◌, List, [], ◌∷◌, ◌++◌, length, set, sym, refl, ap, ◌∙◌, subst, ⊎_elim, arith, inl, inr, ◌⊎◌, None}
-use Rattle.std.specs.List.{All}
+use Rattle.mst_words.proofs.Names.{◌≡◌, ℕ, zero, suc, ◌+◌, ◌<◌, ◌≤◌, ◌≢◌, List, [], ◌∷◌, ◌++◌, length, set, sym, refl, ap, ◌∙◌, subst, ⊎_elim, arith, inl, inr, ◌⊎◌, None, All, none-some, dite, some, some-injective, some-ne-none, ℕ_discrete, at_set, at_snoc, at_longer, set_here, set_else, Format, Event, History, events_of, IsPrefix, View, SeatAt, Fits, IsPlaced, World, having_dealt, newcomer, IsPrefix-itself}
 use Rattle.std.proofs.lemmas.List.Elements.{All-append}
-use Rattle.std.proofs.lemmas.Option.{none-some}
-use mathlib.Core.Logic.{dite}
-use mathlib.Core.Option.{some, some-injective, some-ne-none}
-use native.Mathlib.Decide.{ℕ_discrete}
 use lib.ListN.{get_elem?}
-use Rattle.atomic_table.proofs.Lists.{at_set, at_last, at_snoc, at_longer, set_here, set_else}
-use Rattle.mst_key.specs.declared.format.Format.{Format}
-use Rattle.mst_key.specs.declared.history.Event.{Event}
-use Rattle.mst_key.specs.History.{History, events_of, IsPrefix}
-use Rattle.mst_words.specs.declared.view.View.{View}
-use Rattle.mst_words.specs.World.{SeatAt, Fits, IsPlaced, World, having_dealt, newcomer}
+use Rattle.atomic_table.proofs.Lists.{at_last}
 use Rattle.mst_words.specs.Notes.{IsOfPasses}
-use Rattle.mst_key.proofs.HistoryLaws.{IsPrefix-itself}
 use Rattle.mst_words.proofs.Histories.{begins_longer, events_none, events_own, events_other}
 
 -- each event of the history is of a pass of the store

@@ -1,25 +1,8 @@
 -- The bounds on what a put and a remove make new, by the nodes that a search for the key meets.
-use Rattle.std.proofs.Common.{◌≡◌, ℕ, ◌+◌, ◌≤◌, ◌==◌, ◌||◌, Bool, false, cond, List, [], ◌∷◌, Option, Some, None, refl, sym, ap, subst, ◌∙◌, arith, Less, Greater}
-use Rattle.std.specs.List.{sum_by}
-use Rattle.std.specs.Option.{option_map_or}
-use Rattle.std.proofs.lemmas.Bool.{cond_both}
-use Rattle.std.proofs.lemmas.List.Sums.{sum_by-cons}
-use Rattle.mst_key.specs.declared.format.Format.{Format}
-use Rattle.mst_key.specs.Layer.{layer_in}
-use Rattle.mst_key.specs.Map.{Pair, key_cmp, map_get, AllBelow, AllAbove, IsAscending}
+use Rattle.mst_change.proofs.Names.{◌≡◌, ℕ, ◌+◌, ◌≤◌, ◌==◌, ◌||◌, Bool, false, cond, List, [], ◌∷◌, Option, Some, None, refl, sym, ap, subst, ◌∙◌, arith, Less, Greater, sum_by, option_map_or, cond_both, sum_by-cons, Format, layer_in, Pair, key_cmp, map_get, AllBelow, AllAbove, IsAscending, alls-back, greater_from_less, Tree, empty, node, Entries, last, entry, entry_count, pairs, entries_pairs, tree, with_entries, by_order, same_bytes, top_entries, cost, weight, pairs_tree, cells, first_child, last_child, with_first, node_of, is_empty, below, entries_below, above, entries_above, join_node, join_first, join, join_last, tree_remove, entries_remove, side_rows, split_rows, gap_rows, put_among_rows, put_rows, put_gap_rows, put_cost, join_node_rows, join_first_rows, join_rows, join_last_rows, remove_rows, entries_remove_rows, remove_cost}
 use Rattle.mst_key.specs.Map as map
-use Rattle.mst_key.proofs.Alls.{alls-front, alls-back}
-use Rattle.mst_key.proofs.KeyOrder.{greater_from_less}
-use Rattle.mst_node.specs.Tree.{Tree, empty, node, Entries, last, entry, entry_count, pairs, entries_pairs, tree}
-use Rattle.mst_node.specs.Shape.{with_entries}
-use Rattle.mst_node.specs.Trail.{by_order, nodes_met, met_in_gap}
-use Rattle.mst_node.specs.Cost.{same_bytes, top_entries, cost, weight}
-use Rattle.mst_node.proofs.UniqueTree.{pairs_tree}
-use Rattle.mst_change.specs.Parts.{cells, first_child, last_child, with_first, node_of, is_empty}
-use Rattle.mst_change.specs.Split.{below, entries_below, above, entries_above}
-use Rattle.mst_change.specs.Join.{join_node, join_first, join, join_last}
-use Rattle.mst_change.specs.Remove.{tree_remove, entries_remove}
-use Rattle.mst_change.specs.Cost.{side_rows, split_rows, gap_rows, put_among_rows, put_rows, put_gap_rows, put_cost, join_node_rows, join_first_rows, join_rows, join_last_rows, remove_rows, entries_remove_rows, remove_cost}
+use Rattle.mst_key.proofs.Alls.{alls-front}
+use Rattle.mst_node.specs.Trail.{nodes_met, met_in_gap}
 use Rattle.mst_change.proofs.Choices.{at_order, at_layers}
 use Rattle.mst_change.proofs.Parts.{seam_count, with_first_count}
 use Rattle.mst_change.proofs.Split.Pairs.{before_same, behind_same}

@@ -1,17 +1,8 @@
 -- The rows of the new nodes of a tree, counted along its structure.
-use Rattle.std.proofs.Common.{◌≡◌, ℕ, ◌+◌, ◌<◌, ◌==◌, ◌||◌, Bool, true, false, not, cond, List, ◌∷◌, ◌++◌, filter, refl, sym, ap, ◌∙◌, arith, inl, inr}
-use Rattle.std.specs.List.{sum_by}
-use Rattle.std.proofs.lemmas.Bool.Decides.{nat_tests}
-use Rattle.std.proofs.lemmas.Bool.{cond-true, cond-false}
-use Rattle.std.proofs.lemmas.List.Sums.{sum_by-cons, sum_by-append}
-use Rattle.std.proofs.lemmas.List.Elements.{filter-append}
-use Rattle.mst_key.specs.declared.format.Format.{Format}
-use Rattle.mst_node.specs.Tree.{Tree, empty, node, Entries, last, entry, entry_count}
-use Rattle.mst_node.specs.Shape.{with_entries}
-use Rattle.mst_node.specs.Cost.{subtrees, entries_subtrees, is_subtree, top_entries, new_rows}
-use Rattle.mst_change.specs.Parts.{cells, first_child, with_first, node_of}
-use Rattle.mst_change.specs.Cost.{side_rows}
-use Rattle.mst_node.proofs.InTrees.{InTree, InEntries, is_old, is_new}
+use Rattle.mst_change.proofs.Names.{◌≡◌, ℕ, ◌+◌, ◌<◌, ◌==◌, ◌||◌, Bool, true, false, not, cond, List, ◌∷◌, ◌++◌, filter, refl, sym, ap, ◌∙◌, arith, inl, inr, sum_by, nat_tests, cond-false, sum_by-cons, filter-append, Format, Tree, empty, node, Entries, last, entry, entry_count, with_entries, subtrees, is_subtree, top_entries, new_rows, cells, first_child, with_first, node_of, side_rows, InTree, InEntries, is_old, is_new}
+use Rattle.std.proofs.lemmas.Bool.{cond-true}
+use Rattle.std.proofs.lemmas.List.Sums.{sum_by-append}
+use Rattle.mst_node.specs.Cost.{entries_subtrees}
 
 abbrev mutual
   pub fresh : Tree → Tree → ℕ

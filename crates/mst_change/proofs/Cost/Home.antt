@@ -1,21 +1,9 @@
 -- Where a node stands in a tree: each key stands in one node, so a node is found again by any key
 -- of its own.
-use Rattle.std.proofs.Common.{◌≡◌, ℕ, ◌<◌, ◌≤◌, length, length-append, arith, ◌⊎◌, inl, inr, List, ◌∷◌, refl, sym, ap, subst, ◌∙◌, Less, Equal, Greater}
-use Rattle.std.specs.List.{AllByRecursion}
-use Rattle.mst_key.specs.declared.format.Format.{Format}
-use Rattle.mst_key.specs.Map.{Pair, key_cmp, IsAscending}
-use Rattle.mst_key.proofs.Alls.{alls-back}
-use Rattle.mst_key.proofs.KeyOrder.{equal_from_same, greater_from_less}
-use Rattle.mst_key.proofs.Splits.{IsAscending-below, IsAscending-above}
-use Rattle.mst_node.specs.Tree.{Tree, empty, node, Entries, last, entry, entry_count, pairs, entries_pairs}
-use Rattle.mst_node.specs.Shape.{with_entries}
-use Rattle.mst_node.specs.Trail.{by_order}
-use Rattle.mst_change.specs.Parts.{cells, first_child, with_first, node_of}
-use Rattle.mst_change.specs.Split.{below, entries_below, above, entries_above}
-use Rattle.mst_change.specs.Join.{join}
-use Rattle.mst_change.specs.Remove.{tree_remove, entries_remove}
+use Rattle.mst_change.proofs.Names.{◌≡◌, ℕ, ◌<◌, ◌≤◌, length, length-append, arith, inl, inr, List, ◌∷◌, refl, sym, ap, subst, ◌∙◌, Less, Equal, Greater, AllByRecursion, Format, Pair, key_cmp, IsAscending, alls-back, equal_from_same, greater_from_less, IsAscending-below, IsAscending-above, Tree, empty, node, Entries, last, entry, entry_count, pairs, entries_pairs, with_entries, by_order, cells, first_child, with_first, node_of, below, entries_below, above, entries_above, join, tree_remove, entries_remove, InTree, InEntries, pairs_hold}
+use Rattle.std.proofs.Common.{◌⊎◌}
 use Rattle.mst_change.proofs.Choices.{at_key}
-use Rattle.mst_node.proofs.InTrees.{InTree, InEntries, pairs_hold, entries_pairs_hold}
+use Rattle.mst_node.proofs.InTrees.{entries_pairs_hold}
 use Rattle.mst_change.proofs.Split.Trees.{rest_rises, child_rises}
 use Rattle.mst_change.proofs.Choices.{chosen}
 

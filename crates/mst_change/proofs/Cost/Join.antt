@@ -1,12 +1,5 @@
 -- What a join makes new.
-use Rattle.std.proofs.Common.{◌≡◌, ℕ, ◌+◌, ◌<◌, cond, List, ◌++◌, length, refl, sym, ap, ◌∙◌, arith, length-append}
-use Rattle.mst_key.specs.declared.format.Format.{Format}
-use Rattle.mst_key.specs.Map.{Pair, IsAscending}
-use Rattle.mst_node.specs.Tree.{Tree, empty, node, Entries, last, entry, entry_count, pairs, entries_pairs, IsMst, IsMstEntries}
-use Rattle.mst_node.specs.Shape.{with_entries}
-use Rattle.mst_change.specs.Parts.{cells, first_child, last_child, with_first}
-use Rattle.mst_change.specs.Join.{join_node, join_first, join, join_last}
-use Rattle.mst_change.specs.Cost.{join_node_rows, join_first_rows, join_rows, join_last_rows}
+use Rattle.mst_change.proofs.Names.{◌≡◌, ℕ, ◌+◌, ◌<◌, cond, List, ◌++◌, length, refl, sym, ap, ◌∙◌, arith, length-append, Format, Pair, IsAscending, Tree, empty, node, Entries, last, entry, entry_count, pairs, entries_pairs, IsMst, IsMstEntries, with_entries, cells, first_child, last_child, with_first, join_node, join_first, join, join_last, join_node_rows, join_first_rows, join_rows, join_last_rows}
 use Rattle.mst_change.proofs.Choices.{at_layers}
 use Rattle.mst_change.proofs.Parts.{seam_pairs, with_first_pairs, seam_count, with_first_count, first_mst}
 use Rattle.mst_change.proofs.Join.Trees.{join_last_pairs, join_first_pairs}

@@ -1,29 +1,13 @@
 -- What a put makes new.
-use Rattle.std.proofs.Common.{◌≡◌, ℕ, ◌+◌, ◌≤◌, false, cond, List, [], ◌∷◌, Option, Some, None, refl, sym, ap, subst, ◌∙◌, arith, true≢false}
-use Rattle.std.specs.List.{AllByRecursion}
-use Rattle.std.specs.Option.{option_map_or}
-use Rattle.std.proofs.lemmas.Bool.{cond_both}
-use Rattle.mst_key.specs.declared.format.Format.{Format}
-use Rattle.mst_key.specs.Layer.{layer_in}
-use Rattle.mst_key.specs.Map.{Pair, map_get, IsAscending}
+use Rattle.mst_change.proofs.Names.{◌≡◌, ℕ, ◌+◌, ◌≤◌, false, cond, List, [], ◌∷◌, Option, Some, None, refl, sym, ap, subst, ◌∙◌, arith, AllByRecursion, option_map_or, cond_both, Format, layer_in, Pair, map_get, IsAscending, alls-back, alls-weaker, Tree, empty, node, Entries, last, entry, entry_count, pairs, entries_pairs, tree, IsMst, IsMstEntries, with_entries, by_order, same_bytes, cost, new_rows, pairs_tree, tree_mst, cells, last_child, entries_below, entries_above, put_among, put_at, put_in_gap, tree_put, put_among_rows, put_rows, put_gap_rows, put_cost, InTree, pairs_hold}
+use Rattle.std.proofs.Common.{true≢false}
 use Rattle.mst_key.specs.Map as map
-use Rattle.mst_key.proofs.Alls.{alls-back, alls-weaker}
 use Rattle.mst_key.proofs.KeyOrder.{same_from_test, test_of_same}
 use Rattle.mst_key.proofs.MapLaws.{map_get-each, put-unchanged}
-use Rattle.mst_node.specs.Tree.{Tree, empty, node, Entries, last, entry, entry_count, pairs, entries_pairs, tree, IsMst, IsMstEntries}
-use Rattle.mst_node.specs.Shape.{with_entries}
-use Rattle.mst_node.specs.Trail.{by_order}
-use Rattle.mst_node.specs.Cost.{same_bytes, cost, new_rows}
-use Rattle.mst_node.proofs.UniqueTree.{pairs_tree, tree_mst}
-use Rattle.mst_change.specs.Parts.{cells, last_child}
-use Rattle.mst_change.specs.Split.{entries_below, entries_above}
-use Rattle.mst_change.specs.Put.{put_among, put_at, put_in_gap, tree_put}
-use Rattle.mst_change.specs.Cost.{put_among_rows, put_rows, put_gap_rows, put_cost}
 use Rattle.mst_change.proofs.Choices.{at_key, at_order, at_layers}
 use Rattle.mst_change.proofs.Split.Pairs.{lesser, greater}
 use Rattle.mst_change.proofs.Split.Trees.{rest_rises, child_rises}
 use Rattle.mst_change.proofs.Put.Trees.{put_among_pairs, put_at_pairs, put_in_gap_pairs, put_at_mst, put_tree}
-use Rattle.mst_node.proofs.InTrees.{InTree, pairs_hold}
 use Rattle.mst_change.proofs.Cost.Fresh.{fresh, fresh_in, new_rows_fresh, Stands, StandIn, stands_itself, entries_stand, child_stands, rest_stands, fresh_none, fresh_in_none, fresh_node}
 use Rattle.mst_change.proofs.Cost.Split.{same_from_pairs, gap_fresh}
 

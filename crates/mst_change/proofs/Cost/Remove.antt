@@ -1,26 +1,14 @@
 -- What a remove makes new.
-use Rattle.std.proofs.Common.{◌≡◌, ℕ, ◌<◌, false, List, [], ◌∷◌, ◌++◌, Option, Some, None, refl, sym, ap, subst, ◌∙◌, arith, append_assoc, Less}
-use Rattle.std.specs.Option.{option_map_or}
-use Rattle.mst_key.specs.declared.format.Format.{Format}
-use Rattle.mst_key.specs.Map.{Pair, key_cmp, map_get, AllBelow, IsAscending}
+use Rattle.mst_change.proofs.Names.{◌≡◌, ℕ, ◌<◌, false, List, [], ◌∷◌, ◌++◌, Option, Some, None, refl, sym, ap, subst, ◌∙◌, arith, append_assoc, Less, option_map_or, Format, Pair, key_cmp, map_get, AllBelow, IsAscending, Tree, empty, node, Entries, last, entry, entry_count, pairs, entries_pairs, tree, IsMst, IsMstEntries, by_order, is_subtree, cost, new_rows, pairs_tree, tree_mst, node_of, first_child, with_first, join, tree_remove, entries_remove, join_rows, remove_rows, entries_remove_rows, remove_cost, InTree, is_new}
 use Rattle.mst_key.specs.Map as map
 use Rattle.mst_key.proofs.Alls.{alls-append}
 use Rattle.mst_key.proofs.MapLaws.{map_get-remove_same, remove-unchanged}
 use Rattle.mst_key.proofs.Splits.{map_get-left, map_get-right}
-use Rattle.mst_node.specs.Tree.{Tree, empty, node, Entries, last, entry, entry_count, pairs, entries_pairs, tree, IsMst, IsMstEntries}
-use Rattle.mst_node.specs.Trail.{by_order}
-use Rattle.mst_node.specs.Cost.{is_subtree, cost, new_rows}
-use Rattle.mst_node.proofs.UniqueTree.{pairs_tree, tree_mst}
-use Rattle.mst_change.specs.Parts.{node_of, first_child, with_first}
-use Rattle.mst_change.specs.Join.{join}
-use Rattle.mst_change.specs.Remove.{tree_remove, entries_remove}
-use Rattle.mst_change.specs.Cost.{join_rows, remove_rows, entries_remove_rows, remove_cost}
 use Rattle.mst_change.proofs.Choices.{at_order}
 use Rattle.mst_change.proofs.Parts.{node_of_pairs, first_mst}
 use Rattle.mst_change.proofs.Split.Pairs.{behind_above, before_below}
 use Rattle.mst_change.proofs.Split.Trees.{rest_rises, child_rises}
 use Rattle.mst_change.proofs.Remove.Trees.{remove_pairs, remove_mst, entries_remove_pairs, removed_tree}
-use Rattle.mst_node.proofs.InTrees.{InTree, is_new}
 use Rattle.mst_change.proofs.Cost.Home.{new_by_key, some_key, node_of_key, remove_key}
 use Rattle.mst_change.proofs.Cost.Fresh.{fresh, fresh_in, new_rows_fresh, Stands, StandIn, stands_itself, entries_stand, node_stands, child_stands, rest_stands, first_stands, fresh_none, fresh_in_none, fresh_side, fresh_first}
 use Rattle.mst_change.proofs.Cost.Split.{same_from_pairs}

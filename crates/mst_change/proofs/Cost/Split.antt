@@ -1,25 +1,14 @@
 -- What a split makes new.
-use Rattle.std.proofs.Common.{◌≡◌, ◌≢◌, ℕ, ◌+◌, ◌<◌, ◌≤◌, List, [], ◌++◌, length, None, refl, sym, ap, subst, ◌∙◌, arith, length-append}
-use Rattle.std.proofs.lemmas.List.{append-nil}
-use Rattle.mst_key.specs.declared.format.Format.{Format}
-use Rattle.mst_key.specs.Layer.{layer_in}
-use Rattle.mst_key.specs.Map.{Pair, map_get, IsAscending}
-use Rattle.mst_key.proofs.Alls.{alls-weaker}
+use Rattle.mst_change.proofs.Names.{◌≡◌, ℕ, ◌+◌, ◌<◌, ◌≤◌, List, [], ◌++◌, length, None, refl, sym, ap, subst, ◌∙◌, arith, length-append, append-nil, Format, layer_in, Pair, map_get, IsAscending, alls-weaker, Tree, empty, node, Entries, last, entry, entry_count, pairs, entries_pairs, tree, IsUnder, IsMst, IsMstEntries, by_order, is_subtree, tree_unique, node_of, is_empty, below, entries_below, above, entries_above, split_rows, gap_rows, InTree, is_old, is_new}
+use Rattle.std.proofs.Common.{◌≢◌}
 use Rattle.mst_key.proofs.MapLaws.{map_get-absent}
 use Rattle.mst_key.proofs.Splits.{parts_absent}
-use Rattle.mst_node.specs.Tree.{Tree, empty, node, Entries, last, entry, entry_count, pairs, entries_pairs, tree, IsUnder, IsMst, IsMstEntries}
-use Rattle.mst_node.specs.Trail.{by_order}
-use Rattle.mst_node.specs.Cost.{is_subtree}
 use Rattle.mst_node.proofs.TreeEquation.{tree-no_pairs}
-use Rattle.mst_node.proofs.UniqueTree.{tree_unique, keys_under}
-use Rattle.mst_change.specs.Parts.{node_of, is_empty}
-use Rattle.mst_change.specs.Split.{below, entries_below, above, entries_above}
-use Rattle.mst_change.specs.Cost.{split_rows, gap_rows}
+use Rattle.mst_node.proofs.UniqueTree.{keys_under}
 use Rattle.mst_change.proofs.Choices.{at_order}
 use Rattle.mst_change.proofs.Parts.{under_weaker}
 use Rattle.mst_change.proofs.Split.Pairs.{lesser, greater}
 use Rattle.mst_change.proofs.Split.Trees.{rest_rises, child_rises, below_pairs, above_pairs, below_mst, above_mst}
-use Rattle.mst_node.proofs.InTrees.{InTree, is_old, is_new}
 use Rattle.mst_change.proofs.Cost.Home.{some_key, node_of_key, below_key, above_key, one_home}
 use Rattle.mst_change.proofs.Cost.Fresh.{fresh, fresh_in, Stands, StandIn, entries_stand, node_stands, child_stands, rest_stands, fresh_none, fresh_in_none, fresh_side}
 

@@ -1,11 +1,5 @@
 -- One step of a join, by the layers of the two nodes.
-use Rattle.std.proofs.Common.{◌≡◌, ℕ, ◌+◌, ◌<◌, refl, ap, ◌∙◌}
-use Rattle.mst_key.specs.declared.format.Format.{Format}
-use Rattle.mst_node.specs.Tree.{Tree, empty, node, Entries, last, entry, entry_count}
-use Rattle.mst_node.specs.Shape.{with_entries}
-use Rattle.mst_change.specs.Parts.{cells, first_child, last_child, with_first}
-use Rattle.mst_change.specs.Join.{join_node, join_first, join, join_last}
-use Rattle.mst_change.specs.Cost.{join_node_rows, join_first_rows, join_rows, join_last_rows}
+use Rattle.mst_change.proofs.Names.{◌≡◌, ℕ, ◌+◌, ◌<◌, refl, ap, ◌∙◌, Format, Tree, empty, node, Entries, last, entry, entry_count, with_entries, cells, first_child, last_child, with_first, join_node, join_first, join, join_last, join_node_rows, join_first_rows, join_rows, join_last_rows}
 use Rattle.mst_change.proofs.Choices.{chosen_higher, chosen_lower, chosen_level}
 
 pub join_last_is : (es : Entries) (b : Tree) → join_last es b ≡ join (last_child es) b

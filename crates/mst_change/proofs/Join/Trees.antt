@@ -1,11 +1,5 @@
 -- Two trees joined: a search tree, with the pairs of the one and then those of the other.
-use Rattle.std.proofs.Common.{◌≡◌, ℕ, ◌<◌, ◌++◌, refl, sym, subst, arith}
-use Rattle.std.proofs.lemmas.List.{append-nil}
-use Rattle.mst_key.specs.declared.format.Format.{Format}
-use Rattle.mst_node.specs.Tree.{Tree, empty, node, Entries, last, entry, entry_count, pairs, entries_pairs, IsUnder, IsMst, IsMstEntries}
-use Rattle.mst_node.specs.Shape.{with_entries}
-use Rattle.mst_change.specs.Parts.{cells, first_child, last_child, with_first}
-use Rattle.mst_change.specs.Join.{join_node, join_first, join, join_last}
+use Rattle.mst_change.proofs.Names.{◌≡◌, ℕ, ◌<◌, ◌++◌, refl, sym, subst, arith, append-nil, Format, Tree, empty, node, Entries, last, entry, entry_count, pairs, entries_pairs, IsUnder, IsMst, IsMstEntries, with_entries, cells, first_child, last_child, with_first, join_node, join_first, join, join_last}
 use Rattle.mst_change.proofs.Choices.{at_layer}
 use Rattle.mst_change.proofs.Parts.{seam_pairs, seam_mst, seam_count, with_first_pairs, with_first_mst, first_mst}
 

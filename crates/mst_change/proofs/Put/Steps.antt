@@ -1,14 +1,5 @@
 -- One node of a put, by its layer and by where the key stands among its entries.
-use Rattle.std.proofs.Common.{◌≡◌, ℕ, ◌+◌, ◌<◌, List, ap, ◌∙◌, arith}
-use Rattle.mst_key.specs.declared.format.Format.{Format}
-use Rattle.mst_key.proofs.KeyOrder.{key_cmp-itself}
-use Rattle.mst_node.specs.Tree.{Tree, node, Entries, last, entry, entry_count}
-use Rattle.mst_node.specs.Shape.{TreeEntry, with_entries}
-use Rattle.mst_change.specs.Parts.{first_child, with_first}
-use Rattle.mst_change.specs.Split.{below, above}
-use Rattle.mst_change.specs.Put.{put_among, put_at, put_in_gap}
-use Rattle.mst_change.specs.Cost.{split_rows, gap_rows, put_among_rows, put_rows, put_gap_rows}
-use Rattle.mst_change.specs.Gap.{IsGap, IsAt}
+use Rattle.mst_change.proofs.Names.{◌≡◌, ℕ, ◌+◌, ◌<◌, List, ap, ◌∙◌, arith, Format, key_cmp-itself, Tree, node, Entries, last, entry, entry_count, TreeEntry, with_entries, first_child, with_first, below, above, put_among, put_at, put_in_gap, split_rows, gap_rows, put_among_rows, put_rows, put_gap_rows, IsGap, IsAt}
 use Rattle.mst_change.proofs.Parts.{with_first_count, with_entries_count}
 use Rattle.mst_change.proofs.Gaps.{cut_put_among, cut_put_gap, cut_put_gap_rows, cut_gap_rows, gap_put_among, gap_put, gap_put_rows, found_put_among, found_gap_rows}
 use Rattle.mst_change.proofs.Split.Steps.{gap_split_rows, gap_count}

@@ -1,15 +1,7 @@
 -- The tree after a put: it is a search tree, with the pairs of the new map.
-use Rattle.std.proofs.Common.{◌≡◌, ℕ, ◌<◌, List, [], ◌∷◌, ◌++◌, refl, sym, ap, subst, ◌∙◌, arith}
-use Rattle.mst_key.specs.declared.format.Format.{Format}
-use Rattle.mst_key.specs.Layer.{layer_in}
-use Rattle.mst_key.specs.Map.{Pair, IsAscending}
+use Rattle.mst_change.proofs.Names.{◌≡◌, ℕ, ◌<◌, List, [], ◌∷◌, ◌++◌, refl, sym, ap, subst, ◌∙◌, arith, Format, layer_in, Pair, IsAscending, Tree, empty, node, Entries, last, entry, entry_count, pairs, entries_pairs, IsUnder, IsMst, IsMstEntries, tree, pairs_tree, tree_unique, tree_mst, last_child, entries_below, entries_above, put_among, put_at, put_in_gap, tree_put}
 use Rattle.mst_key.specs.Map as map
 use Rattle.mst_key.proofs.Splits.{put-left, put-right, put-at}
-use Rattle.mst_node.specs.Tree.{Tree, empty, node, Entries, last, entry, entry_count, pairs, entries_pairs, IsUnder, IsMst, IsMstEntries, tree}
-use Rattle.mst_node.proofs.UniqueTree.{pairs_tree, tree_unique, tree_mst}
-use Rattle.mst_change.specs.Parts.{last_child}
-use Rattle.mst_change.specs.Split.{entries_below, entries_above}
-use Rattle.mst_change.specs.Put.{put_among, put_at, put_in_gap, tree_put}
 use Rattle.mst_change.proofs.Choices.{at_key, at_layer}
 use Rattle.mst_change.proofs.Parts.{seam_pairs, seam_mst, seam_count, last_mst}
 use Rattle.mst_change.proofs.Split.Pairs.{lesser, behind_above, before_below, before_same, behind_same, equal_same}

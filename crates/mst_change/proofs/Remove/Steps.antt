@@ -1,14 +1,5 @@
 -- One node of a remove, by where the key stands among its entries.
-use Rattle.std.proofs.Common.{◌≡◌, ℕ, ◌+◌, List, length, false, ap, ◌∙◌, arith}
-use Rattle.mst_key.specs.declared.format.Format.{Format}
-use Rattle.mst_key.proofs.KeyOrder.{key_cmp-itself}
-use Rattle.mst_node.specs.Tree.{Tree, node, Entries, entry, entry_count}
-use Rattle.mst_node.specs.Shape.{TreeEntry, with_entries}
-use Rattle.mst_change.specs.Parts.{first_child, with_first, node_of}
-use Rattle.mst_change.specs.Join.{join}
-use Rattle.mst_change.specs.Remove.{tree_remove, entries_remove}
-use Rattle.mst_change.specs.Cost.{side_rows, join_rows, remove_rows, entries_remove_rows}
-use Rattle.mst_change.specs.Gap.{IsGap, IsAt}
+use Rattle.mst_change.proofs.Names.{◌≡◌, ℕ, ◌+◌, List, length, false, ap, ◌∙◌, arith, Format, key_cmp-itself, Tree, node, Entries, entry, entry_count, TreeEntry, with_entries, first_child, with_first, node_of, join, tree_remove, entries_remove, side_rows, join_rows, remove_rows, entries_remove_rows, IsGap, IsAt}
 use Rattle.mst_change.proofs.Parts.{with_first_count, with_entries_count}
 use Rattle.mst_change.proofs.Gaps.{cut_remove, cut_remove_rows, gap_remove, gap_remove_rows, found_remove, found_remove_rows}
 use Rattle.mst_change.proofs.Split.Steps.{gap_count}

@@ -1,14 +1,7 @@
 -- The tree after a remove: it is a search tree, with the pairs of the new map.
-use Rattle.std.proofs.Common.{◌≡◌, ℕ, List, [], ◌∷◌, ◌++◌, refl, sym, ap, subst, ◌∙◌}
-use Rattle.mst_key.specs.declared.format.Format.{Format}
-use Rattle.mst_key.specs.Map.{Pair, IsAscending}
+use Rattle.mst_change.proofs.Names.{◌≡◌, ℕ, List, [], ◌∷◌, ◌++◌, refl, sym, ap, subst, ◌∙◌, Format, Pair, IsAscending, Tree, empty, node, Entries, last, entry, pairs, entries_pairs, IsUnder, IsMst, IsMstEntries, tree, pairs_tree, tree_unique, tree_mst, first_child, with_first, join, tree_remove, entries_remove}
 use Rattle.mst_key.specs.Map as map
 use Rattle.mst_key.proofs.Splits.{remove-left, remove-right, remove-at}
-use Rattle.mst_node.specs.Tree.{Tree, empty, node, Entries, last, entry, pairs, entries_pairs, IsUnder, IsMst, IsMstEntries, tree}
-use Rattle.mst_node.proofs.UniqueTree.{pairs_tree, tree_unique, tree_mst}
-use Rattle.mst_change.specs.Parts.{first_child, with_first}
-use Rattle.mst_change.specs.Join.{join}
-use Rattle.mst_change.specs.Remove.{tree_remove, entries_remove}
 use Rattle.mst_change.proofs.Choices.{at_key}
 use Rattle.mst_change.proofs.Parts.{node_of_pairs, node_of_mst, node_of_under, with_first_pairs, with_first_mst, first_mst}
 use Rattle.mst_change.proofs.Split.Pairs.{behind_above, before_below, before_same, behind_same, equal_same}

@@ -1,12 +1,8 @@
 -- A list of pairs cut at a key: the pairs below it, and the pairs above it.
-use Rattle.std.proofs.Common.{◌≡◌, ℕ, List, [], ◌∷◌, ◌++◌, filter, sym, ap, subst, ◌∙◌, Less, Equal, is_lt, is_gt}
-use Rattle.std.proofs.lemmas.Bool.{cond-false}
-use Rattle.std.proofs.lemmas.List.{append-nil}
-use Rattle.std.proofs.lemmas.List.Elements.{filter-append}
-use Rattle.mst_key.specs.Map.{Pair, key_cmp, AllBelow, AllAbove, IsAscending}
-use Rattle.mst_key.proofs.KeyOrder.{equal_from_same}
+use Rattle.mst_change.proofs.Names.{◌≡◌, ℕ, List, [], ◌∷◌, ◌++◌, filter, sym, ap, subst, ◌∙◌, Less, Equal, cond-false, append-nil, filter-append, Pair, key_cmp, AllBelow, AllAbove, IsAscending, equal_from_same, IsAscending-below, IsAscending-above}
+use Rattle.std.proofs.Common.{is_lt, is_gt}
 use Rattle.mst_key.proofs.MapLaws.{AllAbove-less, AllBelow-less}
-use Rattle.mst_key.proofs.Splits.{below-kept, below-dropped, above-kept, above-dropped, IsAscending-below, IsAscending-above}
+use Rattle.mst_key.proofs.Splits.{below-kept, below-dropped, above-kept, above-dropped}
 
 abbrev pub lesser : List ℕ → List Pair → List Pair
 lesser k m = filter (λ p. is_lt (key_cmp p.0 k)) m

@@ -1,12 +1,5 @@
 -- One node of a split: the key falls into the gap between some cells and the entries after them.
-use Rattle.std.proofs.Common.{◌≡◌, ℕ, ◌+◌, ◌==◌, ◌&&◌, List, length, ap, ◌∙◌, arith}
-use Rattle.mst_key.specs.declared.format.Format.{Format}
-use Rattle.mst_node.specs.Tree.{Tree, node, Entries, last, entry_count}
-use Rattle.mst_node.specs.Shape.{TreeEntry, with_entries}
-use Rattle.mst_change.specs.Parts.{first_child, with_first, node_of, is_empty}
-use Rattle.mst_change.specs.Split.{below, entries_below, above, entries_above}
-use Rattle.mst_change.specs.Cost.{side_rows, split_rows, gap_rows}
-use Rattle.mst_change.specs.Gap.{IsGap}
+use Rattle.mst_change.proofs.Names.{◌≡◌, ℕ, ◌+◌, ◌==◌, ◌&&◌, List, length, ap, ◌∙◌, arith, Format, Tree, node, Entries, last, entry_count, TreeEntry, with_entries, first_child, with_first, node_of, is_empty, below, entries_below, above, entries_above, side_rows, split_rows, gap_rows, IsGap}
 use Rattle.mst_change.proofs.Parts.{with_first_count, with_entries_count, node_of_empty, first_child-with}
 use Rattle.mst_change.proofs.Gaps.{cut_below, cut_above, cut_gap_rows, gap_below, gap_above, gap_gap_rows}
 

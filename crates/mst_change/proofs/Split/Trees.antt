@@ -1,11 +1,7 @@
 -- The parts of a tree below and above a key: they are search trees, with the pairs below and above
 -- it.
-use Rattle.std.proofs.Common.{◌≡◌, ℕ, List, [], ◌∷◌, ◌++◌, refl, sym, ap, ◌∙◌}
-use Rattle.mst_key.specs.declared.format.Format.{Format}
-use Rattle.mst_key.specs.Map.{Pair, IsAscending}
+use Rattle.mst_change.proofs.Names.{◌≡◌, ℕ, List, [], ◌∷◌, ◌++◌, refl, sym, ap, ◌∙◌, Format, Pair, IsAscending, Tree, empty, node, Entries, last, entry, pairs, entries_pairs, IsUnder, IsMst, IsMstEntries, below, entries_below, above, entries_above}
 use Rattle.mst_key.proofs.Splits.{IsAscending-front, IsAscending-back}
-use Rattle.mst_node.specs.Tree.{Tree, empty, node, Entries, last, entry, pairs, entries_pairs, IsUnder, IsMst, IsMstEntries}
-use Rattle.mst_change.specs.Split.{below, entries_below, above, entries_above}
 use Rattle.mst_change.proofs.Choices.{at_key}
 use Rattle.mst_change.proofs.Parts.{node_of_pairs, node_of_mst, node_of_under}
 use Rattle.mst_change.proofs.Split.Pairs.{lesser, greater, lesser_before, lesser_same, lesser_behind, greater_before, greater_same, greater_behind}

@@ -1,5 +1,4 @@
-use Rattle.std.proofs.Common.{◌≡◌, ◌≤◌, ◌<◌, ◌-◌, ℕ}
-use Rattle.mst_arena.specs.Bits.{bit}
+use Rattle.mst_arena.proofs.Names.{◌≡◌, ◌≤◌, ◌<◌, ◌-◌, ℕ, bit}
 use Rattle.mst_arena.proofs.bits.are_set.Given as goal
 
 abbrev pub invariant-loop-next : goal.invariant-loop-next

@@ -1,7 +1,4 @@
-use Rattle.std.proofs.Common.{◌<◌, arith, rules}
-use Rattle.std.proofs.lemmas.Grind.{common_steps}
-use Rattle.std.specs.Prelude.{slice_index}
-use Rattle.std.specs.Int.{w64, trailing_zeros}
+use Rattle.mst_arena.proofs.Names.{◌<◌, arith, rules, common_steps, slice_index, w64, trailing_zeros}
 use Rattle.mst_arena.proofs.BitLemmas.{bit_of_lowest, lowest_lt, word_within}
 use Rattle.mst_arena.proofs.bits.bit_in_use.Goals as goal
 

@@ -1,4 +1,4 @@
-use Rattle.std.proofs.Common.{arith}
+use Rattle.mst_arena.proofs.Names.{arith}
 use Rattle.mst_arena.proofs.BitLemmas.{clear_from_on, clear_there, lowest_clear_le, set_below_clear}
 use Rattle.mst_arena.proofs.bits.clear_from.Goals as goal
 

@@ -1,6 +1,4 @@
-use Rattle.std.proofs.Common.{◌≡◌, ◌∙◌, ◌/◌, ◌%◌, ◌*◌, ◌<◌, ◌^◌, ap, arith}
-use Rattle.std.specs.Prelude.{slice_index}
-use Rattle.std.specs.Int.{bit_at}
+use Rattle.mst_arena.proofs.Names.{◌≡◌, ◌∙◌, ◌/◌, ◌%◌, ◌*◌, ◌<◌, ◌^◌, ap, arith, slice_index, bit_at}
 use Rattle.std.proofs.lemmas.Nat.{and_le_l}
 use Rattle.mst_arena.proofs.BitLemmas.{bit_of_lowest, lowest_lt, from_bit, masked_bit, masked_none}
 use Rattle.mst_arena.proofs.bits.next_bit.Goals as goal

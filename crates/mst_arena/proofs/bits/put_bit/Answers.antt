@@ -1,9 +1,4 @@
-use Rattle.std.proofs.Common.{◌≡◌, ◌≢◌, ℕ, ◌/◌, ◌%◌, ◌⊎◌, inl, inr, List, sym, ◌∙◌, ap, arith, rules}
-use Rattle.std.specs.Prelude.{slice_index}
-use Rattle.std.specs.Int.{bit_at}
-use Rattle.std.proofs.lemmas.Bool.{cases_eq}
-use Rattle.std.proofs.lemmas.Nat.Bits.{bit_at-zero}
-use Rattle.mst_arena.specs.Bits.{bit, BitWritten, Sums}
+use Rattle.mst_arena.proofs.Names.{◌≡◌, ◌≢◌, ℕ, ◌/◌, ◌%◌, ◌⊎◌, inl, inr, List, sym, ◌∙◌, ap, arith, rules, slice_index, bit_at, cases_eq, bit_at-zero, bit, BitWritten, Sums}
 use Rattle.mst_arena.proofs.bits.put_bit.Goals as goal
 
 -- a bit set in the words and in their summary

@@ -1,8 +1,4 @@
-use Rattle.std.proofs.Common.{◌∙◌, ◌/◌, ◌%◌, refl, arith}
-use Rattle.std.specs.Prelude.{slice_index}
-use Rattle.std.specs.Int.{w64}
-use Rattle.std.proofs.Math.ListN.{length-set}
-use Rattle.std.proofs.lemmas.List.{get_or-set_other}
+use Rattle.mst_arena.proofs.Names.{◌∙◌, ◌/◌, ◌%◌, refl, arith, slice_index, w64, length-set, get_or-set_other}
 use Rattle.std.proofs.lemmas.Nat.Bits.{bit_at_set_same, bit_at_set_other}
 use Rattle.mst_arena.proofs.BitLemmas.{bit_written, other_bits}
 use Rattle.mst_arena.proofs.bits.set_bit.Goals as goal

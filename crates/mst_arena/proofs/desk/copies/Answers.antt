@@ -1,5 +1,4 @@
-use Rattle.std.proofs.Common.{◌≡◌, ℕ, ◌+◌, List, [], ◌∷◌, ◌++◌, ◌∙◌, ap, arith, replicate}
-use Rattle.std.proofs.lemmas.List.{replicate_more}
+use Rattle.mst_arena.proofs.Names.{◌≡◌, ℕ, ◌+◌, List, [], ◌∷◌, ◌++◌, ◌∙◌, ap, arith, replicate, replicate_more}
 use Rattle.mst_arena.proofs.desk.copies.Goals as goal
 
 pub loop-preserved : goal.loop-preserved

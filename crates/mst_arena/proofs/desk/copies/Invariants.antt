@@ -1,4 +1,4 @@
-use Rattle.std.proofs.Common.{◌≡◌, replicate, vec_capacity, vec_len}
+use Rattle.mst_arena.proofs.Names.{◌≡◌, replicate, vec_capacity, vec_len}
 use Rattle.mst_arena.proofs.desk.copies.Given as goal
 
 abbrev pub invariant-loop : goal.invariant-loop

@@ -1,7 +1,6 @@
-use Rattle.std.proofs.Common.{◌≡◌, ◌++◌, ◌∙◌, ◌%◌, ◌/◌, take, subst}
-use Rattle.mst_node.specs.Text.{child_text, counted, held_of, held_text}
+use Rattle.mst_arena.proofs.Names.{◌≡◌, ◌++◌, ◌∙◌, ◌%◌, ◌/◌, take, subst, child_text, counted, bytes_in}
+use Rattle.mst_node.specs.Text.{held_of, held_text}
 use Rattle.mst_prefix.specs.Kept.{HasTaken}
-use Rattle.mst_arena.specs.Words.{bytes_in}
 use Rattle.mst_arena.proofs.Readers.{four_bytes, eight_bytes}
 use Rattle.mst_arena.proofs.entry_words.hash_copied.Goals as goal
 

@@ -1,4 +1,4 @@
-use Rattle.std.proofs.Common.{◌++◌, ◌∙◌, length, take, ap, arith}
+use Rattle.mst_arena.proofs.Names.{◌++◌, ◌∙◌, length, take, ap, arith}
 use Rattle.mst_arena.proofs.EntryWords.{laid}
 use Rattle.mst_arena.proofs.entry_words.lay.Goals as goal
 

@@ -1,6 +1,4 @@
-use Rattle.std.proofs.Common.{rules, ◌++◌, ◌∷◌, ◌∙◌, List, ℕ, take, ap, sym}
-use Rattle.std.proofs.lemmas.List.{take_all}
-use Rattle.mst_node.specs.Text.{child_text}
+use Rattle.mst_arena.proofs.Names.{rules, ◌++◌, ◌∷◌, ◌∙◌, List, ℕ, take, ap, sym, take_all, child_text}
 use Rattle.mst_arena.proofs.entry_words.lay_child.Goals as goal
 
 pub returns-in-Some-clause-text : goal.returns-in-Some-clause-text

@@ -1,8 +1,5 @@
-use Rattle.std.proofs.Common.{◌≡◌, ◌++◌, ◌∷◌, [], ◌∙◌, ◌%◌, ◌/◌, List, ℕ, length, take, ap, subst, arith}
-use Rattle.mst_node.specs.Text.{child_text, counted}
-use Rattle.mst_arena.specs.Words.{byte_of_words, bytes_in}
+use Rattle.mst_arena.proofs.Names.{◌≡◌, ◌++◌, ◌∷◌, [], ◌∙◌, ◌%◌, ◌/◌, List, ℕ, length, take, ap, subst, arith, child_text, counted, byte_of_words, bytes_in, length-map-range_with_len}
 use Rattle.mst_arena.proofs.Readers.{four_bytes, eight_bytes}
-use Rattle.std.proofs.lemmas.List.FromFn.{length-map-range_with_len}
 use Rattle.mst_arena.proofs.EntryWords.{entry_laid, behind_all}
 use Rattle.mst_arena.proofs.entry_words.take_words.Goals as goal
 

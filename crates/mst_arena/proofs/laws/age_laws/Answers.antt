@@ -1,6 +1,5 @@
-use Rattle.std.proofs.Common.{length, sym, ◌∙◌}
+use Rattle.mst_arena.proofs.Names.{length, sym, ◌∙◌, tree_of}
 use Rattle.mst_key.specs.History.{format_after}
-use Rattle.mst_arena.specs.Standing.{tree_of}
 use Rattle.mst_arena.proofs.AgeLaws.{stood_at, lasted}
 use Rattle.mst_arena.proofs.laws.age_laws.Goals as goal
 

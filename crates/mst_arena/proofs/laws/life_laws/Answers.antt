@@ -1,5 +1,4 @@
-use Rattle.std.proofs.Common.{sym, ◌∙◌, ap}
-use Rattle.mst_arena.specs.declared.life.Life.TheVariants.{Free, Born, Dead}
+use Rattle.mst_arena.proofs.Names.{sym, ◌∙◌, ap, Free, Born, Dead}
 use Rattle.mst_arena.specs.Lives.{reached_at}
 use Rattle.mst_arena.proofs.Reach.{same_set, same_sweep, born_later, dies_later, died, born_on, dead_from, reach_set, reach_else, reach_swept}
 use Rattle.mst_arena.proofs.laws.life_laws.Goals as goal

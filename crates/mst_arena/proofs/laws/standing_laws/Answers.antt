@@ -1,7 +1,6 @@
-use Rattle.std.proofs.Common.{◌≡◌, ◌∙◌, sym, ap}
+use Rattle.mst_arena.proofs.Names.{◌≡◌, ◌∙◌, sym, ap, tree_of, rows_of, used}
 use Rattle.mst_node.specs.Tree.{tree, pairs}
 use Rattle.mst_node.proofs.UniqueTree.{pairs_tree}
-use Rattle.mst_arena.specs.Standing.{tree_of, rows_of, used}
 use Rattle.mst_arena.proofs.Stands.{one_placed, placed_frame, same_of_write, all-append}
 use Rattle.mst_arena.proofs.laws.standing_laws.Goals as goal
 

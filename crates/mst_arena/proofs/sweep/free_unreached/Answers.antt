@@ -1,11 +1,5 @@
-use Rattle.std.proofs.Common.{◌≡◌, List, ℕ, [], length, get_or, sym, ◌∙◌, subst, arith, Some}
-use Rattle.std.proofs.Math.ListN.{set, length-set}
-use Rattle.std.proofs.lemmas.Option.{slice_get-get_or}
-use Rattle.std.proofs.lemmas.Bool.{and_parts}
-use Rattle.std.proofs.lemmas.List.{append-nil}
-use Rattle.std.specs.Prelude.{slice_get}
-use Rattle.mst_arena.specs.declared.life.Life.TheVariants.{Free}
-use Rattle.mst_arena.specs.Lives.{swept_life}
+use Rattle.mst_arena.proofs.Names.{◌≡◌, List, ℕ, [], length, get_or, sym, ◌∙◌, subst, arith, Some, length-set, slice_get-get_or, and_parts, append-nil, slice_get, Free, swept_life}
+use Rattle.std.proofs.Math.ListN.{set}
 use Rattle.mst_arena.proofs.SweepLemmas.{Sweeping, sweep_end, dead_there, not_free, sweep_free, sweep_keep, older_free, older_keep, stays_dead, held_room, length_nil}
 use Rattle.mst_arena.proofs.sweep.free_unreached.Goals as goal
 

@@ -1,5 +1,4 @@
-use Rattle.std.proofs.Common.{◌≡◌, ◌≤◌, ◌-◌, true, take, length, vec_len, vec_capacity}
-use Rattle.mst_arena.specs.Lists.{AllReached}
+use Rattle.mst_arena.proofs.Names.{◌≡◌, ◌≤◌, ◌-◌, true, take, length, vec_len, vec_capacity, AllReached}
 use Rattle.mst_arena.proofs.SweepLemmas.{Sweeping}
 use Rattle.mst_arena.proofs.sweep.free_unreached.Given as goal
 

@@ -1,6 +1,6 @@
-use Rattle.std.proofs.Common.{◌≡◌, ◌∙◌, true, false, rules, of_calls, arith}
-use Rattle.std.specs.Prelude.{nat_lt, length}
-use Rattle.std.proofs.lemmas.Bool.Decides.{nat_tests}
+use Rattle.mst_arena.proofs.Names.{◌≡◌, ◌∙◌, true, false, rules, arith, nat_lt, nat_tests}
+use Rattle.std.proofs.Common.{of_calls}
+use Rattle.std.specs.Prelude.{length}
 use Rattle.std.proofs.lemmas.List.Sorted.{IsPartitionPoint-from_clause, IsPartitionedBy-ltb}
 use Rattle.mst_arena.proofs.Rising.{first_decides}
 use Rattle.mst_arena.proofs.sweep.is_reached.Goals as goal

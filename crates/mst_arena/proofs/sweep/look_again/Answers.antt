@@ -1,5 +1,4 @@
-use Rattle.std.proofs.Common.{ap, arith, rules}
-use Rattle.mst_arena.specs.Lists.{times}
+use Rattle.mst_arena.proofs.Names.{ap, arith, rules, times}
 use Rattle.mst_arena.proofs.ListLemmas.{times-append}
 use Rattle.mst_arena.proofs.sweep.look_again.Goals as goal
 

@@ -1,5 +1,4 @@
-use Rattle.std.proofs.Common.{◌≡◌, ◌++◌, ◌∷◌, [], ◌∙◌, ap, arith}
-use Rattle.mst_arena.specs.Lists.{times}
+use Rattle.mst_arena.proofs.Names.{◌≡◌, ◌++◌, ◌∷◌, [], ◌∙◌, ap, arith, times}
 use Rattle.mst_arena.proofs.ListLemmas.{times-append}
 use Rattle.mst_arena.proofs.sweep.move_all.Goals as goal
 

@@ -1,5 +1,4 @@
-use Rattle.std.proofs.Common.{◌≡◌, ◌+◌, ◌≤◌, ℕ, vec_len, vec_capacity}
-use Rattle.mst_arena.specs.Lists.{times}
+use Rattle.mst_arena.proofs.Names.{◌≡◌, ◌+◌, ◌≤◌, ℕ, vec_len, vec_capacity, times}
 use Rattle.mst_arena.proofs.sweep.move_all.Given as goal
 
 abbrev pub invariant-loop-row : goal.invariant-loop-row

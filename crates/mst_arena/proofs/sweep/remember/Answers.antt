@@ -1,6 +1,5 @@
+use Rattle.mst_arena.proofs.Names.{◌≡◌, ◌∙◌, arith, ap, sym, List, ℕ, ◌++◌, ◌∷◌, [], get_or, take, suc, ◌+◌, ◌<◌, length, take_all}
 use Rattle.std.proofs.Math.Seq.{take-suc}
-use Rattle.std.proofs.Common.{◌≡◌, ◌∙◌, arith, ap, sym, List, ℕ, ◌++◌, ◌∷◌, [], get_or, take, suc, ◌+◌, ◌<◌, length}
-use Rattle.std.proofs.lemmas.List.{take_all}
 use Rattle.std.proofs.lemmas.List.Sorted.{IsNonDecreasingBy-from_sort}
 use Rattle.mst_arena.proofs.sweep.remember.Goals as goal
 

@@ -1,4 +1,4 @@
-use Rattle.std.proofs.Common.{◌≡◌, take, vec_len, vec_capacity}
+use Rattle.mst_arena.proofs.Names.{◌≡◌, take, vec_len, vec_capacity}
 use Rattle.mst_arena.proofs.sweep.remember.Given as goal
 
 -- the versions so far were copied into the room that is there

@@ -1,5 +1,5 @@
-use Rattle.std.proofs.Common.{◌≡◌, ◌∙◌, false, nat_lt, sym, arith}
-use Rattle.std.proofs.lemmas.Bool.Decides.{nat_tests}
+use Rattle.mst_arena.proofs.Names.{◌≡◌, ◌∙◌, false, sym, arith, nat_tests}
+use Rattle.std.proofs.Common.{nat_lt}
 use Rattle.mst_arena.proofs.Rising.{none_reached}
 use Rattle.mst_arena.proofs.sweep.stays.Goals as goal
 

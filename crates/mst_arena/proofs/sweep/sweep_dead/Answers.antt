@@ -1,6 +1,4 @@
-use Rattle.std.proofs.Common.{◌≡◌, ◌∙◌, ◌-◌, List, ℕ, length, take, subst, sym, ap, inl}
-use Rattle.std.specs.List.Sorted.{IsPermutation, IsNonDecreasing}
-use Rattle.mst_arena.specs.Lists.{AllReached}
+use Rattle.mst_arena.proofs.Names.{◌≡◌, ◌∙◌, ◌-◌, List, ℕ, length, take, subst, sym, ap, inl, IsPermutation, IsNonDecreasing, AllReached}
 use Rattle.mst_arena.proofs.Older.{held_in_front}
 use Rattle.mst_arena.proofs.DeskLemmas.{kept_reached}
 use Rattle.mst_arena.proofs.Rising.{swept_ranked, all_swept_ranked}

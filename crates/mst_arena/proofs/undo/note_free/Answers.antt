@@ -1,7 +1,4 @@
-use Rattle.std.proofs.Common.{◌≡◌, ℕ, zero, suc, Bool, true, false, List, [], ◌∷◌, Some, refl, sym, ◌∙◌, ap}
-use Rattle.std.specs.Prelude.{slice_get, slice_set}
-use Rattle.mst_arena.specs.declared.life.Life.{Life}
-use Rattle.mst_arena.specs.Lives.{is_free}
+use Rattle.mst_arena.proofs.Names.{◌≡◌, ℕ, zero, suc, Bool, true, false, List, [], ◌∷◌, Some, refl, sym, ◌∙◌, ap, slice_get, slice_set, Life, is_free}
 use Rattle.mst_arena.proofs.undo.note_free.Goals.{else-not-is_free-via-then-not-is_free+else-is_free, else-not-is_free-via-else-not-is_free}
 use Rattle.mst_arena.proofs.undo.note_free.Goals as goal
 

@@ -1,9 +1,4 @@
-use Rattle.std.proofs.Common.{◌≡◌, ◌<◌, ◌≤◌, ◌+◌, ◌++◌, List, ℕ, Bool, length, get_or, sym, ◌∙◌, subst, arith, Some, ap}
-use Rattle.std.specs.Prelude.{slice_get, slice_set}
-use Rattle.std.proofs.lemmas.Option.{slice_get-get_or}
-use Rattle.mst_arena.specs.declared.life.Life.{Life}
-use Rattle.mst_arena.specs.declared.life.Life.TheVariants.{Free}
-use Rattle.mst_arena.specs.Lives.{is_free}
+use Rattle.mst_arena.proofs.Names.{◌≡◌, ◌<◌, ◌≤◌, ◌+◌, ◌++◌, List, ℕ, Bool, length, get_or, sym, ◌∙◌, subst, arith, Some, ap, slice_get, slice_set, slice_get-get_or, Life, Free, is_free}
 use Rattle.mst_arena.proofs.UndoLemmas.{Undoing, added, undo_step, undo_end, undo_lists, was_free, stays_free}
 use Rattle.mst_arena.proofs.undo.undo_all.Goals as goal
 

@@ -1,4 +1,4 @@
-use Rattle.std.proofs.Common.{◌≡◌, ◌≤◌, length, vec_len, vec_capacity}
+use Rattle.mst_arena.proofs.Names.{◌≡◌, ◌≤◌, length, vec_len, vec_capacity}
 use Rattle.mst_arena.proofs.UndoLemmas.{Undoing}
 use Rattle.mst_arena.proofs.undo.undo_all.Given as goal
 

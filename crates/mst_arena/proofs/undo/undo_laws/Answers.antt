@@ -1,5 +1,4 @@
-use Rattle.std.proofs.Common.{◌<◌, ◌≤◌, ◌+◌, arith}
-use Rattle.mst_arena.specs.Lives.{version, next}
+use Rattle.mst_arena.proofs.Names.{◌<◌, ◌≤◌, ◌+◌, arith, version, next}
 use Rattle.mst_arena.proofs.UndoLemmas.{same_undone, undone_past}
 use Rattle.mst_arena.proofs.undo.undo_laws.Goals as goal
 

@@ -1,4 +1,4 @@
-use Rattle.std.proofs.Common.{rules}
+use Rattle.mst_arena.proofs.Names.{rules}
 use Rattle.std.specs.Prelude.{None}
 use Rattle.mst_arena.proofs.Spelling.{from_exact}
 use Rattle.mst_arena.proofs.words.candidate.Goals as goal

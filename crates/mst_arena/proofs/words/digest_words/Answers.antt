@@ -1,6 +1,5 @@
-use Rattle.std.proofs.Common.{ℕ, map, sym, ap, ◌∙◌, arith}
-use Rattle.std.specs.List.{range_with_len}
-use Rattle.mst_arena.specs.Words.{word_from, byte_of_words}
+use Rattle.mst_arena.proofs.Names.{ℕ, map, sym, ap, ◌∙◌, arith, range_with_len, byte_of_words}
+use Rattle.mst_arena.specs.Words.{word_from}
 use Rattle.mst_arena.proofs.Packing.{packed, bytes_back}
 use Rattle.mst_arena.proofs.Spelling.{bytes-at}
 use Rattle.mst_arena.proofs.words.digest_words.Goals as goal

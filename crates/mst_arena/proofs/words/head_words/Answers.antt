@@ -1,4 +1,4 @@
-use Rattle.std.proofs.Common.{rules, arith}
+use Rattle.mst_arena.proofs.Names.{rules, arith}
 use Rattle.mst_arena.proofs.Spelling.{bytes-at}
 use Rattle.mst_arena.proofs.words.head_words.Goals as goal
 

@@ -1,20 +1,6 @@
-use Rattle.std.proofs.Common.{rules}
-use Rattle.std.proofs.lemmas.Result.{IfOk-weaker}
-use Rattle.std.proofs.lemmas.Grind.{common_steps}
-use Rattle.std.proofs.Common.{◌≡◌, ◌<◌, List, [], ◌∷◌, length, sym, ap, subst, arith, refl}
-use Rattle.std.specs.Prelude.{Result, Ok, Err, IfOk, IfErr}
-use Rattle.mst_key.specs.History.{batched}
-use Rattle.mst_key.specs.declared.format.Format.{Format}
-use Rattle.mst_key.specs.declared.history.Edit.{Edit}
-use Rattle.mst_node.specs.Tree.{tree}
-use Rattle.mst_change.proofs.Formats.{stays}
-use Rattle.mst_arena.specs.Content.{Content}
-use Rattle.mst_arena.specs.Lives.{State}
-use Rattle.mst_arena.specs.declared.row.Root.{Root}
-use Rattle.mst_key.specs.Map.{Pair}
-use Rattle.mst_path.specs.Changing.{MapStands, OnlyFreeWritten, SameVersions}
-use Rattle.mst_path.specs.AfterChange.{AfterChange}
-use Rattle.mst_path.proofs.lemmas.versions.Changes.{after_change, unchanged_map}
+use Rattle.mst_batch.proofs.Names.{rules, IfOk-weaker, common_steps, ◌≡◌, ◌<◌, List, [], ◌∷◌, length, sym, ap, subst, arith, refl, Result, Ok, Err, batched, Format, Edit, tree, stays, Content, State, Root, Pair, MapStands, AfterChange, after_change, unchanged_map}
+use Rattle.std.specs.Prelude.{IfOk, IfErr}
+use Rattle.mst_path.specs.Changing.{OnlyFreeWritten, SameVersions}
 use Rattle.mst_batch.proofs.applying.apply.Goals as goal
 
 no_edits : (es : List Edit) → length es < 1 → es ≡ []

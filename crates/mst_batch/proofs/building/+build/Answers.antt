@@ -1,20 +1,7 @@
-use Rattle.std.proofs.Common.{List, ◌≡◌, ◌≤◌, ◌<◌, ◌+◌, ℕ, Option, Some, IfSome, length, map, false, true, sym, ◌∙◌, ap, subst, arith, rules}
-use Rattle.std.specs.Prelude.{slice_range}
-use Rattle.std.specs.List.{AllByRecursion, list_any}
-use Rattle.std.proofs.lemmas.List.{map-append}
+use Rattle.mst_batch.proofs.Names.{List, ◌≡◌, ◌≤◌, ◌<◌, ◌+◌, ℕ, Option, Some, IfSome, length, map, false, true, sym, ◌∙◌, ap, subst, arith, rules, slice_range, AllByRecursion, list_any, map-append, IfOk-weaker, Format, contains-all, Content, Placed, IsItem, height_of, AreThere, all_known, known_of, known_of_entry, known_of_node, plan_of, plan_of_node, planned_entry, IsStanding, is_tree, is_pair, Item, Origin}
 use Rattle.std.proofs.lemmas.Option.{MatchOption-at_none}
-use Rattle.std.proofs.lemmas.Result.{IfOk-weaker}
-use Rattle.mst_key.specs.declared.format.Format.{Format}
-use Rattle.mst_key.proofs.SpanLaws.{contains-all}
-use Rattle.mst_arena.specs.Content.{Content}
-use Rattle.mst_arena.specs.Standing.{Placed}
-use Rattle.mst_batch.specs.Items.{IsItem, IsPair, height_of}
-use Rattle.mst_batch.specs.Known.{AreThere, all_known, known_of, known_of_entry, known_of_node}
+use Rattle.mst_batch.specs.Items.{IsPair}
 use Rattle.mst_batch.proofs.KnownShapes.{all_there}
-use Rattle.mst_batch.specs.Plans.{plan_of, plan_of_node, planned_entry}
-use Rattle.mst_batch.specs.Tops.{IsStanding, is_tree, is_pair}
-use Rattle.mst_batch.specs.declared.items.Item.{Item}
-use Rattle.mst_batch.specs.declared.plan.Origin.{Origin}
 use Rattle.mst_batch.proofs.Tops.{all_upto, some_pair}
 use Rattle.mst_batch.proofs.Builds.{AreBeside, Plans, IsToShare, Shared, standing, stands_alone, some_height, KnownBeside, opened_known, part_known, entry_known, node_known, opened_beside, opened_upto, opened_has, opened_plans, part_beside, ends, joins, stays_low, to_share, shares}
 use Rattle.mst_batch.proofs.NodePlans.{gap_none_low}

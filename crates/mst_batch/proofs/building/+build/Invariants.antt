@@ -1,8 +1,4 @@
-use Rattle.std.proofs.Common.{◌≡◌, ◌≤◌, ◌+◌, ◌*◌, map}
-use Rattle.std.specs.Prelude.{slice_range}
-use Rattle.mst_batch.specs.Items.{height_of}
-use Rattle.mst_batch.specs.Plans.{planned_entry}
-use Rattle.mst_batch.specs.Known.{all_known, known_of_entry}
+use Rattle.mst_batch.proofs.Names.{◌≡◌, ◌≤◌, ◌+◌, ◌*◌, map, slice_range, height_of, planned_entry, all_known, known_of_entry}
 use Rattle.mst_batch.proofs.Builds.{SoFar, KnownBeside}
 use Rattle.mst_batch.proofs.building.+build.Given as goal
 

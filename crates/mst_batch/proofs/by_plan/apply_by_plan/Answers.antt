@@ -1,17 +1,4 @@
-use Rattle.std.proofs.Common.{◌≡◌, ◌<◌, List, sym, ap, subst, rules}
-use Rattle.mst_key.specs.History.{batched}
-use Rattle.mst_key.specs.Map.{Pair}
-use Rattle.mst_node.specs.Cost.{cost}
-use Rattle.mst_arena.specs.Content.{Content}
-use Rattle.mst_arena.specs.Lives.{free_count}
-use Rattle.mst_arena.specs.Standing.{Stands}
-use Rattle.mst_path.specs.Changing.{MapStands}
-use Rattle.mst_path.specs.AfterChange.{AfterChange}
-use Rattle.mst_batch.specs.Applying.{LacksBatch}
-use Rattle.mst_batch.specs.Beside.{AreMarks}
-use Rattle.mst_batch.specs.Carrying.{IsPlanOf}
-use Rattle.mst_batch.specs.Known.{HasKnown, known_of}
-use Rattle.mst_batch.specs.Plans.{plan_of}
+use Rattle.mst_batch.proofs.Names.{◌≡◌, ◌<◌, List, sym, ap, subst, rules, batched, Pair, cost, Content, free_count, Stands, MapStands, AfterChange, LacksBatch, AreMarks, IsPlanOf, HasKnown, known_of, plan_of}
 use Rattle.mst_batch.proofs.BatchPlans.{found_plan}
 use Rattle.mst_batch.proofs.by_plan.apply_by_plan.Given.{Over}
 use Rattle.mst_batch.proofs.by_plan.apply_by_plan.Goals.{After-as_slice}

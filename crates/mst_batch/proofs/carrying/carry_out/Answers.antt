@@ -1,17 +1,6 @@
-use Rattle.std.proofs.Common.{List, refl, sym, arith}
-use Rattle.std.proofs.lemmas.List.Sums.{count_by-le-length}
-use Rattle.mst_key.specs.Map.{Pair}
-use Rattle.mst_node.specs.Cost.{cost}
-use Rattle.mst_node.specs.Tree.{tree}
-use Rattle.mst_arena.specs.Lists.{times}
-use Rattle.mst_arena.specs.Lives.{is_free}
-use Rattle.mst_arena.specs.Standing.{used}
+use Rattle.mst_batch.proofs.Names.{List, refl, sym, arith, count_by-le-length, Pair, cost, tree, times, is_free, used, AfterChange, after_change, IsPlanOf, plan_of, rows_planned, tree_planned}
 use Rattle.mst_path.proofs.lemmas.steps.Felling.{to_fell}
 use Rattle.mst_path.proofs.lemmas.steps.Rounds.{regrown}
-use Rattle.mst_path.specs.AfterChange.{AfterChange}
-use Rattle.mst_path.proofs.lemmas.versions.Changes.{after_change}
-use Rattle.mst_batch.specs.Carrying.{IsPlanOf}
-use Rattle.mst_batch.specs.Plans.{plan_of, rows_planned, tree_planned}
 use Rattle.mst_batch.proofs.carrying.carry_out.Given.{Over}
 use Rattle.mst_batch.proofs.carrying.carry_out.Goals.{After-replace}
 use Rattle.mst_batch.proofs.carrying.carry_out.Goals as goal

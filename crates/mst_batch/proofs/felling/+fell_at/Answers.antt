@@ -1,13 +1,6 @@
-use Rattle.std.proofs.Common.{◌≡◌, ℕ, zero, suc, ◌+◌, ◌-◌, ◌<◌, Bool, false, true≢false, List, [], Some, IsSome, sym, ◌∙◌, ap, subst, arith, rules}
-use Rattle.mst_arena.specs.Content.{Content, part_at}
-use Rattle.mst_arena.specs.Lives.{State}
-use Rattle.mst_arena.specs.Row.{keyed_links, bare_links}
-use Rattle.mst_path.specs.Felling.{ToFell}
-use Rattle.mst_path.specs.Joining.{height_at}
-use Rattle.mst_path.specs.Moves.{Moves}
-use Rattle.mst_path.proofs.lemmas.steps.Felling.{Felling, AtEntry, started, entry_there, at_entry, at_last, height_read}
-use Rattle.mst_path.proofs.lemmas.rows.Moving.{moves_none}
-use Rattle.mst_batch.specs.Kept.{stays, fallen}
+use Rattle.mst_batch.proofs.Names.{◌≡◌, ℕ, zero, suc, ◌+◌, ◌-◌, ◌<◌, Bool, false, true≢false, List, [], Some, IsSome, sym, ◌∙◌, ap, subst, arith, rules, Content, part_at, State, keyed_links, bare_links, ToFell, height_at, Moves, Felling, height_read, moves_none, fallen}
+use Rattle.mst_path.proofs.lemmas.steps.Felling.{AtEntry, started, entry_there, at_entry, at_last}
+use Rattle.mst_batch.specs.Kept.{stays}
 use Rattle.mst_batch.proofs.Fellings.{fallen_in, opens, nothing_falls, with_key, keyed_at}
 use Rattle.mst_batch.proofs.felling.+fell_at.Given.{Over}
 use Rattle.mst_batch.proofs.felling.+fell_at.Goals.{After-kill-in-loop}

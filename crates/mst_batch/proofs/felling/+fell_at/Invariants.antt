@@ -1,8 +1,4 @@
-use Rattle.std.proofs.Common.{◌≡◌}
-use Rattle.mst_path.specs.Joining.{height_at}
-use Rattle.mst_path.specs.Felling.{ToFell}
-use Rattle.mst_path.proofs.lemmas.steps.Felling.{Felling}
-use Rattle.mst_batch.specs.Kept.{fallen}
+use Rattle.mst_batch.proofs.Names.{◌≡◌, height_at, ToFell, Felling, fallen}
 use Rattle.mst_batch.proofs.felling.+fell_at.Given as goal
 
 -- layers fall

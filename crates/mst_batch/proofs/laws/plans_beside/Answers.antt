@@ -2,7 +2,7 @@ use Rattle.mst_batch.proofs.Besides.{plan_is}
 use Rattle.mst_batch.proofs.BatchPlans.{its_rows, is_plan}
 use Rattle.mst_batch.proofs.Homes.{key_of_entry, match_kept, other_made}
 use Rattle.mst_batch.proofs.laws.plans_beside.Goals as goal
-use Rattle.mst_path.proofs.lemmas.versions.Changes.{rises}
+use Rattle.mst_batch.proofs.Names.{rises}
 
 pub returns-clause-tree : goal.returns-clause-tree
 returns-clause-tree c format content root m stands t mst =

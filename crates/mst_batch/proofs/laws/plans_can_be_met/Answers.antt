@@ -1,4 +1,4 @@
-use Rattle.std.proofs.Common.{refl}
+use Rattle.mst_batch.proofs.Names.{refl}
 use Rattle.mst_batch.proofs.SmallPlans.{marks_of, keeps_all, plants_one}
 use Rattle.mst_batch.proofs.laws.plans_can_be_met.Goals as goal
 

@@ -1,11 +1,6 @@
-use Rattle.std.proofs.Common.{[], Some, sym, ap, subst, ◌∙◌, arith, rules}
-use Rattle.std.proofs.lemmas.List.Sums.{count_by-le-length}
-use Rattle.mst_key.specs.History.{batched}
+use Rattle.mst_batch.proofs.Names.{[], Some, sym, ap, subst, ◌∙◌, arith, rules, count_by-le-length, batched, is_free, Stands, LacksPairs}
 use Rattle.mst_node.specs.Shape.{tree_of_child}
-use Rattle.mst_arena.specs.Lives.{is_free}
-use Rattle.mst_arena.specs.Standing.{Stands}
 use Rattle.mst_path.specs.Planting.{IsTreeOf, tree_at}
-use Rattle.mst_batch.specs.Applying.{LacksPairs}
 use Rattle.mst_batch.proofs.Loads.{AfterBatch, is_map, after_nothing, after_planted, lacks_room, lacks_pairs}
 use Rattle.mst_batch.proofs.loading.load.Given.{Over}
 use Rattle.mst_batch.proofs.loading.load.Goals.{In_default, In-Ok-planted}

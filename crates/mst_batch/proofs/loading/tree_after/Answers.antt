@@ -1,4 +1,4 @@
-use Rattle.std.proofs.Common.{rules}
+use Rattle.mst_batch.proofs.Names.{rules}
 use Rattle.mst_batch.proofs.loading.tree_after.Goals as goal
 
 pub slice_bounds-edited_pairs-end : goal.slice_bounds-edited_pairs-end

@@ -1,4 +1,4 @@
-use Rattle.std.proofs.Common.{◌≡◌, ◌<◌, ◌+◌, length, get_or, sym, ap, subst, arith}
+use Rattle.mst_batch.proofs.Names.{◌≡◌, ◌<◌, ◌+◌, length, get_or, sym, ap, subst, arith}
 use Rattle.mst_batch.proofs.LastLinks.{IsKeptSoFar, one_more, at_end}
 use Rattle.mst_batch.proofs.marking.+last.Goals as goal
 

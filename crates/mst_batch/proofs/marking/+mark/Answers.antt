@@ -1,5 +1,4 @@
-use Rattle.std.proofs.Common.{◌≡◌, ◌<◌, length, get_or, ap, subst, arith}
-use Rattle.std.proofs.lemmas.Result.{on_ok_weaker}
+use Rattle.mst_batch.proofs.Names.{◌≡◌, ◌<◌, length, get_or, ap, subst, arith, on_ok_weaker}
 use Rattle.mst_batch.proofs.Marks.{adds_entry, adds_last}
 use Rattle.mst_batch.proofs.marking.+mark.Goals as goal
 

@@ -1,6 +1,4 @@
-use Rattle.std.proofs.Common.{map, take}
-use Rattle.mst_batch.specs.Kept.{AddsMarks}
-use Rattle.mst_batch.specs.Plans.{planned_entry}
+use Rattle.mst_batch.proofs.Names.{map, take, AddsMarks, planned_entry}
 use Rattle.mst_batch.proofs.Marks.{list_links}
 use Rattle.mst_batch.proofs.PlanShapes.{items}
 use Rattle.mst_batch.proofs.marking.+mark.Given as goal

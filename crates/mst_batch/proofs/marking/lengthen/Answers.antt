@@ -1,4 +1,4 @@
-use Rattle.std.proofs.Common.{◌≡◌, Bool, false, rules}
+use Rattle.mst_batch.proofs.Names.{◌≡◌, Bool, false, rules}
 use Rattle.std.proofs.lemmas.Iterator.Adapters.{items_from_extend, YieldsList-from_repeat_n}
 use Rattle.mst_batch.proofs.marking.lengthen.Goals as goal
 

@@ -1,4 +1,4 @@
-use Rattle.std.proofs.Common.{◌-◌, length, arith}
+use Rattle.mst_batch.proofs.Names.{◌-◌, length, arith}
 use Rattle.mst_batch.proofs.OneMark.{adds_one, grown_same, reaches}
 use Rattle.mst_batch.proofs.marking.mark_link.Goals as goal
 

@@ -1,18 +1,5 @@
-use Rattle.std.proofs.Common.{◌≡◌, ℕ, ◌+◌, ◌-◌, ◌<◌, ◌≤◌, List, length, take, drop, Bor, Some, IsSome, sym, ◌∙◌, ap, subst, arith, rules}
+use Rattle.mst_batch.proofs.Names.{◌≡◌, ℕ, ◌+◌, ◌-◌, ◌<◌, ◌≤◌, List, length, take, drop, Bor, Some, IsSome, sym, ◌∙◌, ap, subst, arith, rules, nat_tests, on_ok_weaker, Edit, batched, pairs, Content, part_at, keyed_links, Placed, tree_of, height_at, height_read, listed, PartOf, Adds, Item}
 use Rattle.std.specs.List.{slice_range}
-use Rattle.std.proofs.lemmas.Bool.Decides.{nat_tests}
-use Rattle.std.proofs.lemmas.Result.{on_ok_weaker}
-use Rattle.mst_key.specs.declared.history.Edit.{Edit}
-use Rattle.mst_key.specs.History.{batched}
-use Rattle.mst_node.specs.Tree.{pairs}
-use Rattle.mst_arena.specs.Content.{Content, part_at}
-use Rattle.mst_arena.specs.Row.{keyed_links}
-use Rattle.mst_arena.specs.Standing.{Placed, tree_of}
-use Rattle.mst_path.specs.Joining.{height_at}
-use Rattle.mst_path.proofs.lemmas.steps.Felling.{height_read}
-use Rattle.mst_edits.specs.Listed.{listed}
-use Rattle.mst_batch.specs.Opening.{PartOf, Adds}
-use Rattle.mst_batch.specs.declared.items.Item.{Item}
 use Rattle.mst_batch.proofs.Openings.{head_there, part_lies, tree_stays}
 use Rattle.mst_batch.proofs.OpeningSteps.{Opening, Opens, opens, both_ok, AtEntry, begun, entry_there, at_entry, at_last}
 use Rattle.mst_batch.proofs.PairsFound.{pair_found}

@@ -1,10 +1,4 @@
-use Rattle.std.proofs.Common.{◌≡◌, ◌≤◌, length}
-use Rattle.mst_key.specs.History.{batched}
-use Rattle.mst_node.specs.Tree.{pairs}
-use Rattle.mst_arena.specs.Standing.{Placed, tree_of}
-use Rattle.mst_path.specs.Joining.{height_at}
-use Rattle.mst_edits.specs.Listed.{listed}
-use Rattle.mst_batch.specs.Opening.{PartOf}
+use Rattle.mst_batch.proofs.Names.{◌≡◌, ◌≤◌, length, batched, pairs, Placed, tree_of, height_at, listed, PartOf}
 use Rattle.mst_batch.proofs.OpeningSteps.{Opening}
 use Rattle.mst_batch.proofs.opening.+open.Given as goal
 

@@ -1,5 +1,4 @@
-use Rattle.std.proofs.Common.{◌<◌, arith}
-use Rattle.std.proofs.lemmas.Bool.Decides.{nat_tests}
+use Rattle.mst_batch.proofs.Names.{◌<◌, arith, nat_tests}
 use Rattle.mst_node.proofs.FirstWords.{chunks-less}
 use Rattle.mst_node.proofs.ReadIsSpelled.{bytes-at}
 use Rattle.mst_batch.proofs.opening.begins_before.Goals as goal

@@ -1,4 +1,4 @@
-use Rattle.std.proofs.lemmas.Result.{on_ok_weaker}
+use Rattle.mst_batch.proofs.Names.{on_ok_weaker}
 use Rattle.mst_batch.proofs.Openings.{adds_own, adds_entry}
 use Rattle.mst_batch.proofs.opening.push_entry.Goals as goal
 

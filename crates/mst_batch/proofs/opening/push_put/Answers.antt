@@ -1,4 +1,4 @@
-use Rattle.std.proofs.Common.{refl}
+use Rattle.mst_batch.proofs.Names.{refl}
 use Rattle.mst_batch.proofs.Openings.{adds_put}
 use Rattle.mst_batch.proofs.opening.push_put.Goals as goal
 

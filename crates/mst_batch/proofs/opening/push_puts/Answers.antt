@@ -1,4 +1,4 @@
-use Rattle.std.proofs.Common.{arith}
+use Rattle.mst_batch.proofs.Names.{arith}
 use Rattle.mst_batch.proofs.Puts.{putting_step, putting_end}
 use Rattle.mst_batch.proofs.opening.push_puts.Goals as goal
 

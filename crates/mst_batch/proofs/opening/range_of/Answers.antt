@@ -1,5 +1,4 @@
-use Rattle.std.proofs.Common.{◌≡◌, List, ℕ, Less, subst, arith}
-use Rattle.mst_key.specs.Map.{key_cmp}
+use Rattle.mst_batch.proofs.Names.{◌≡◌, List, ℕ, Less, subst, arith, key_cmp}
 use Rattle.mst_batch.proofs.Ranges.{all_above, none_above}
 use Rattle.mst_batch.proofs.opening.range_of.Goals as goal
 

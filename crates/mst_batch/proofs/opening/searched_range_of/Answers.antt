@@ -1,4 +1,5 @@
-use Rattle.std.proofs.Common.{rules, of_calls}
+use Rattle.mst_batch.proofs.Names.{rules}
+use Rattle.std.proofs.Common.{of_calls}
 use Rattle.std.proofs.lemmas.List.Sorted.{IsPartitionPoint-from_clause}
 use Rattle.mst_batch.proofs.Ranges.{Places, is_below, is_up_to, parted_below, parted_up_to, in_order, below_are, own_are, above_are}
 use Rattle.mst_batch.proofs.opening.searched_range_of.Goals as goal

@@ -1,15 +1,4 @@
-use Rattle.std.proofs.Common.{◌≡◌, List, sym, ◌∙◌, ap, subst}
-use Rattle.std.proofs.lemmas.Result.{IfOk-weaker}
-use Rattle.mst_key.specs.History.{batched}
-use Rattle.mst_key.specs.Map.{Pair}
-use Rattle.mst_node.specs.Tree.{tree}
-use Rattle.mst_arena.specs.Content.{Content}
-use Rattle.mst_arena.specs.Standing.{Stands}
-use Rattle.mst_edits.specs.Listed.{listed}
-use Rattle.mst_batch.specs.Beside.{plan_beside}
-use Rattle.mst_batch.specs.Known.{AreKnown, known_of}
-use Rattle.mst_batch.specs.Plans.{plan_of}
-use Rattle.mst_batch.specs.Updating.{Updates}
+use Rattle.mst_batch.proofs.Names.{◌≡◌, List, sym, ◌∙◌, ap, subst, IfOk-weaker, batched, Pair, tree, Content, Stands, listed, plan_beside, AreKnown, known_of, plan_of, Updates}
 use Rattle.mst_batch.proofs.Finding.{whole_updates, after_sorted}
 use Rattle.mst_batch.proofs.UpdateSteps.{PlansUpdated, KnowsUpdated}
 use Rattle.mst_batch.proofs.planning.find_plan.Goals as goal

@@ -1,15 +1,4 @@
-use Rattle.std.proofs.Common.{◌≡◌, List, refl, sym, ◌∙◌, ap, subst}
-use Rattle.std.proofs.lemmas.Result.{IfOk-weaker}
-use Rattle.mst_key.specs.Map.{Pair}
-use Rattle.mst_key.specs.declared.format.Format.{Format}
-use Rattle.mst_node.specs.Tree.{tree}
-use Rattle.mst_arena.specs.Content.{Content}
-use Rattle.mst_arena.specs.Standing.{Stands}
-use Rattle.mst_edits.specs.Listed.{listed}
-use Rattle.mst_batch.specs.Beside.{plan_beside}
-use Rattle.mst_batch.specs.Items.{AreItems, items_pairs}
-use Rattle.mst_batch.specs.Known.{AreKnown, known_of}
-use Rattle.mst_batch.specs.Plans.{plan_of}
+use Rattle.mst_batch.proofs.Names.{◌≡◌, List, refl, sym, ◌∙◌, ap, subst, IfOk-weaker, Pair, Format, tree, Content, Stands, listed, plan_beside, AreItems, items_pairs, AreKnown, known_of, plan_of}
 use Rattle.mst_batch.proofs.Finding.{whole_part, pairs_are, items_are}
 use Rattle.mst_batch.proofs.planning.plan_of_items.Goals as goal
 

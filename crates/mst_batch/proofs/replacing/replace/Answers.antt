@@ -1,9 +1,4 @@
-use Rattle.std.proofs.Common.{ap, refl, sym, subst}
-use Rattle.mst_arena.specs.Content.{Content}
-use Rattle.mst_arena.specs.Lists.{times}
-use Rattle.mst_arena.specs.Standing.{used}
-use Rattle.mst_path.specs.Making.{Grown}
-use Rattle.mst_batch.specs.Plans.{plan_of, rows_planned, rows_kept, tree_planned}
+use Rattle.mst_batch.proofs.Names.{ap, refl, sym, subst, Content, times, used, Grown, plan_of, rows_planned, rows_kept, tree_planned}
 use Rattle.mst_batch.proofs.Replaced.{still, replaced}
 use Rattle.mst_batch.proofs.replacing.replace.Goals as goal
 

@@ -1,13 +1,5 @@
-use Rattle.std.proofs.Common.{◌≡◌, ◌-◌, ℕ, List, length, Option, IsSome, refl, sym, ◌∙◌, ap, subst, arith, rules}
-use Rattle.mst_key.specs.declared.format.Format.{Format}
-use Rattle.mst_arena.specs.Row.{keyed_links, entry_value}
-use Rattle.mst_arena.specs.Standing.{Chain}
-use Rattle.mst_read.specs.Search.{LiesBehind}
+use Rattle.mst_batch.proofs.Names.{◌≡◌, ◌-◌, ℕ, List, length, Option, IsSome, refl, sym, ◌∙◌, ap, subst, arith, rules, Format, keyed_links, entry_value, Chain, LiesBehind, AtCell, at_cell, at_end, Content, AreThere, known_of_entry, plan_of}
 use Rattle.mst_read.proofs.Still.{read_still}
-use Rattle.mst_read.proofs.Walk.{AtCell, at_cell, at_end}
-use Rattle.mst_arena.specs.Content.{Content}
-use Rattle.mst_batch.specs.Known.{AreThere, known_of_entry}
-use Rattle.mst_batch.specs.Plans.{plan_of}
 use Rattle.mst_batch.proofs.Heads.{next_some, next_there}
 use Rattle.mst_batch.proofs.KnownShapes.{entry_there}
 use Rattle.mst_batch.proofs.SameNodes.{IsSameFrom, other_count, value_at, one_more, not_all, tail_decides}

@@ -1,9 +1,4 @@
-use Rattle.std.proofs.Common.{◌≡◌, length}
-use Rattle.mst_key.specs.declared.format.Format.{Format}
-use Rattle.mst_arena.specs.Standing.{Chain}
-use Rattle.mst_read.specs.Search.{LiesBehind}
-use Rattle.mst_read.proofs.Walk.{Onward}
-use Rattle.mst_batch.specs.Plans.{plan_of}
+use Rattle.mst_batch.proofs.Names.{◌≡◌, length, Format, Chain, LiesBehind, Onward, plan_of}
 use Rattle.mst_batch.proofs.SameNodes.{IsSameFrom}
 use Rattle.mst_batch.proofs.sharing.has_entries.Given as goal
 

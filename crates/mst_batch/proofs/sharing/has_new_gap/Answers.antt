@@ -1,4 +1,4 @@
-use Rattle.std.proofs.Common.{◌≡◌, ◌<◌, length, get_or, subst}
+use Rattle.mst_batch.proofs.Names.{◌≡◌, ◌<◌, length, get_or, subst}
 use Rattle.mst_batch.proofs.NodeChoices.{new_gap, new_tail}
 use Rattle.mst_batch.proofs.sharing.has_new_gap.Goals as goal
 

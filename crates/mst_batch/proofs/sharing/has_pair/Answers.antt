@@ -1,5 +1,4 @@
-use Rattle.std.proofs.Common.{refl}
-use Rattle.mst_batch.specs.Plans.{planned_entry}
+use Rattle.mst_batch.proofs.Names.{refl, planned_entry}
 use Rattle.mst_batch.proofs.KnownShapes.{same_pair}
 use Rattle.mst_batch.proofs.sharing.has_pair.Goals as goal
 

@@ -1,7 +1,6 @@
-use Rattle.std.proofs.Common.{◌∙◌, ap, arith}
+use Rattle.mst_batch.proofs.Names.{◌∙◌, ap, arith, link_of_key}
 use Rattle.mst_read.specs.Search.{MapStands}
 use Rattle.mst_read.proofs.Descend.{there_at, depth_is}
-use Rattle.mst_batch.specs.Beside.{link_of_key}
 use Rattle.mst_batch.proofs.KeyLinks.{Ahead, from_root, inside, at_nothing, node_there, found_here, in_gap, ahead_there, reach, lower}
 use Rattle.mst_batch.proofs.sharing.link_of.Given.{Over}
 use Rattle.mst_batch.proofs.sharing.link_of.Goals.{After-head_at-top-in-Gap}

@@ -1,7 +1,5 @@
-use Rattle.std.proofs.Common.{◌≡◌}
+use Rattle.mst_batch.proofs.Names.{◌≡◌, depth, link_of_key}
 use Rattle.mst_read.specs.Search.{MapStands}
-use Rattle.mst_read.proofs.Descend.{depth}
-use Rattle.mst_batch.specs.Beside.{link_of_key}
 use Rattle.mst_batch.proofs.KeyLinks.{Reached}
 use Rattle.mst_batch.proofs.sharing.link_of.Given as goal
 

@@ -1,12 +1,5 @@
-use Rattle.std.proofs.Common.{◌≡◌, true, List, map, sym, ◌∙◌, ap, subst}
-use Rattle.std.specs.Prelude.{◌↔◌}
-use Rattle.mst_read.proofs.Still.{behind_still}
-use Rattle.mst_arena.specs.Content.{Content}
-use Rattle.mst_batch.specs.Beside.{kept_entries}
-use Rattle.mst_batch.specs.Known.{AreThere, all_known, known_of_entry}
+use Rattle.mst_batch.proofs.Names.{◌≡◌, true, List, map, sym, ◌∙◌, ap, subst, ◌↔◌, behind_still, Content, kept_entries, AreThere, all_known, known_of_entry, last, with_planned, planned_entry, PlanEntry}
 use Rattle.mst_batch.proofs.KnownShapes.{entries_there}
-use Rattle.mst_batch.specs.Plans.{last, with_planned, planned_entry}
-use Rattle.mst_batch.specs.declared.plan.PlanEntry.{PlanEntry}
 use Rattle.mst_batch.proofs.Heads.{with_head}
 use Rattle.mst_batch.proofs.PlanShapes.{tail}
 use Rattle.mst_batch.proofs.SameNodes.{entries_decide, other_layer, none_there}

@@ -1,17 +1,5 @@
-use Rattle.std.proofs.Common.{◌≡◌, ℕ, ◌<◌, List, length, get_or, Option, None, IsSome, Bor, sym, ◌∙◌, ap, subst}
-use Rattle.mst_key.specs.Map.{Pair}
-use Rattle.mst_key.specs.declared.format.Format.{Format}
-use Rattle.mst_node.specs.Tree.{Entries, IsMst}
+use Rattle.mst_batch.proofs.Names.{◌≡◌, ℕ, ◌<◌, List, length, get_or, Option, None, IsSome, Bor, sym, ◌∙◌, ap, subst, Pair, Format, Entries, IsMst, Content, Stands, HasEntry, TreeLies, lies_still, entries_beside, AreKnown, AreThere, known_of_node, made, plan_of_node, PlanEntry}
 use Rattle.mst_node.specs.Tree as tree
-use Rattle.mst_arena.specs.Content.{Content}
-use Rattle.mst_arena.specs.Standing.{Stands}
-use Rattle.mst_change.specs.Batch.{HasEntry}
-use Rattle.mst_read.specs.Search.{TreeLies}
-use Rattle.mst_read.proofs.Still.{lies_still}
-use Rattle.mst_batch.specs.Beside.{entries_beside}
-use Rattle.mst_batch.specs.Known.{AreKnown, AreThere, known_of_node}
-use Rattle.mst_batch.specs.Plans.{made, plan_of_node}
-use Rattle.mst_batch.specs.declared.plan.PlanEntry.{PlanEntry}
 use Rattle.mst_batch.proofs.NodeChoices.{some_entry, first_key, tree_there, stays, is_made, nowhere}
 use Rattle.mst_batch.proofs.sharing.shared.Given.{Over}
 use Rattle.mst_batch.proofs.sharing.shared.Goals.{After-link_of-link}

@@ -1,6 +1,4 @@
-use Rattle.std.proofs.Common.{◌∙◌, ap}
-use Rattle.std.proofs.lemmas.Bool.{eqb-true}
-use Rattle.mst_batch.specs.declared.plan.Origin.TheVariants.{Kept}
+use Rattle.mst_batch.proofs.Names.{◌∙◌, ap, eqb-true, Kept}
 use Rattle.mst_batch.proofs.KnownShapes.{own_there}
 use Rattle.mst_batch.proofs.sharing.stands_in.Goals as goal
 

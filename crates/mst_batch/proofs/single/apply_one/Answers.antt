@@ -1,4 +1,4 @@
-use Rattle.std.proofs.Common.{rules}
+use Rattle.mst_batch.proofs.Names.{rules}
 use Rattle.mst_batch.proofs.single.apply_one.Goals as goal
 
 pub put-requires-clause-stands : goal.put-requires-clause-stands

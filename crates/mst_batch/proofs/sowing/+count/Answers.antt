@@ -1,6 +1,4 @@
-use Rattle.std.proofs.Common.{◌≡◌, ℕ, ◌+◌, ◌-◌, ◌<◌, length, get_or, map, ap, subst, arith, rules}
-use Rattle.std.specs.Prelude.{◌^◌, min}
-use Rattle.mst_batch.specs.Plans.{planned_entry}
+use Rattle.mst_batch.proofs.Names.{◌≡◌, ℕ, ◌+◌, ◌-◌, ◌<◌, length, get_or, map, ap, subst, arith, rules, ◌^◌, min, planned_entry}
 use Rattle.mst_batch.proofs.PlanShapes.{items, list_rows, rows_more, node_rows, take_all}
 use Rattle.mst_batch.proofs.PlanSizes.{child_smaller, tail_smaller}
 use Rattle.mst_batch.proofs.sowing.+count.Given.{Over}

@@ -1,6 +1,4 @@
-use Rattle.std.proofs.Common.{◌≡◌, ◌+◌, ◌-◌, map, take}
-use Rattle.std.specs.Prelude.{◌^◌, min}
-use Rattle.mst_batch.specs.Plans.{planned_entry}
+use Rattle.mst_batch.proofs.Names.{◌≡◌, ◌+◌, ◌-◌, map, take, ◌^◌, min, planned_entry}
 use Rattle.mst_batch.proofs.PlanShapes.{items, list_rows}
 use Rattle.mst_batch.proofs.sowing.+count.Given as goal
 

@@ -1,22 +1,8 @@
-use Rattle.std.proofs.Common.{◌≡◌, ◌+◌, ◌<◌, ◌≤◌, [], ℕ, Bool, IsTrue, IfSome, List, length, get_or, map, take, ap, refl, sym, subst, ◌∙◌, arith, rules}
-use Rattle.std.proofs.lemmas.List.Sums.{count_by-le-length}
+use Rattle.mst_batch.proofs.Names.{◌≡◌, ◌+◌, ◌<◌, ◌≤◌, [], ℕ, Bool, IfSome, List, length, get_or, map, take, ap, refl, sym, subst, ◌∙◌, arith, rules, count_by-le-length, Tree, Content, State, is_free, In, times, Placed, Root, IsOld, ahead, piece_alive, out-PlanNode, out-PlanEntry, HasKnown, IsThere, known_of, known_of_node, PlanTree, PlannedEntry, kept, plan_of, plan_of_node, planned_entry, rows_planned, rows_kept, tree_planned, IsPlan, Sown}
+use Rattle.std.proofs.Common.{IsTrue}
 use Rattle.mst_node.specs.Tree as tree
-use Rattle.mst_node.specs.Tree.{Tree}
-use Rattle.mst_arena.specs.Content.{Content}
-use Rattle.mst_arena.specs.Lives.{State, is_free}
-use Rattle.mst_arena.specs.Lists.{In, times}
-use Rattle.mst_arena.specs.Standing.{Placed}
-use Rattle.mst_arena.specs.declared.row.Root.{Root}
-use Rattle.mst_path.specs.Moves.{IsOld}
-use Rattle.mst_path.specs.Writing.{ahead}
 use Rattle.mst_path.proofs.lemmas.rows.CopyRows.{still_writable, blank_taken, blank_ahead, small_link, next_some}
 use Rattle.mst_path.proofs.lemmas.trees.Growing.{ahead_count, ahead_none}
-use Rattle.mst_path.proofs.lemmas.trees.Made.{piece_alive}
-use Rattle.mst_batch.specs.declared.plan.PlanNode.{out-PlanNode}
-use Rattle.mst_batch.specs.declared.plan.PlanEntry.{out-PlanEntry}
-use Rattle.mst_batch.specs.Known.{HasKnown, IsThere, known_of, known_of_node}
-use Rattle.mst_batch.specs.Plans.{PlanTree, PlannedEntry, kept, plan_of, plan_of_node, planned_entry, rows_planned, rows_kept, tree_planned, IsPlan}
-use Rattle.mst_batch.specs.Sowing.{Sown}
 use Rattle.mst_batch.proofs.KnownShapes.{child_known, tail_known, entry_told, there_from}
 use Rattle.mst_batch.proofs.KnownSowing.{has_known, still_known, sown_still}
 use Rattle.mst_batch.proofs.PlanShapes.{items, tail, list_rows, list_kept, plan_out, tree_with, kept_with, rows_ahead, rows_least, rows_last, node_rows, entries_more, take_all, some_entries, low_layer, kept_rows, whole_old, child_kept, child_links, child_stands, child_search, tail_links, tail_stands, tail_search}

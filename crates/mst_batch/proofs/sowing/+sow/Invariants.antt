@@ -1,9 +1,6 @@
-use Rattle.std.proofs.Common.{◌≡◌, ◌+◌, ℕ, length, map, take}
-use Rattle.mst_arena.specs.Standing.{Placed}
+use Rattle.mst_batch.proofs.Names.{◌≡◌, ◌+◌, ℕ, length, map, take, Placed, out-PlanNode, plan_of_node, planned_entry, IsPlan}
 use Rattle.mst_path.specs.Takes.{StaysBeside}
 use Rattle.mst_path.specs.Writing.{IsWriter}
-use Rattle.mst_batch.specs.declared.plan.PlanNode.{out-PlanNode}
-use Rattle.mst_batch.specs.Plans.{plan_of_node, planned_entry, IsPlan}
 use Rattle.mst_batch.proofs.PlanShapes.{items}
 use Rattle.mst_batch.proofs.Sowings.{SownSoFar}
 use Rattle.mst_batch.proofs.sowing.+sow.Given as goal

@@ -1,5 +1,4 @@
-use Rattle.std.proofs.Common.{subst}
-use Rattle.mst_batch.specs.Known.{IsThere}
+use Rattle.mst_batch.proofs.Names.{subst, IsThere}
 use Rattle.mst_batch.proofs.sowing.write_entry.Goals as goal
 
 pub returns-in-Kept-clause-written : goal.returns-in-Kept-clause-written

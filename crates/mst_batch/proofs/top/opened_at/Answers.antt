@@ -1,9 +1,5 @@
-use Rattle.std.proofs.Common.{◌≡◌, ℕ, ◌+◌, ◌<◌, zero, suc, List, [], ◌∷◌, ◌++◌, length, take, get_or, sym, ◌∙◌, ap, subst, arith}
-use Rattle.std.specs.List.{AllByRecursion, flat_map}
-use Rattle.std.proofs.lemmas.List.{take_more, take_all, flat_map_more}
-use Rattle.mst_batch.specs.declared.items.Item.{Item}
-use Rattle.mst_batch.specs.Items.{IsItem}
-use Rattle.mst_batch.specs.Tops.{IsStanding, opened}
+use Rattle.mst_batch.proofs.Names.{◌≡◌, ℕ, ◌+◌, ◌<◌, zero, suc, List, [], ◌∷◌, ◌++◌, length, take, get_or, sym, ◌∙◌, ap, subst, arith, AllByRecursion, flat_map, take_more, take_all, Item, IsItem, IsStanding, opened}
+use Rattle.std.proofs.lemmas.List.{flat_map_more}
 use Rattle.mst_batch.proofs.top.opened_at.Goals as goal
 
 -- what holds of each item holds of that at a place

@@ -1,9 +1,4 @@
-use Rattle.std.proofs.Common.{◌≡◌, take}
-use Rattle.std.specs.List.{AllByRecursion, flat_map}
-use Rattle.mst_key.specs.declared.format.Format.{Format}
-use Rattle.mst_arena.specs.Standing.{Placed}
-use Rattle.mst_batch.specs.Items.{IsItem}
-use Rattle.mst_batch.specs.Tops.{IsStanding, opened}
+use Rattle.mst_batch.proofs.Names.{◌≡◌, take, AllByRecursion, flat_map, Format, Placed, IsItem, IsStanding, opened}
 use Rattle.mst_batch.proofs.top.opened_at.Given as goal
 
 -- the items so far are opened

@@ -1,6 +1,5 @@
-use Rattle.std.proofs.Common.{◌∙◌, ap, arith}
-use Rattle.std.proofs.lemmas.Result.{on_ok_weaker}
-use Rattle.mst_read.proofs.Walk.{at_cell, at_end, child_lies, tail_lies}
+use Rattle.mst_batch.proofs.Names.{◌∙◌, ap, arith, on_ok_weaker, at_cell, at_end}
+use Rattle.mst_read.proofs.Walk.{child_lies, tail_lies}
 use Rattle.mst_batch.proofs.Heads.{top_there, next_some, next_there}
 use Rattle.mst_batch.proofs.NodeItems.{begins, goes_on}
 use Rattle.mst_batch.proofs.top.push_node.Goals as goal

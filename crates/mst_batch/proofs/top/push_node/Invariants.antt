@@ -1,9 +1,4 @@
-use Rattle.std.proofs.Common.{◌≡◌, ◌++◌}
-use Rattle.mst_key.specs.declared.format.Format.{Format}
-use Rattle.mst_arena.specs.Standing.{Placed}
-use Rattle.mst_read.specs.Search.{Lies}
-use Rattle.mst_read.proofs.Walk.{Onward}
-use Rattle.mst_batch.specs.Tops.{chain_items, node_items}
+use Rattle.mst_batch.proofs.Names.{◌≡◌, ◌++◌, Format, Placed, Lies, Onward, chain_items, node_items}
 use Rattle.mst_batch.proofs.top.push_node.Given as goal
 
 -- what is added so far, with the items of the other entries, are the items of the node

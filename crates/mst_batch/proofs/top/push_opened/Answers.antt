@@ -1,9 +1,4 @@
-use Rattle.std.proofs.Common.{◌++◌, List, sym, ◌∙◌, ap, subst}
-use Rattle.std.proofs.lemmas.Result.{on_ok_weaker}
-use Rattle.mst_batch.specs.Beside.{node_at}
-use Rattle.mst_batch.specs.Items.{IsItem}
-use Rattle.mst_batch.specs.Tops.{opened}
-use Rattle.mst_batch.specs.declared.items.Item.{Item}
+use Rattle.mst_batch.proofs.Names.{◌++◌, List, sym, ◌∙◌, ap, subst, on_ok_weaker, node_at, IsItem, opened, Item}
 use Rattle.mst_batch.proofs.NodeItems.{item_lies, opened_tree}
 use Rattle.mst_batch.proofs.top.push_opened.Goals as goal
 

@@ -1,5 +1,4 @@
-use Rattle.std.proofs.Common.{take}
-use Rattle.mst_batch.specs.Tops.{IsTop}
+use Rattle.mst_batch.proofs.Names.{take, IsTop}
 use Rattle.mst_batch.proofs.top.top_of.Given as goal
 
 -- the top of the items so far

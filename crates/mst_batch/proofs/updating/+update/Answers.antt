@@ -1,21 +1,5 @@
-use Rattle.std.proofs.Common.{◌≡◌, ◌+◌, ◌-◌, ◌<◌, List, length, map, take, drop, Bor, Some, IsSome, sym, ◌∙◌, ap, subst, arith, rules}
+use Rattle.mst_batch.proofs.Names.{◌≡◌, ◌+◌, ◌-◌, ◌<◌, List, length, map, take, drop, Bor, Some, IsSome, sym, ◌∙◌, ap, subst, arith, rules, nat_tests, map-append, IfOk-weaker, Edit, batched, pairs, Content, part_at, keyed_links, bare_links, entry_pair, tree_of, height_at, height_read, listed, plan_beside, AreKnown, AreThere, all_known, known_of, known_of_entry, known_of_node, plan_of, plan_of_node, planned_entry, Updates}
 use Rattle.std.specs.List.{slice_range}
-use Rattle.std.proofs.lemmas.Bool.Decides.{nat_tests}
-use Rattle.std.proofs.lemmas.List.{map-append}
-use Rattle.std.proofs.lemmas.Result.{IfOk-weaker}
-use Rattle.mst_key.specs.declared.history.Edit.{Edit}
-use Rattle.mst_key.specs.History.{batched}
-use Rattle.mst_node.specs.Tree.{pairs}
-use Rattle.mst_arena.specs.Content.{Content, part_at}
-use Rattle.mst_arena.specs.Row.{keyed_links, bare_links, entry_pair}
-use Rattle.mst_arena.specs.Standing.{tree_of}
-use Rattle.mst_path.specs.Joining.{height_at}
-use Rattle.mst_path.proofs.lemmas.steps.Felling.{height_read}
-use Rattle.mst_edits.specs.Listed.{listed}
-use Rattle.mst_batch.specs.Beside.{plan_beside}
-use Rattle.mst_batch.specs.Known.{AreKnown, AreThere, all_known, known_of, known_of_entry, known_of_node}
-use Rattle.mst_batch.specs.Plans.{plan_of, plan_of_node, planned_entry}
-use Rattle.mst_batch.specs.Updating.{Updates}
 use Rattle.mst_batch.proofs.Builds.{IsToShare, Shared}
 use Rattle.mst_batch.proofs.KnownShapes.{all_there, known_both}
 use Rattle.mst_batch.proofs.Openings.{head_there}

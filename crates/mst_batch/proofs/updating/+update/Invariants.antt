@@ -1,13 +1,4 @@
-use Rattle.std.proofs.Common.{◌≡◌, ◌≤◌, ◌+◌, ◌*◌, List, length, map}
-use Rattle.mst_key.specs.History.{batched}
-use Rattle.mst_key.specs.Map.{Pair}
-use Rattle.mst_node.specs.Tree.{pairs}
-use Rattle.mst_arena.specs.Standing.{tree_of}
-use Rattle.mst_path.specs.Joining.{height_at}
-use Rattle.mst_edits.specs.Listed.{listed}
-use Rattle.mst_batch.specs.Known.{AreKnown, all_known, known_of_entry}
-use Rattle.mst_batch.specs.Plans.{planned_entry}
-use Rattle.mst_batch.specs.Updating.{Updates}
+use Rattle.mst_batch.proofs.Names.{◌≡◌, ◌≤◌, ◌+◌, ◌*◌, List, length, map, batched, Pair, pairs, tree_of, height_at, listed, AreKnown, all_known, known_of_entry, planned_entry, Updates}
 use Rattle.mst_batch.proofs.UpdateSteps.{Updating}
 use Rattle.mst_batch.proofs.updating.+update.Given as goal
 

@@ -1,6 +1,4 @@
-use Rattle.std.proofs.Common.{sym, ◌∙◌, ap, subst}
-use Rattle.mst_arena.specs.Content.{Content}
-use Rattle.mst_arena.specs.Standing.{Stands}
+use Rattle.mst_batch.proofs.Names.{sym, ◌∙◌, ap, subst, Content, Stands}
 use Rattle.mst_read.specs.Search.{MapStands}
 use Rattle.mst_batch.proofs.Updates.{updates_step, updates_end}
 use Rattle.mst_batch.proofs.updating.are_updates.Goals as goal

@@ -1,9 +1,4 @@
-use Rattle.std.proofs.Common.{◌≡◌, List, drop}
-use Rattle.mst_key.specs.Map.{Pair}
-use Rattle.mst_key.specs.declared.format.Format.{Format}
-use Rattle.mst_arena.specs.Standing.{Stands}
-use Rattle.mst_edits.specs.Listed.{listed}
-use Rattle.mst_batch.specs.Updating.{AreUpdates}
+use Rattle.mst_batch.proofs.Names.{◌≡◌, List, drop, Pair, Format, Stands, listed, AreUpdates}
 use Rattle.mst_batch.proofs.updating.are_updates.Given as goal
 
 -- all are such edits if those that are left are

@@ -1,6 +1,4 @@
-use Rattle.std.proofs.Common.{◌∷◌, [], sym, ◌∙◌, ap, subst, arith}
-use Rattle.mst_batch.specs.Plans.{PlannedEntry}
-use Rattle.mst_batch.specs.Known.{AreKnown, known_of}
+use Rattle.mst_batch.proofs.Names.{◌∷◌, [], sym, ◌∙◌, ap, subst, arith, PlannedEntry, AreKnown, known_of}
 use Rattle.mst_batch.proofs.KnownShapes.{known_both}
 use Rattle.mst_batch.proofs.Updates.{updated_pair, same_pair}
 use Rattle.mst_batch.proofs.updating.updated_entry.Goals as goal

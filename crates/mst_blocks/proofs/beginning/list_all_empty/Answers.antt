@@ -1,6 +1,5 @@
-use Rattle.std.proofs.Common.{◌≤◌, ◌+◌, ◌++◌, ap, length, arith}
+use Rattle.mst_blocks.proofs.Names.{◌≤◌, ◌+◌, ◌++◌, ap, length, arith, empty_listings}
 use Rattle.mst_sharded_proof.specs.Shards.{shards as shards_at}
-use Rattle.mst_blocks.specs.Writing.{empty_listings}
 use Rattle.mst_blocks.proofs.Begun.{empty_step, empty_end}
 use Rattle.mst_blocks.proofs.beginning.list_all_empty.Goals as goal
 

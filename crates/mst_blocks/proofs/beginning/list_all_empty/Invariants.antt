@@ -1,6 +1,6 @@
+use Rattle.mst_blocks.proofs.Names.{empty_listings}
 use Rattle.std.specs.Prelude.{◌≡◌, ◌≤◌, ◌++◌, drop, vec_len, vec_capacity, vec_items}
 use Rattle.mst_sharded_proof.specs.Shards.{shards as shards_at}
-use Rattle.mst_blocks.specs.Writing.{empty_listings}
 use Rattle.mst_blocks.proofs.beginning.list_all_empty.Given as goal
 
 abbrev pub invariant-loop-place : goal.invariant-loop-place

@@ -1,6 +1,4 @@
-use Rattle.std.proofs.Common.{◌≡◌, ◌+◌, ◌≤◌, ◌++◌, map, vec_len, vec_capacity, vec_items}
-use Rattle.std.specs.VecDeque.{deque_items, deque_len}
-use Rattle.mst_blocks.specs.Staging.{canceled_stage}
+use Rattle.mst_blocks.proofs.Names.{◌≡◌, ◌+◌, ◌≤◌, ◌++◌, map, vec_len, vec_capacity, vec_items, deque_items, deque_len, canceled_stage}
 use Rattle.mst_blocks.proofs.blocks.cancel_all.Given as goal
 
 abbrev pub invariant-loop-stage : goal.invariant-loop-stage

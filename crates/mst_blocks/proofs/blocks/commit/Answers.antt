@@ -1,8 +1,5 @@
-use Rattle.std.proofs.Common.{map, arith, vec_items}
-use Rattle.std.proofs.lemmas.List.{length-map}
-use Rattle.mst_blocks.specs.Blocks.{MakesNothing}
-use Rattle.mst_blocks.specs.Staging.{Concludes, canceled_stage}
-use Rattle.mst_shards.proofs.PinningAll.{all_step_length}
+use Rattle.mst_blocks.proofs.Names.{map, arith, vec_items, length-map, MakesNothing, canceled_stage, all_step_length}
+use Rattle.mst_blocks.specs.Staging.{Concludes}
 use Rattle.mst_blocks.proofs.blocks.commit.Given.{Over}
 use Rattle.mst_blocks.proofs.blocks.commit.Goals.{After-conclude}
 use Rattle.mst_blocks.proofs.blocks.commit.Goals as goal

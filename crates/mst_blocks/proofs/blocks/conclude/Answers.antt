@@ -1,7 +1,6 @@
-use Rattle.std.proofs.Common.{length, refl, ap, ◌∙◌, arith}
-use Rattle.std.specs.Prelude.{IsNone, is_some}
+use Rattle.mst_blocks.proofs.Names.{length, refl, ap, ◌∙◌, arith, IsNone, listed_stages}
+use Rattle.std.specs.Prelude.{is_some}
 use Rattle.mst_sharded_proof.specs.Shards.{shards as shards_at}
-use Rattle.mst_blocks.specs.Staging.{listed_stages}
 use Rattle.mst_blocks.proofs.Committing.{same_nothing, part_nothing, block_made, block_left, listing_refused, root_published, stage_stopped}
 use Rattle.mst_blocks.proofs.blocks.conclude.Goals as goal
 

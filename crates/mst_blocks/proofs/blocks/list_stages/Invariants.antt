@@ -1,6 +1,5 @@
-use Rattle.std.proofs.Common.{◌≡◌, ◌++◌, drop, vec_items}
+use Rattle.mst_blocks.proofs.Names.{◌≡◌, ◌++◌, drop, vec_items, listed_stages}
 use Rattle.mst_sharded_proof.specs.Shards.{shards as shards_at}
-use Rattle.mst_blocks.specs.Staging.{listed_stages}
 use Rattle.mst_blocks.proofs.blocks.list_stages.Given as goal
 
 abbrev pub invariant-loop-place : goal.invariant-loop-place

@@ -1,14 +1,6 @@
-use Rattle.std.proofs.Common.{◌≡◌, List, ◌∷◌, ◌++◌, [], length, map, refl, sym, ◌∙◌, subst, arith, rules}
-use Rattle.std.specs.VecDeque.{deque_items}
-use Rattle.std.proofs.lemmas.List.{length-append, length-map}
-use Rattle.mst_key.specs.declared.history.Edit.{Edit}
-use Rattle.mst_store.specs.Passes.{Known}
-use Rattle.mst_shards.specs.Sharding.{AllStep}
-use Rattle.mst_blocks.specs.Blocks.{MakesNothing}
-use Rattle.mst_blocks.specs.Staging.{AllStaged, canceled_stage}
+use Rattle.mst_blocks.proofs.Names.{◌≡◌, List, ◌∷◌, ◌++◌, [], length, map, refl, sym, ◌∙◌, subst, arith, rules, deque_items, length-append, length-map, Edit, Known, AllStep, MakesNothing, AllStaged, canceled_stage, all_step_length}
 use Rattle.mst_blocks.proofs.Committing.{staged_more, nothing_more, canceled_more, Stops, stops_more}
 use Rattle.mst_shards.proofs.HandingOut.{goes_on, all_gone}
-use Rattle.mst_shards.proofs.PinningAll.{all_step_length}
 use Rattle.mst_blocks.proofs.blocks.prepare_all.Goals as goal
 
 pub loop-pass-init : goal.loop-pass-init

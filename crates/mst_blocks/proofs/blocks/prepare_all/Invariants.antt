@@ -1,11 +1,5 @@
-use Rattle.std.proofs.Common.{◌≡◌, ◌+◌, ◌≤◌, List, ◌++◌, length, map, vec_len, vec_capacity, vec_items}
-use Rattle.std.specs.Prelude.{IsNone}
-use Rattle.std.specs.VecDeque.{deque_items, deque_len, deque_capacity}
-use Rattle.mst_key.specs.declared.history.Edit.{Edit}
-use Rattle.mst_store.specs.Passes.{Known}
-use Rattle.mst_shards.specs.Sharding.{AllStep}
-use Rattle.mst_blocks.specs.Blocks.{MakesNothing}
-use Rattle.mst_blocks.specs.Staging.{AllStaged, canceled_stage}
+use Rattle.mst_blocks.proofs.Names.{◌≡◌, ◌+◌, ◌≤◌, List, ◌++◌, length, map, vec_len, vec_capacity, vec_items, IsNone, deque_items, deque_len, Edit, Known, AllStep, MakesNothing, AllStaged, canceled_stage}
+use Rattle.std.specs.VecDeque.{deque_capacity}
 use Rattle.mst_blocks.proofs.Committing.{Stops}
 use Rattle.mst_blocks.proofs.blocks.prepare_all.Given as goal
 

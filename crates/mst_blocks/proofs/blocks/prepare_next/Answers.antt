@@ -1,6 +1,4 @@
-use Rattle.std.proofs.Common.{◌∙◌, sym, subst}
-use Rattle.mst_store.specs.Preparing.{Waiting}
-use Rattle.mst_blocks.specs.Staging.{PreparesNext}
+use Rattle.mst_blocks.proofs.Names.{◌∙◌, sym, subst, Waiting, PreparesNext}
 use Rattle.mst_blocks.proofs.blocks.prepare_next.Goals as goal
 
 pub returns-in-Ok-keep_on-clause-ok : goal.returns-in-Ok-keep_on-clause-ok

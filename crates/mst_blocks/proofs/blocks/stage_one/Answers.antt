@@ -1,4 +1,4 @@
-use Rattle.std.proofs.Common.{rules}
+use Rattle.mst_blocks.proofs.Names.{rules}
 use Rattle.mst_blocks.proofs.Committing.{staged_ready}
 use Rattle.mst_blocks.proofs.blocks.stage_one.Goals as goal
 

@@ -1,11 +1,4 @@
-use Rattle.std.proofs.Common.{List, vec_items, subst, arith}
-use Rattle.std.proofs.lemmas.List.{length-map}
-use Rattle.mst_key.specs.declared.history.Edit.{Edit}
-use Rattle.mst_store.specs.Passes.{Known}
-use Rattle.mst_shards.specs.BlockHistory.{whole}
-use Rattle.mst_blocks.specs.Blocks.{parts_of, MakesBlock, LeavesAll, RefusesParts}
-use Rattle.mst_blocks.specs.Writing.{at_last, RefusesBlock}
-use Rattle.mst_blocks.specs.declared.faults.BlockFault.{BlockFault}
+use Rattle.mst_blocks.proofs.Names.{List, vec_items, subst, arith, length-map, Edit, Known, whole, parts_of, MakesBlock, LeavesAll, RefusesParts, at_last, RefusesBlock, BlockFault}
 use Rattle.mst_blocks.proofs.Blocked.{writes_again, adds_block, writes_still, refuses_block, refused_before}
 use Rattle.mst_blocks.proofs.Kept.{made_keeps, left_keeps, either_way, on_ok, if_err}
 use Rattle.mst_blocks.proofs.making.make_block.Given.{Over}

@@ -1,5 +1,4 @@
-use Rattle.std.proofs.Common.{◌≡◌, ◌∙◌, ℕ, List, suc, length, arith}
-use Rattle.mst_key.specs.declared.history.Edit.{Edit}
+use Rattle.mst_blocks.proofs.Names.{◌≡◌, ◌∙◌, ℕ, List, suc, length, arith, Edit}
 use Rattle.mst_blocks.proofs.PartsDealt.{parts_more, parts_end}
 use Rattle.mst_blocks.proofs.parting.deal_edits.Goals as goal
 

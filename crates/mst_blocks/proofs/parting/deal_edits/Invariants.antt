@@ -1,5 +1,5 @@
+use Rattle.mst_blocks.proofs.Names.{parts_from}
 use Rattle.std.specs.Prelude.{◌≡◌, ◌≤◌, vec_len, vec_capacity, vec_items}
-use Rattle.mst_blocks.specs.Blocks.{parts_from}
 use Rattle.mst_blocks.proofs.parting.deal_edits.Given as goal
 
 abbrev pub invariant-loop-shard : goal.invariant-loop-shard

@@ -1,6 +1,5 @@
-use Rattle.std.proofs.Common.{◌∙◌, ◌++◌, ◌∷◌, ◌<◌, [], ℕ, List, cond, length, get_or, ap, sym, refl, arith}
-use Rattle.std.specs.Prelude.{◌==◌}
-use Rattle.mst_key.specs.declared.history.Edit.{Edit}
+use Rattle.mst_blocks.proofs.Names.{◌∙◌, ◌++◌, ◌∷◌, ◌<◌, [], ℕ, List, length, get_or, ap, sym, refl, arith, ◌==◌, Edit}
+use Rattle.std.proofs.Common.{cond}
 use Rattle.mst_shards.proofs.Parted.{picked_more}
 use Rattle.mst_blocks.proofs.parting.edits_of.Goals as goal
 

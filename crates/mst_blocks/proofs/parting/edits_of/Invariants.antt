@@ -1,5 +1,5 @@
+use Rattle.mst_blocks.proofs.Names.{picked}
 use Rattle.std.specs.Prelude.{◌≡◌, take, vec_items}
-use Rattle.mst_shards.specs.Parts.{picked}
 use Rattle.mst_blocks.proofs.parting.edits_of.Given as goal
 
 abbrev pub invariant-loop-i : goal.invariant-loop-i

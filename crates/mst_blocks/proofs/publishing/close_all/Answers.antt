@@ -1,6 +1,4 @@
-use Rattle.std.proofs.Common.{map, vec_items, sym, ◌∙◌, arith}
-use Rattle.std.specs.VecDeque.{deque_items}
-use Rattle.mst_blocks.specs.Staging.{canceled_stage}
+use Rattle.mst_blocks.proofs.Names.{map, vec_items, sym, ◌∙◌, arith, deque_items, canceled_stage}
 use Rattle.mst_blocks.proofs.Committing.{goes_mapped, mapped_gone}
 use Rattle.mst_blocks.proofs.Revealing.{next_shown}
 use Rattle.mst_blocks.proofs.publishing.close_all.Goals as goal

@@ -1,7 +1,4 @@
-use Rattle.std.proofs.Common.{◌≡◌, ◌+◌, ◌≤◌, ◌++◌, map, vec_len, vec_capacity, vec_items}
-use Rattle.std.specs.List.{AllByRecursion}
-use Rattle.std.specs.VecDeque.{deque_items, deque_len}
-use Rattle.mst_blocks.specs.Staging.{IsShown, canceled_stage}
+use Rattle.mst_blocks.proofs.Names.{◌≡◌, ◌+◌, ◌≤◌, ◌++◌, map, vec_len, vec_capacity, vec_items, AllByRecursion, deque_items, deque_len, IsShown, canceled_stage}
 use Rattle.mst_blocks.proofs.publishing.close_all.Given as goal
 
 abbrev pub invariant-loop-stage : goal.invariant-loop-stage

@@ -1,4 +1,4 @@
-use Rattle.std.proofs.Common.{◌∙◌}
+use Rattle.mst_blocks.proofs.Names.{◌∙◌}
 use Rattle.mst_blocks.proofs.Revealing.{all_shown, all_published}
 use Rattle.mst_blocks.proofs.publishing.publish_all.Goals as goal
 

@@ -1,4 +1,4 @@
-use Rattle.mst_blocks.specs.Staging.{revealed_stage}
+use Rattle.mst_blocks.proofs.Names.{revealed_stage}
 use Rattle.mst_blocks.proofs.Revealing.{changes_on, changes_all}
 use Rattle.mst_blocks.proofs.publishing.reveal_all.Goals as goal
 

@@ -1,5 +1,4 @@
-use Rattle.std.proofs.Common.{◌≡◌, ◌++◌, map, take, drop}
-use Rattle.mst_blocks.specs.Staging.{revealed_stage}
+use Rattle.mst_blocks.proofs.Names.{◌≡◌, ◌++◌, map, take, drop, revealed_stage}
 use Rattle.mst_blocks.proofs.publishing.reveal_all.Given as goal
 
 abbrev pub invariant-loop-stage : goal.invariant-loop-stage

@@ -1,10 +1,5 @@
-use Rattle.std.proofs.Common.{◌∙◌, ℕ, List, vec_items, ap, subst}
-use Rattle.mst_key.specs.declared.format.Format.{Format}
-use Rattle.mst_store.specs.Passes.{Known}
+use Rattle.mst_blocks.proofs.Names.{◌∙◌, ℕ, List, vec_items, ap, subst, Format, Known, IsSplits, AddsBatch, empty_listings}
 use Rattle.mst_sharded_proof.specs.Shards.{shards as shards_at}
-use Rattle.mst_shards.specs.Sharding.{IsSplits}
-use Rattle.mst_blocks.specs.Blocks.{AddsBatch}
-use Rattle.mst_blocks.specs.Writing.{empty_listings}
 use Rattle.mst_blocks.proofs.Committing.{published_adds, root_published}
 use Rattle.mst_blocks.proofs.writer.list_block_0.Goals as goal
 

@@ -1,5 +1,5 @@
-use Rattle.std.specs.Prelude.{◌≡◌, ℕ, ◌<◌, None, get_or}
-use Rattle.mst_c.specs.declared.hand.PaddedHand.{PaddedHand}
+use Rattle.mst_c.proofs.Names.{None, PaddedHand}
+use Rattle.std.specs.Prelude.{◌≡◌, ℕ, ◌<◌, get_or}
 use Rattle.mst_c.proofs.opening.close_all.Given as goal
 
 abbrev pub invariant-loop-padded : goal.invariant-loop-padded

@@ -1,8 +1,6 @@
-use Rattle.std.proofs.Common.{rules, arith, ◌≡◌, ◌<◌, ◌+◌, ℕ, get_or, length, Some, slice_set, sym, ap, ◌∙◌, below_more}
+use Rattle.mst_c.proofs.Names.{rules, arith, ◌≡◌, ◌<◌, ◌+◌, ℕ, get_or, length, sym, ap, ◌∙◌, Known, Free, PaddedHand}
+use Rattle.std.proofs.Common.{Some, slice_set, below_more}
 use Rattle.std.proofs.lemmas.List.{get_or-set_same, get_or-set_other, length-set}
-use Rattle.mst_store.specs.Passes.{Known}
-use Rattle.mst_c.specs.declared.pass_box.State.TheVariants.{Free}
-use Rattle.mst_c.specs.declared.hand.PaddedHand.{PaddedHand}
 use Rattle.mst_c.proofs.opening.hand_all.Goals as goal
 
 -- the pass that is handed out next stands first among the rest, and its hand is the next

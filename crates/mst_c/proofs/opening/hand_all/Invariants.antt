@@ -1,8 +1,6 @@
-use Rattle.std.specs.Prelude.{◌≡◌, ℕ, ◌+◌, ◌<◌, ◌≤◌, true, length, Some, None, get_or, vec_len}
+use Rattle.mst_c.proofs.Names.{Some, None, vec_len, Known, Free, PaddedHand}
+use Rattle.std.specs.Prelude.{◌≡◌, ℕ, ◌+◌, ◌<◌, ◌≤◌, true, length, get_or}
 use Rattle.std.specs.Vec.Iter.{into_iter_items, into_iter_len}
-use Rattle.mst_store.specs.Passes.{Known}
-use Rattle.mst_c.specs.declared.pass_box.State.TheVariants.{Free}
-use Rattle.mst_c.specs.declared.hand.PaddedHand.{PaddedHand}
 use Rattle.mst_c.proofs.opening.hand_all.Given as goal
 
 -- the passes that are left are the last of those given, the hands before have the others, and those

@@ -1,8 +1,6 @@
-use Rattle.std.proofs.Common.{rules, arith, ◌≡◌, ap, ◌∙◌}
-use Rattle.std.specs.Prelude.{vec_len, length, Some}
+use Rattle.mst_c.proofs.Names.{rules, arith, ◌≡◌, ap, ◌∙◌, vec_len, Some, Known, new_pass, new_passes, Free}
+use Rattle.std.specs.Prelude.{length}
 use Rattle.std.specs.Arc.{arc_value}
-use Rattle.mst_store.specs.Passes.{Known, new_pass, new_passes}
-use Rattle.mst_c.specs.declared.pass_box.State.TheVariants.{Free}
 use Rattle.mst_c.proofs.Dealt.{dealt_length, dealt_own, dealt_at}
 use Rattle.mst_c.proofs.opening.hand_passes.Goals as goal
 

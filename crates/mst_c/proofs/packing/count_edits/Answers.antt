@@ -1,6 +1,5 @@
-use Rattle.std.proofs.Common.{rules, arith, ◌≡◌, ◌+◌, ◌<◌, ◌^◌, [], ◌∷◌, ◌++◌, length}
-use Rattle.std.proofs.lemmas.List.{length-append}
-use Rattle.mst_key.specs.declared.history.Edit.{Edit}
+use Rattle.mst_c.proofs.Names.{rules, arith, ◌≡◌, ◌+◌, ◌<◌, [], ◌∷◌, ◌++◌, length, length-append, Edit}
+use Rattle.std.proofs.Common.{◌^◌}
 use Rattle.mst_c.proofs.Readings.{begins, next, bad, ends}
 use Rattle.mst_c.proofs.packing.count_edits.Goals as goal
 

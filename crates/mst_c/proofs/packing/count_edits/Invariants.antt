@@ -1,5 +1,4 @@
-use Rattle.std.proofs.Common.{◌≡◌, ◌+◌, ◌≤◌, List, length}
-use Rattle.mst_key.specs.declared.history.Edit.{Edit}
+use Rattle.mst_c.proofs.Names.{◌≡◌, ◌+◌, ◌≤◌, List, length, Edit}
 use Rattle.mst_c.proofs.Readings.{Reading}
 use Rattle.mst_c.proofs.packing.count_edits.Given as goal
 

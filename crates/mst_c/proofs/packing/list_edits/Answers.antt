@@ -1,5 +1,4 @@
-use Rattle.std.proofs.Common.{rules, ◌≡◌, ◌<◌, List, length, sym, subst}
-use Rattle.mst_key.specs.declared.history.Edit.{Edit}
+use Rattle.mst_c.proofs.Names.{rules, ◌≡◌, ◌<◌, List, length, sym, subst, Edit}
 use Rattle.mst_c.proofs.Readings.{Reading, begins, next, never_bad, ends, some}
 use Rattle.mst_c.proofs.packing.list_edits.Goals as goal
 

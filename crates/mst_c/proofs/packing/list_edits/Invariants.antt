@@ -1,4 +1,4 @@
-use Rattle.std.proofs.Common.{length}
+use Rattle.mst_c.proofs.Names.{length}
 use Rattle.mst_c.proofs.Readings.{Reading}
 use Rattle.mst_c.proofs.packing.list_edits.Given as goal
 

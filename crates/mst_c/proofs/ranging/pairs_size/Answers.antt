@@ -1,7 +1,4 @@
-use Rattle.std.proofs.Common.{◌≡◌, ◌+◌, ◌++◌, ℕ, List, length, take, get_or, ap, ◌∙◌, rules, arith}
-use Rattle.std.proofs.lemmas.List.{length-append}
-use Rattle.mst_key.specs.Map.{Pair}
-use Rattle.mst_c.specs.Ranges.{pair_bytes, pairs_bytes}
+use Rattle.mst_c.proofs.Names.{◌≡◌, ◌+◌, ◌++◌, ℕ, List, length, take, get_or, ap, ◌∙◌, rules, arith, length-append, Pair, pair_bytes, pairs_bytes}
 use Rattle.mst_c.proofs.Listing.{one_more}
 use Rattle.mst_c.proofs.ranging.pairs_size.Goals as goal
 

@@ -1,5 +1,5 @@
-use Rattle.std.proofs.Common.{◌≡◌, ◌≤◌, ◌*◌, length, take}
-use Rattle.mst_c.specs.Ranges.{pairs_bytes}
+use Rattle.mst_c.proofs.Names.{◌≡◌, ◌≤◌, length, take, pairs_bytes}
+use Rattle.std.proofs.Common.{◌*◌}
 use Rattle.mst_c.proofs.ranging.pairs_size.Given as goal
 
 -- the pairs so far are this long, and each is at most 100 bytes

@@ -1,7 +1,4 @@
-use Rattle.std.proofs.Common.{◌≡◌, ◌≤◌, ◌+◌, ◌++◌, ℕ, List, length, refl, ap, ◌∙◌, rules, arith}
-use Rattle.std.specs.Int.{w16, to_be_bytes}
-use Rattle.std.proofs.lemmas.List.{length-append}
-use Rattle.mst_c.specs.Ranges.{pair_bytes, written}
+use Rattle.mst_c.proofs.Names.{◌≡◌, ◌≤◌, ◌+◌, ◌++◌, ℕ, List, length, refl, ap, ◌∙◌, rules, arith, w16, to_be_bytes, length-append, pair_bytes, written}
 use Rattle.mst_c.proofs.Listing.{pair_length, written_more}
 use Rattle.mst_c.proofs.ranging.put_pair.Goals as goal
 

@@ -1,7 +1,4 @@
-use Rattle.std.proofs.Common.{◌≡◌, ◌≤◌, ◌+◌, ◌++◌, ℕ, List, length, take, get_or, sym, ap, subst, ◌∙◌, rules, arith}
-use Rattle.std.proofs.lemmas.List.{length-append}
-use Rattle.mst_key.specs.Map.{Pair}
-use Rattle.mst_c.specs.Ranges.{pair_bytes, pairs_bytes, written}
+use Rattle.mst_c.proofs.Names.{◌≡◌, ◌≤◌, ◌+◌, ◌++◌, ℕ, List, length, take, get_or, sym, ap, subst, ◌∙◌, rules, arith, length-append, Pair, pair_bytes, pairs_bytes, written}
 use Rattle.mst_c.proofs.Listing.{one_more, first_shorter, written_more, written_length}
 use Rattle.mst_c.proofs.ranging.put_pairs.Goals as goal
 

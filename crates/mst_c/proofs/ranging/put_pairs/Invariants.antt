@@ -1,5 +1,4 @@
-use Rattle.std.proofs.Common.{◌≡◌, length, take}
-use Rattle.mst_c.specs.Ranges.{pairs_bytes, written}
+use Rattle.mst_c.proofs.Names.{◌≡◌, length, take, pairs_bytes, written}
 use Rattle.mst_c.proofs.ranging.put_pairs.Given as goal
 
 -- the pairs so far stand first, and the next one comes right after them

@@ -1,9 +1,9 @@
-use Rattle.std.proofs.Common.{rules, ◌≡◌, refl, sym, subst, to_z, of_z, w32, negsuc}
-use Rattle.std.specs.Prelude.{length, Option, Some}
+use Rattle.mst_c.proofs.Names.{rules, ◌≡◌, refl, sym, subst, to_z, of_z, w32, Option, Some, State, bytes_code, room_after, size_after, pairs_bytes}
+use Rattle.std.proofs.Common.{negsuc}
+use Rattle.std.specs.Prelude.{length}
 use Rattle.std.specs.Option.{option_map}
-use Rattle.mst_c.specs.declared.pass_box.State.{State}
-use Rattle.mst_c.specs.Told.{IsBound, bound_of, bytes_code, room_after, size_after}
-use Rattle.mst_c.specs.Ranges.{pairs_bytes, Ranges, count_of, RangeTold}
+use Rattle.mst_c.specs.Told.{IsBound, bound_of}
+use Rattle.mst_c.specs.Ranges.{Ranges, count_of, RangeTold}
 use Rattle.mst_c.proofs.ranging.range.Goals as goal
 
 -- the low bound is none

@@ -1,8 +1,6 @@
-use Rattle.std.proofs.Common.{rules, ◌≡◌, sym, subst, to_z, of_z, w32}
-use Rattle.std.specs.Prelude.{length, Option, Some}
-use Rattle.mst_key.specs.Bytes.{IsKey}
-use Rattle.mst_c.specs.declared.pass_box.State.{State}
-use Rattle.mst_c.specs.Told.{Proves, bytes_code, room_after, size_after, ProveTold}
+use Rattle.mst_c.proofs.Names.{rules, ◌≡◌, sym, subst, to_z, of_z, w32, Option, Some, IsKey, State, bytes_code, room_after, size_after}
+use Rattle.std.specs.Prelude.{length}
+use Rattle.mst_c.specs.Told.{Proves, ProveTold}
 use Rattle.mst_c.proofs.telling.prove.Goals as goal
 
 -- the pass gave a proof

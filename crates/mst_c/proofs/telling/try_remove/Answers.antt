@@ -1,4 +1,4 @@
-use Rattle.std.proofs.Common.{rules}
+use Rattle.mst_c.proofs.Names.{rules}
 use Rattle.mst_c.proofs.telling.try_remove.Goals as goal
 
 pub returns-in-Ok-wrote : goal.returns-in-Ok-wrote

@@ -1,4 +1,4 @@
-use Rattle.std.proofs.Common.{rules}
+use Rattle.mst_c.proofs.Names.{rules}
 use Rattle.mst_c.proofs.telling.version.Goals as goal
 
 pub returns : goal.returns

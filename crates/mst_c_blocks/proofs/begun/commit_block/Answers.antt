@@ -1,4 +1,4 @@
-use Rattle.std.proofs.Common.{refl, subst}
+use Rattle.mst_c_blocks.proofs.Names.{refl, subst}
 use Rattle.mst_parts.specs.Origins.{Begun}
 use Rattle.mst_c_blocks.specs.Begun.{CommitsBlock}
 use Rattle.mst_c_blocks.proofs.BlocksMade.{made_ok}

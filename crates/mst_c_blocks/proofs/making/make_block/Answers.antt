@@ -1,5 +1,4 @@
-use Rattle.std.proofs.Common.{◌≡◌, List, rules, refl}
-use Rattle.mst_key.specs.declared.history.Edit.{Edit}
+use Rattle.mst_c_blocks.proofs.Names.{◌≡◌, List, rules, refl, Edit}
 use Rattle.mst_c_blocks.proofs.BlocksMade.{made_ok, made_err}
 use Rattle.mst_c_blocks.proofs.making.make_block.Goals as goal
 

@@ -1,5 +1,5 @@
-use Rattle.std.specs.Prelude.{◌≡◌, ℕ, ◌<◌, None, get_or}
-use Rattle.mst_c_blocks.specs.declared.hand.PaddedBlocksHand.{PaddedBlocksHand}
+use Rattle.mst_c_blocks.proofs.Names.{None, PaddedBlocksHand}
+use Rattle.std.specs.Prelude.{◌≡◌, ℕ, ◌<◌, get_or}
 use Rattle.mst_c_blocks.proofs.opening.close_all.Given as goal
 
 abbrev pub invariant-loop-padded : goal.invariant-loop-padded

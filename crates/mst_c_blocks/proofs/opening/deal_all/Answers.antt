@@ -1,10 +1,4 @@
-use Rattle.std.proofs.Common.{rules, arith, ◌≡◌, ◌-◌, ℕ, length, get_or, ap, ◌∙◌}
-use Rattle.std.specs.Prelude.{Some}
-use Rattle.std.specs.Arc.{arc_value}
-use Rattle.mst_shards.specs.BlockHistory.{Whole}
-use Rattle.mst_shards.specs.Opening.{Shards, Dealt, lot}
-use Rattle.mst_c_blocks.specs.declared.role_box.Role.TheVariants.{Reader}
-use Rattle.mst_c_blocks.specs.Opened.{new_reader}
+use Rattle.mst_c_blocks.proofs.Names.{rules, arith, ◌≡◌, ◌-◌, ℕ, length, get_or, ap, ◌∙◌, Some, arc_value, Whole, Shards, Dealt, lot, Reader, new_reader}
 use Rattle.mst_c_blocks.proofs.LotsDealt.{lots_count, lot_of_map, reader_at, by_number}
 use Rattle.mst_c_blocks.proofs.opening.deal_all.Goals as goal
 

@@ -1,11 +1,4 @@
-use Rattle.std.proofs.Common.{arith, ◌<◌, length, sym, ap, subst, ◌∙◌}
-use Rattle.std.proofs.lemmas.List.{get_or-set_same, get_or-set_other, length-set}
-use Rattle.std.specs.Prelude.{Option}
-use Rattle.std.specs.Arc.{arc_value}
-use Rattle.mst_shards.specs.Opening.{Shards}
-use Rattle.mst_c_blocks.specs.declared.hand.PaddedBlocksHand.{PaddedBlocksHand}
-use Rattle.mst_c_blocks.specs.declared.role_box.Role.{Role}
-use Rattle.mst_c_blocks.specs.Opened.{HoldsWriter}
+use Rattle.mst_c_blocks.proofs.Names.{arith, ◌<◌, length, sym, ap, subst, ◌∙◌, get_or-set_same, get_or-set_other, length-set, Option, arc_value, Shards, PaddedBlocksHand, Role, HoldsWriter}
 use Rattle.mst_c_blocks.proofs.opening.hand_all.Goals as goal
 
 -- the hands behind the first one are empty as before

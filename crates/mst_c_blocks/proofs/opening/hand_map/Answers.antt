@@ -1,7 +1,4 @@
-use Rattle.std.proofs.Common.{rules, ◌≡◌, get_or, subst}
-use Rattle.std.specs.Arc.{arc_value}
-use Rattle.mst_shards.specs.Opening.{Shards}
-use Rattle.mst_c_blocks.specs.Opened.{HoldsWriter}
+use Rattle.mst_c_blocks.proofs.Names.{rules, ◌≡◌, get_or, subst, arc_value, Shards, HoldsWriter}
 use Rattle.mst_c_blocks.proofs.opening.hand_map.Goals as goal
 
 -- the map is the one behind its shares

@@ -1,10 +1,5 @@
-use Rattle.std.proofs.Common.{rules, arith, ◌≡◌, ◌<◌, ◌+◌, ℕ, get_or, length, Some, slice_set, sym, ap, subst, ◌∙◌, below_more}
-use Rattle.std.proofs.lemmas.List.{get_or-set_same, get_or-set_other, length-set}
-use Rattle.std.specs.Arc.{arc_value}
-use Rattle.mst_shards.specs.Opening.{Shards, Dealt, IsLot}
-use Rattle.mst_c_blocks.specs.declared.hand.PaddedBlocksHand.{PaddedBlocksHand}
-use Rattle.mst_c_blocks.specs.declared.role_box.Role.TheVariants.{Reader}
-use Rattle.mst_c_blocks.specs.Opened.{reader_of}
+use Rattle.mst_c_blocks.proofs.Names.{rules, arith, ◌≡◌, ◌<◌, ◌+◌, ℕ, get_or, length, slice_set, sym, ap, subst, ◌∙◌, below_more, get_or-set_same, get_or-set_other, length-set, arc_value, Shards, Dealt, IsLot, PaddedBlocksHand, Reader, reader_of}
+use Rattle.std.proofs.Common.{Some}
 use Rattle.mst_c_blocks.proofs.opening.hand_readers.Goals as goal
 
 -- the reader that is handed out next is that of the first lot among the rest

@@ -1,10 +1,5 @@
-use Rattle.std.specs.Prelude.{◌≡◌, ℕ, ◌+◌, ◌<◌, true, length, Some, None, get_or, vec_len}
-use Rattle.std.specs.Arc.{arc_value}
-use Rattle.std.specs.Vec.Iter.{into_iter_items, into_iter_len}
-use Rattle.mst_shards.specs.Opening.{Dealt}
-use Rattle.mst_c_blocks.specs.declared.hand.PaddedBlocksHand.{PaddedBlocksHand}
-use Rattle.mst_c_blocks.specs.declared.role_box.Role.TheVariants.{Reader}
-use Rattle.mst_c_blocks.specs.Opened.{reader_of}
+use Rattle.mst_c_blocks.proofs.Names.{Some, None, vec_len, arc_value, into_iter_items, into_iter_len, Dealt, PaddedBlocksHand, Reader, reader_of}
+use Rattle.std.specs.Prelude.{◌≡◌, ℕ, ◌+◌, ◌<◌, true, length, get_or}
 use Rattle.mst_c_blocks.proofs.opening.hand_readers.Given as goal
 
 -- the lots that are left are the last of those given, the hands behind the first one have the

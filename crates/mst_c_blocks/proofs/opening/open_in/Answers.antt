@@ -1,4 +1,4 @@
-use Rattle.std.proofs.Common.{rules, sym, ◌∙◌, SFits, w32, to_z-of_z}
+use Rattle.mst_c_blocks.proofs.Names.{rules, sym, ◌∙◌, SFits, w32, to_z-of_z}
 use Rattle.mst_c_blocks.proofs.CodesApart.{not_splits}
 use Rattle.mst_c_blocks.proofs.opening.open_in.Goals as goal
 

@@ -1,4 +1,4 @@
-use Rattle.std.proofs.Common.{rules, arith, ◌≡◌, sym, ◌∙◌, pos, SFits, w32, to_z-of_z}
+use Rattle.mst_c_blocks.proofs.Names.{rules, arith, ◌≡◌, sym, ◌∙◌, pos, SFits, w32, to_z-of_z}
 use Rattle.mst_c_blocks.proofs.opening.open_of.Goals as goal
 
 -- there is a hand for each pass of the directory

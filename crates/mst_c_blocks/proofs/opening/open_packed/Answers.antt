@@ -1,4 +1,4 @@
-use Rattle.std.proofs.Common.{rules, ◌≡◌, sym, ◌∙◌, pos, SFits, w32, to_z-of_z}
+use Rattle.mst_c_blocks.proofs.Names.{rules, ◌≡◌, sym, ◌∙◌, pos, SFits, w32, to_z-of_z}
 use Rattle.mst_c_blocks.proofs.opening.open_packed.Goals as goal
 
 -- the splits are those that the bytes pack

@@ -1,4 +1,4 @@
-use Rattle.std.proofs.Common.{rules, ◌≡◌, ◌≤◌, ℕ, length, subst, sym, ◌∙◌, pos, SFits, w32, to_z-of_z}
+use Rattle.mst_c_blocks.proofs.Names.{rules, ◌≡◌, ◌≤◌, ℕ, length, subst, sym, ◌∙◌, pos, SFits, w32, to_z-of_z}
 use Rattle.mst_store.specs.Passes.{IsShape}
 use Rattle.mst_c_blocks.specs.Opened.{HandsOpened}
 use Rattle.mst_c_blocks.proofs.CodesApart.{not_shape}

@@ -1,7 +1,5 @@
-use Rattle.std.proofs.Common.{rules, arith, ◌≡◌, ◌<◌, ◌+◌, ℕ, get_or, length, Some, slice_set, sym, ap, ◌∙◌, below_more}
-use Rattle.std.proofs.lemmas.List.{get_or-set_same, get_or-set_other, length-set}
-use Rattle.mst_parts.specs.Origins.{Origin}
-use Rattle.mst_c_blocks.specs.declared.hand.PaddedBlocksHand.{PaddedBlocksHand}
+use Rattle.mst_c_blocks.proofs.Names.{rules, arith, ◌≡◌, ◌<◌, ◌+◌, ℕ, get_or, length, slice_set, sym, ap, ◌∙◌, below_more, get_or-set_same, get_or-set_other, length-set, Origin, PaddedBlocksHand}
+use Rattle.std.proofs.Common.{Some}
 use Rattle.mst_c_blocks.specs.declared.role_box.Role.TheVariants.{Part}
 use Rattle.mst_c_blocks.proofs.parts.hand_parts.Goals as goal
 

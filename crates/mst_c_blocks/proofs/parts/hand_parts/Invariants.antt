@@ -1,9 +1,6 @@
-use Rattle.std.specs.Prelude.{◌≡◌, ℕ, ◌+◌, ◌<◌, ◌≤◌, length, Some, get_or, vec_len}
-use Rattle.std.specs.Vec.Iter.{into_iter_items, into_iter_len}
-use Rattle.mst_parts.specs.Origins.{Origin}
-use Rattle.mst_c_blocks.specs.declared.hand.PaddedBlocksHand.{PaddedBlocksHand}
+use Rattle.mst_c_blocks.proofs.Names.{Some, vec_len, into_iter_items, into_iter_len, Origin, PaddedBlocksHand, WaitsIn}
+use Rattle.std.specs.Prelude.{◌≡◌, ℕ, ◌+◌, ◌<◌, ◌≤◌, length, get_or}
 use Rattle.mst_c_blocks.specs.declared.role_box.Role.TheVariants.{Part}
-use Rattle.mst_c_blocks.specs.Parts.{WaitsIn}
 use Rattle.mst_c_blocks.proofs.parts.hand_parts.Given as goal
 
 -- the parts that are left are the last of those given, the first hands have the others, and the

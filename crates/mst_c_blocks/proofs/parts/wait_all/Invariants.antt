@@ -1,6 +1,5 @@
-use Rattle.std.specs.Prelude.{◌≡◌, ℕ, ◌<◌, ◌≤◌, true, length, None, get_or}
-use Rattle.mst_c_blocks.specs.declared.hand.PaddedBlocksHand.{PaddedBlocksHand}
-use Rattle.mst_c_blocks.specs.Parts.{WaitsIn}
+use Rattle.mst_c_blocks.proofs.Names.{None, PaddedBlocksHand, WaitsIn}
+use Rattle.std.specs.Prelude.{◌≡◌, ℕ, ◌<◌, ◌≤◌, true, length, get_or}
 use Rattle.mst_c_blocks.proofs.parts.wait_all.Given as goal
 
 -- the first hands wait, and those behind them are empty

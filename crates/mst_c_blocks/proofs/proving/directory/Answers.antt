@@ -1,11 +1,6 @@
-use Rattle.std.proofs.Common.{rules, ◌≡◌, List, refl, sym, subst, to_z, of_z, w32}
-use Rattle.std.specs.Prelude.{length, Option, Some, Result, Err}
-use Rattle.mst_key.specs.Map.{Pair}
-use Rattle.mst_c_blocks.specs.declared.role_box.Role.{Role}
-use Rattle.mst_c_blocks.specs.declared.asking.ReadRefusal.{ReadRefusal}
-use Rattle.mst_c_blocks.specs.Holding.{Lists}
+use Rattle.mst_c_blocks.proofs.Names.{rules, ◌≡◌, List, refl, sym, subst, to_z, of_z, w32, Option, Some, Result, Err, Pair, Role, ReadRefusal, Lists, pairs_code}
+use Rattle.std.specs.Prelude.{length}
 use Rattle.mst_c_blocks.specs.Proving.{HasDirectory, DirectoryTold}
-use Rattle.mst_c_blocks.specs.Reading.{pairs_code}
 use Rattle.mst_c_blocks.proofs.proving.directory.Goals as goal
 
 -- the hand has none

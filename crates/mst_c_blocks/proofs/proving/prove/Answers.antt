@@ -1,10 +1,5 @@
-use Rattle.std.proofs.Common.{rules, ◌≡◌, List, ℕ, refl, sym, subst, to_z, of_z, w32}
-use Rattle.std.specs.Prelude.{length, Option, Some, Result, Ok, Err}
-use Rattle.mst_key.specs.Bytes.{IsKey}
-use Rattle.mst_c.specs.Told.{room_after, size_after}
-use Rattle.mst_c_blocks.specs.declared.role_box.Role.{Role}
-use Rattle.mst_c_blocks.specs.declared.asking.ReadRefusal.{ReadRefusal}
-use Rattle.mst_c_blocks.specs.Holding.{Lists}
+use Rattle.mst_c_blocks.proofs.Names.{rules, ◌≡◌, List, ℕ, refl, sym, subst, to_z, of_z, w32, Option, Some, Result, Ok, Err, IsKey, room_after, size_after, Role, ReadRefusal, Lists}
+use Rattle.std.specs.Prelude.{length}
 use Rattle.mst_c_blocks.specs.Proving.{HasProof, proof_of, proof_code, ProveTold}
 use Rattle.mst_c_blocks.proofs.proving.prove.Goals as goal
 

@@ -1,12 +1,9 @@
-use Rattle.std.proofs.Common.{rules, ◌≡◌, List, refl, sym, subst, to_z, of_z, w32, negsuc}
-use Rattle.std.specs.Prelude.{length, option_map, Option, Some, Result, Ok, Err}
-use Rattle.mst_key.specs.Map.{Pair, map_range}
+use Rattle.mst_c_blocks.proofs.Names.{rules, ◌≡◌, List, refl, sym, subst, to_z, of_z, w32, negsuc, Option, Some, Result, Ok, Err, Pair, room_after, size_after, Role, ReadRefusal, Lists, pairs_code}
+use Rattle.std.specs.Prelude.{length, option_map}
+use Rattle.mst_key.specs.Map.{map_range}
 use Rattle.mst_c.specs.Ranges.{pairs_bytes, count_of}
-use Rattle.mst_c.specs.Told.{IsBound, bound_of, room_after, size_after}
-use Rattle.mst_c_blocks.specs.declared.role_box.Role.{Role}
-use Rattle.mst_c_blocks.specs.declared.asking.ReadRefusal.{ReadRefusal}
-use Rattle.mst_c_blocks.specs.Holding.{Lists}
-use Rattle.mst_c_blocks.specs.Reading.{OfMap, pairs_of, pairs_code, RangeTold}
+use Rattle.mst_c.specs.Told.{IsBound, bound_of}
+use Rattle.mst_c_blocks.specs.Reading.{OfMap, pairs_of, RangeTold}
 use Rattle.mst_c_blocks.proofs.reading.range.Goals as goal
 
 -- the low bound is none

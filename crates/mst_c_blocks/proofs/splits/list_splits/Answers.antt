@@ -1,5 +1,4 @@
-use Rattle.std.proofs.Common.{rules, ◌≡◌, ◌<◌, ◌++◌, List, ℕ, length, sym, subst, ap, ◌∙◌}
-use Rattle.mst_c_blocks.specs.Splits.{splits_bytes}
+use Rattle.mst_c_blocks.proofs.Names.{rules, ◌≡◌, ◌<◌, ◌++◌, List, ℕ, length, sym, subst, ap, ◌∙◌, splits_bytes}
 use Rattle.mst_c_blocks.proofs.SplitPacking.{packs_none, packs_more, packs_these}
 use Rattle.mst_c_blocks.proofs.splits.list_splits.Goals as goal
 

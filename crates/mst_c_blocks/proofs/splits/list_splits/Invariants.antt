@@ -1,5 +1,4 @@
-use Rattle.std.proofs.Common.{◌≡◌, ◌++◌, length}
-use Rattle.mst_c_blocks.specs.Splits.{splits_bytes}
+use Rattle.mst_c_blocks.proofs.Names.{◌≡◌, ◌++◌, length, splits_bytes}
 use Rattle.mst_c_blocks.proofs.splits.list_splits.Given as goal
 
 -- the splits so far and the bytes that are left are all

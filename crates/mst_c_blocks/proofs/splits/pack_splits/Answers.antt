@@ -1,4 +1,4 @@
-use Rattle.std.proofs.Common.{rules, ◌<◌, length}
+use Rattle.mst_c_blocks.proofs.Names.{rules, ◌<◌, length}
 use Rattle.mst_c_blocks.proofs.SplitRising.{decides_on, packs_no_more}
 use Rattle.mst_c_blocks.proofs.splits.pack_splits.Goals as goal
 

@@ -1,5 +1,4 @@
-use Rattle.mst_key.specs.History.{batched}
-use Rattle.mst_node.specs.Tree.{tree}
+use Rattle.mst_change.proofs.Names.{batched, tree}
 use Rattle.mst_change.proofs.Batch.{batched_tree, beside_cost, stands_by_key}
 use Rattle.mst_change.proofs.Cost.Put.{cost_put}
 use Rattle.mst_change.proofs.Cost.Remove.{cost_remove}

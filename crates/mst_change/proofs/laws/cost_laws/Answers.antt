@@ -1,4 +1,5 @@
-use Rattle.mst_node.proofs.SameTrees.{tree_from_same, same_from_tree}
+use Rattle.mst_change.proofs.Names.{same_from_tree}
+use Rattle.mst_node.proofs.SameTrees.{tree_from_same}
 use Rattle.mst_change.proofs.Cost.Put.{cost_put}
 use Rattle.mst_change.proofs.Cost.Remove.{cost_remove}
 use Rattle.mst_change.proofs.Cost.Bounds.{put_cost_bound, remove_cost_bound}

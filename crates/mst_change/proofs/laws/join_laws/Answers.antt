@@ -1,4 +1,4 @@
-use Rattle.std.proofs.Common.{refl}
+use Rattle.mst_change.proofs.Names.{refl}
 use Rattle.mst_change.proofs.Join.Trees.{join_pairs, join_mst, join_under}
 use Rattle.mst_change.proofs.Join.Steps.{join_empty, join_higher, join_lower, join_level}
 use Rattle.mst_change.proofs.laws.join_laws.Goals as goal

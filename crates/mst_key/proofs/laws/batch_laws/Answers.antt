@@ -1,8 +1,7 @@
-use Rattle.std.proofs.Common.{refl}
+use Rattle.mst_key.proofs.Names.{refl, Batch}
 use Rattle.mst_key.proofs.BatchOrder.{batched-any_order}
 use Rattle.mst_key.proofs.Batches.{map_get-batched, batched_alike}
 use Rattle.mst_key.proofs.HistoryLaws.{after-singles, format_after-push, batched-append, IsMap-batched, batched-last_put, batched-last_remove, map_get-batched_other}
-use Rattle.mst_key.specs.declared.history.Change.TheVariants.{Batch}
 use Rattle.mst_key.proofs.laws.batch_laws.Goals as goal
 
 pub returns-clause-one_by_one : goal.returns-clause-one_by_one

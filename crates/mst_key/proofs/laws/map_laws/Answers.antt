@@ -1,4 +1,4 @@
-use Rattle.std.proofs.Common.{refl}
+use Rattle.mst_key.proofs.Names.{refl}
 use Rattle.mst_key.proofs.KeyOrder.{key_cmp-itself}
 use Rattle.mst_key.proofs.MapLaws.{map_get-put_same, map_get-put_other, map_get-remove_same, map_get-remove_other, IsMap-nil, IsMap-put, IsMap-remove, Contains-look, map_get-contains, map_determined, put-unchanged, remove-unchanged}
 use Rattle.mst_key.proofs.Splits.{put-between, put-at, remove-at}

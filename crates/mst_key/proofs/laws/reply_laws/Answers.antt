@@ -1,6 +1,4 @@
-use Rattle.std.proofs.Common.{refl, ap}
-use Rattle.mst_key.specs.declared.format.Format.{Format}
-use Rattle.mst_key.specs.History.{was}
+use Rattle.mst_key.proofs.Names.{refl, ap, Format, was}
 use Rattle.mst_key.proofs.HistoryLaws.{reply_edit, reply_past_migration, format_after_last, format_after_none}
 use Rattle.mst_key.proofs.laws.reply_laws.Goals as goal
 

@@ -1,5 +1,4 @@
-use Rattle.std.proofs.Common.{ap, ◌∙◌, length, arith}
-use Rattle.sha2.proofs.Facts256.{length-sha256}
+use Rattle.mst_key.proofs.Names.{ap, ◌∙◌, length, arith, length-sha256}
 use Rattle.mst_key.proofs.Zeros.{zeros_few}
 use Rattle.mst_key.proofs.layer.layer_of.Goals as goal
 

@@ -1,4 +1,4 @@
-use Rattle.std.proofs.Common.{rules}
+use Rattle.mst_key.proofs.Names.{rules}
 use Rattle.mst_key.proofs.layer.zeros_of_byte.Goals as goal
 
 pub returns-in-0-clause-zeros : goal.returns-in-0-clause-zeros

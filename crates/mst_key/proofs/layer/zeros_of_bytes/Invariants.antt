@@ -1,5 +1,5 @@
-use Rattle.std.proofs.Common.{◌≡◌, ◌≤◌, ◌+◌, ◌*◌, drop}
-use Rattle.mst_key.specs.Layer.{digits, zeros_in_front}
+use Rattle.mst_key.proofs.Names.{◌≡◌, ◌≤◌, ◌+◌, ◌*◌, digits, zeros_in_front}
+use Rattle.std.proofs.Common.{drop}
 use Rattle.mst_key.proofs.layer.zeros_of_bytes.Given as goal
 
 -- the zeros so far and those of the bytes to come are those of the digest

@@ -1,5 +1,5 @@
-use Rattle.std.specs.Prelude.{◌≡◌, ◌+◌, ◌++◌, ◌≤◌, vec_len, vec_items}
-use Rattle.mst_load.specs.Calls.{round_left}
+use Rattle.mst_load.proofs.Names.{vec_len, vec_items, round_left}
+use Rattle.std.specs.Prelude.{◌≡◌, ◌+◌, ◌++◌, ◌≤◌}
 use Rattle.mst_load.proofs.calls.append.Given as goal
 
 abbrev pub invariant-loop-place : goal.invariant-loop-place

@@ -1,4 +1,5 @@
-use Rattle.std.specs.Prelude.{◌≡◌, ◌*◌, ◌≤◌, vec_len, vec_items}
+use Rattle.mst_load.proofs.Names.{vec_len, vec_items}
+use Rattle.std.specs.Prelude.{◌≡◌, ◌*◌, ◌≤◌}
 use Rattle.mst_load.proofs.Left.{built_by}
 use Rattle.mst_load.proofs.calls.left_by.Given as goal
 

@@ -1,7 +1,5 @@
-use Rattle.std.specs.Prelude.{◌≡◌, ◌+◌, ◌≤◌, vec_len, length}
-use Rattle.std.proofs.Common.{rules, arith, ap, ◌∙◌}
-use Rattle.mst_store.specs.Passes.{StoreId}
-use Rattle.mst_store.specs.Settling.{AreAllPasses}
+use Rattle.mst_load.proofs.Names.{vec_len, rules, arith, ap, ◌∙◌, StoreId, AreAllPasses}
+use Rattle.std.specs.Prelude.{◌≡◌, ◌+◌, ◌≤◌, length}
 use Rattle.std.specs.Prelude.{get_or}
 use Rattle.mst_load.proofs.Kept.{each_keeps, settled_count}
 use Rattle.mst_load.proofs.Returning.{dealt_worker, dealt_number, all_back}

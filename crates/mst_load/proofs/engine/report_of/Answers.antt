@@ -1,7 +1,4 @@
-use Rattle.std.proofs.Common.{◌≡◌, List, [], length, sym, ◌∙◌, subst, arith, rules}
-use Rattle.mst_store.specs.Passes.{Known}
-use Rattle.mst_store.specs.Settling.{AreAllPasses, Settled}
-use Rattle.mst_store.proofs.AllPasses.{none_held}
+use Rattle.mst_load.proofs.Names.{◌≡◌, List, [], length, sym, ◌∙◌, subst, arith, rules, Known, AreAllPasses, Settled, none_held}
 use Rattle.mst_load.proofs.Kept.{all_whole, settled_back, told_settled, one_settled, seen_by_last}
 use Rattle.mst_load.proofs.engine.report_of.Goals as goal
 

@@ -1,9 +1,5 @@
-use Rattle.std.proofs.Common.{◌≡◌, List, ◌∷◌, ◌++◌, [], length, sym, ap, ◌∙◌, subst, rules}
-use Rattle.mst_key.specs.History.{History, after, format_after}
+use Rattle.mst_load.proofs.Names.{◌≡◌, List, ◌∷◌, ◌++◌, [], length, sym, ap, ◌∙◌, subst, rules, History, after, format_after, Known, format_seen, AreAllPasses, Settled, none_held}
 use Rattle.mst_node.specs.Text.{root}
-use Rattle.mst_store.specs.Passes.{Known, format_seen}
-use Rattle.mst_store.specs.Settling.{AreAllPasses, Settled}
-use Rattle.mst_store.proofs.AllPasses.{none_held}
 use Rattle.mst_load.proofs.Kept.{all_with, pinned_same}
 use Rattle.mst_load.proofs.engine.version_of.Goals as goal
 

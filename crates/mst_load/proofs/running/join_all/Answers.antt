@@ -1,7 +1,5 @@
-use Rattle.std.specs.Prelude.{◌≡◌, ℕ, ◌+◌, get_or, vec_items, vec_len}
-use Rattle.std.proofs.Common.{rules, arith, below_more, ap, sym, subst, ◌∙◌}
-use Rattle.mst_store.specs.Passes.{Known}
-use Rattle.mst_load.specs.Workers.{IsWorkerOf}
+use Rattle.mst_load.proofs.Names.{vec_items, vec_len, rules, arith, below_more, ap, sym, subst, ◌∙◌, Known, IsWorkerOf}
+use Rattle.std.specs.Prelude.{◌≡◌, ℕ, ◌+◌, get_or}
 use Rattle.mst_load.proofs.running.join_all.Goals as goal
 
 -- what a thread gives back is of the store, by its type, and has the number that it promised

@@ -1,4 +1,4 @@
-use Rattle.std.proofs.Common.{rules}
+use Rattle.mst_load.proofs.Names.{rules}
 use Rattle.mst_load.proofs.running.start.Goals as goal
 
 pub invariant_of-newcomer : goal.invariant_of-newcomer

@@ -1,5 +1,5 @@
-use Rattle.std.specs.Prelude.{◌≡◌, ℕ, ◌+◌, get_or, vec_items, vec_len}
-use Rattle.std.proofs.Common.{rules, arith, below_more}
+use Rattle.mst_load.proofs.Names.{vec_items, vec_len, rules, arith, below_more}
+use Rattle.std.specs.Prelude.{◌≡◌, ℕ, ◌+◌, get_or}
 use Rattle.mst_load.proofs.running.start_all.Goals as goal
 
 -- the pass that is started next stands first among the rest

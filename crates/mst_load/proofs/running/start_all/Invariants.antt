@@ -1,7 +1,5 @@
-use Rattle.std.specs.Prelude.{◌≡◌, ℕ, ◌+◌, ◌<◌, get_or, vec_items, vec_len}
-use Rattle.std.specs.Vec.Iter.{into_iter_items, into_iter_len}
-use Rattle.mst_store.specs.Passes.{Known}
-use Rattle.mst_load.specs.Workers.{IsNewOf}
+use Rattle.mst_load.proofs.Names.{vec_items, vec_len, into_iter_items, into_iter_len, Known, IsNewOf}
+use Rattle.std.specs.Prelude.{◌≡◌, ℕ, ◌+◌, ◌<◌, get_or}
 use Rattle.mst_load.proofs.running.start_all.Given as goal
 
 abbrev pub invariant-loop-pass : goal.invariant-loop-pass

@@ -1,4 +1,4 @@
-use Rattle.std.proofs.Common.{rules}
+use Rattle.mst_load.proofs.Names.{rules}
 use Rattle.mst_load.proofs.Listening.{none_heard, heard_more}
 use Rattle.mst_load.proofs.worker.read.Goals as goal
 

@@ -1,4 +1,4 @@
-use Rattle.mst_load.specs.Listening.{HasHeard}
+use Rattle.mst_load.proofs.Names.{HasHeard}
 use Rattle.mst_load.proofs.worker.read.Given as goal
 
 abbrev pub invariant-loop-index : goal.invariant-loop-index

@@ -1,5 +1,4 @@
-use Rattle.std.proofs.Common.{rules}
-use Rattle.mst_load.specs.Workers.{IsNewOf}
+use Rattle.mst_load.proofs.Names.{rules, IsNewOf}
 use Rattle.mst_load.proofs.Working.{still_worker}
 use Rattle.mst_load.proofs.worker.work.Goals as goal
 

@@ -1,4 +1,4 @@
-use Rattle.std.proofs.Common.{rules, ◌+◌}
+use Rattle.mst_load.proofs.Names.{rules, ◌+◌}
 use Rattle.mst_load.proofs.Working.{not_written, written_more}
 use Rattle.mst_load.proofs.worker.write.Goals as goal
 

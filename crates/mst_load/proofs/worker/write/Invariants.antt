@@ -1,5 +1,5 @@
+use Rattle.mst_load.proofs.Names.{HasWritten}
 use Rattle.std.specs.Prelude.{◌≡◌}
-use Rattle.mst_load.specs.Workers.{HasWritten}
 use Rattle.mst_load.proofs.worker.write.Given as goal
 
 abbrev pub invariant-loop-index : goal.invariant-loop-index

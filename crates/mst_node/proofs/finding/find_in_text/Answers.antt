@@ -1,5 +1,4 @@
-use Rattle.std.proofs.Common.{List, ℕ, refl, ap, ◌∙◌, arith, rules}
-use Rattle.mst_node.specs.KeyPlace.{place_of}
+use Rattle.mst_node.proofs.Names.{List, ℕ, refl, ap, ◌∙◌, arith, rules, place_of}
 use Rattle.mst_node.proofs.GrammarIsRead.{read_in_grammar, grammar_read}
 use Rattle.mst_node.proofs.Scans.{text-scanned, node-scanned}
 use Rattle.mst_node.proofs.ReadIsSpelled.{bytes-at}

@@ -1,7 +1,5 @@
-use Rattle.std.proofs.Common.{◌≡◌, ◌-◌, ◌+◌, ℕ, false, true, refl, sym, ap, ◌∙◌, arith}
+use Rattle.mst_node.proofs.Names.{◌≡◌, ◌-◌, ◌+◌, ℕ, false, true, refl, sym, ap, ◌∙◌, arith, scan_at, passing_from, key_before, fits_behind, seen}
 use Rattle.std.proofs.lemmas.Bool.Decides.{same_from_decides}
-use Rattle.mst_node.specs.Scan.{scan_at, passing_from, key_before, fits_behind}
-use Rattle.mst_node.specs.Seen.{seen}
 use Rattle.mst_node.proofs.ScannedEntries.{behind-Decides, scan_more, scan_unread, scan_unfit}
 use Rattle.mst_node.proofs.Stops.{passes_on}
 use Rattle.mst_node.proofs.finding.pass.Goals as goal

@@ -1,5 +1,4 @@
-use Rattle.std.proofs.Common.{◌≡◌, ◌≤◌, ◌-◌, length}
-use Rattle.mst_node.specs.Scan.{scan_at, scan_from, passing_from}
+use Rattle.mst_node.proofs.Names.{◌≡◌, ◌≤◌, ◌-◌, length, scan_at, scan_from, passing_from}
 use Rattle.mst_node.proofs.finding.pass.Given as goal
 
 -- to scan the entries to come gives what scanning all gives

@@ -1,5 +1,5 @@
-use Rattle.std.proofs.Common.{List, ℕ, Option, Some, sym, ap, ◌∙◌, option_map}
-use Rattle.mst_node.specs.Scan.{seen_stop, passing_from}
+use Rattle.mst_node.proofs.Names.{List, ℕ, Option, Some, sym, ap, ◌∙◌, seen_stop, passing_from}
+use Rattle.std.proofs.Common.{option_map}
 use Rattle.mst_node.proofs.ScannedEntries.{scan_end}
 use Rattle.mst_node.proofs.Stops.{passed_to, ended}
 use Rattle.mst_node.proofs.finding.scan.Goals as goal

@@ -1,4 +1,4 @@
-use Rattle.std.proofs.Common.{refl, arith, not}
+use Rattle.mst_node.proofs.Names.{refl, arith, not}
 use Rattle.mst_node.proofs.Stops.{stops_at}
 use Rattle.mst_node.proofs.finding.stop_of.Goals as goal
 

@@ -1,4 +1,4 @@
-use Rattle.std.proofs.Common.{rules}
+use Rattle.mst_node.proofs.Names.{rules}
 use Rattle.mst_node.proofs.flat.fits.Goals as goal
 
 pub returns-then-layer_of-layer : goal.returns-then-layer_of-layer

@@ -1,6 +1,4 @@
-use Rattle.std.proofs.Common.{Bool, Option, List, ℕ, ◌∙◌, sym, ap}
-use Rattle.std.specs.Prelude.{is_some}
-use Rattle.mst_node.specs.Reading.{◌>>=◌, whole}
+use Rattle.mst_node.proofs.Names.{Bool, Option, List, ℕ, ◌∙◌, sym, ap, is_some, ◌>>=◌, whole}
 use Rattle.mst_node.proofs.BytesAfterEntries.{body-none, body-child, whole-empty}
 use Rattle.mst_node.proofs.flat.has_body.Goals as goal
 

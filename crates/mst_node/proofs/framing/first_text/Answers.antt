@@ -1,5 +1,4 @@
-use Rattle.std.proofs.Common.{arith, rules, tests}
-use Rattle.std.proofs.lemmas.Grind.{common_steps}
+use Rattle.mst_node.proofs.Names.{arith, rules, tests, common_steps}
 use Rattle.mst_node.specs.Reading.{first_text_at}
 use Rattle.mst_node.proofs.framing.first_text.Goals as goal
 

@@ -1,4 +1,4 @@
-use Rattle.std.proofs.Common.{arith}
+use Rattle.mst_node.proofs.Names.{arith}
 use Rattle.mst_node.proofs.ReadIsSpelled.{bytes-at}
 use Rattle.mst_node.proofs.EntryPlaces.{none-some}
 use Rattle.mst_node.proofs.Frames.{first_takes, first_again}

@@ -1,5 +1,4 @@
-use Rattle.std.proofs.Common.{refl, sym, ◌∙◌, subst, rules, arith}
-use Rattle.mst_node.specs.Grammar.{KeysFit}
+use Rattle.mst_node.proofs.Names.{refl, sym, ◌∙◌, subst, rules, arith, KeysFit}
 use Rattle.mst_node.proofs.ReadIsSpelled.{bytes-at, some_same}
 use Rattle.mst_node.proofs.EntryPlaces.{none-some}
 use Rattle.mst_node.proofs.GrammarIsRead.{read_in_grammar, grammar_read}

@@ -1,4 +1,4 @@
-use Rattle.std.proofs.Common.{rules}
+use Rattle.mst_node.proofs.Names.{rules}
 use Rattle.mst_node.proofs.Empty.{empty}
 use Rattle.mst_node.proofs.hashing.empty_digest.Goals as goal
 

@@ -1,5 +1,5 @@
-use Rattle.std.proofs.Common.{◌≡◌, ℕ, List, [], ◌∷◌, sym, ◌∙◌, ⊎_elim, Contains}
-use Rattle.mst_key.proofs.SpanLaws.{contains-cases, contains-nothing}
+use Rattle.mst_node.proofs.Names.{◌≡◌, ℕ, List, [], ◌∷◌, sym, ◌∙◌, ⊎_elim, contains-cases, contains-nothing}
+use Rattle.std.proofs.Common.{Contains}
 use Rattle.mst_node.proofs.laws.collision_of_two.Goals as goal
 
 pub returns-clause-two : goal.returns-clause-two

@@ -1,4 +1,4 @@
-use Rattle.std.proofs.Common.{◌+◌, length}
+use Rattle.mst_node.proofs.Names.{◌+◌, length}
 use Rattle.mst_node.proofs.HeldLaws.{held_alone, held_same, held_more}
 use Rattle.mst_node.proofs.laws.held_laws.Goals as goal
 

@@ -1,5 +1,4 @@
-use Rattle.std.proofs.Common.{◌∙◌, sym, ap}
-use Rattle.mst_node.specs.Tree.{pairs}
+use Rattle.mst_node.proofs.Names.{◌∙◌, sym, ap, pairs}
 use Rattle.mst_node.proofs.UniqueTree.{pairs_tree, tree_unique, tree_mst}
 use Rattle.mst_node.proofs.laws.one_tree.Goals as goal
 

@@ -1,6 +1,4 @@
-use Rattle.std.proofs.Common.{sym, subst, None}
-use Rattle.mst_key.specs.Map.{IsAscending}
-use Rattle.mst_node.specs.Tree.{node, tree, pairs}
+use Rattle.mst_node.proofs.Names.{sym, subst, None, IsAscending, node, tree, pairs}
 use Rattle.mst_node.proofs.UniqueTree.{pairs_tree, tree_mst}
 use Rattle.mst_node.proofs.TreeOrder.{layers_fall, lies_between, between_none}
 use Rattle.mst_node.proofs.LayersBelow.{under_in}

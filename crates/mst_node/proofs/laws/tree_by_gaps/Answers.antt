@@ -1,4 +1,4 @@
-use Rattle.std.proofs.Common.{[], refl}
+use Rattle.mst_node.proofs.Names.{[], refl}
 use Rattle.mst_node.proofs.TreeEquation.{tree-no_pairs, tree_some}
 use Rattle.mst_node.proofs.laws.tree_by_gaps.Goals as goal
 

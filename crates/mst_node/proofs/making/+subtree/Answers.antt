@@ -1,10 +1,6 @@
-use Rattle.std.proofs.Common.{◌≡◌, ◌≢◌, ◌≤◌, ◌+◌, [], length, ℕ, zero, suc, false, ◌<◌, ◌∙◌, sym, ap, subst, arith, map, rules}
+use Rattle.mst_node.proofs.Names.{◌≡◌, ◌≢◌, ◌≤◌, ◌+◌, [], length, ℕ, zero, suc, false, ◌<◌, ◌∙◌, sym, ap, subst, arith, map, rules, nat_tests, slice_range, Tree, tree, greatest, node, entries_of, last, TreeEntry, tree_entry, with_entries, layer_in}
 use Rattle.std.proofs.lemmas.List.{map-append}
-use Rattle.std.proofs.lemmas.Bool.Decides.{nat_tests}
-use Rattle.std.specs.Prelude.{◌==◌, slice_range}
-use Rattle.mst_node.specs.Tree.{Tree, tree, greatest, node, entries_of, last}
-use Rattle.mst_node.specs.Shape.{TreeEntry, tree_entry, with_entries}
-use Rattle.mst_key.specs.Layer.{layer_in}
+use Rattle.std.specs.Prelude.{◌==◌}
 use Rattle.mst_node.proofs.TreeEquation.{tree-no_pairs, has_some, tree_some, step_at, step_other, some_other, last_gap}
 use Rattle.mst_node.proofs.Heights.{height_of, height_some, low_none, low_more}
 use Rattle.mst_node.proofs.LayersByPlace.{layers-part, layers-length, layer-at}

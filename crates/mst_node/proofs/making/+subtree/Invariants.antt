@@ -1,8 +1,4 @@
-use Rattle.std.proofs.Common.{◌≡◌, ◌≤◌, [], map, drop}
-use Rattle.std.specs.Prelude.{slice_range}
-use Rattle.mst_key.specs.Layer.{layer_in}
-use Rattle.mst_node.specs.Tree.{tree, entries_of}
-use Rattle.mst_node.specs.Shape.{tree_entry, with_entries}
+use Rattle.mst_node.proofs.Names.{◌≡◌, ◌≤◌, [], map, drop, slice_range, layer_in, tree, entries_of, tree_entry, with_entries}
 use Rattle.mst_node.proofs.TreeEquation.{Has}
 use Rattle.mst_node.proofs.Heights.{height_of}
 use Rattle.mst_node.proofs.making.+subtree.Given as goal

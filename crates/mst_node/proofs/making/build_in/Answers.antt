@@ -1,14 +1,8 @@
-use Rattle.std.proofs.Common.{◌≡◌, ◌∙◌, ap, List}
-use Rattle.std.specs.Prelude.{IfOk}
+use Rattle.mst_node.proofs.Names.{◌≡◌, ◌∙◌, ap, List, IfOk, Node, Pair, Format, tree, pairs, tree_of_child}
 use Rattle.std.specs.declared.result.Result.{Result}
 use Rattle.std.specs.declared.result.Result.TheVariants.{Ok, Err}
 use Rattle.std.specs.declared.option.Option.{Option}
 use Rattle.std.specs.declared.boxed.Box.{Box}
-use Rattle.mst_node.specs.declared.node.Node.{Node}
-use Rattle.mst_key.specs.Map.{Pair}
-use Rattle.mst_key.specs.declared.format.Format.{Format}
-use Rattle.mst_node.specs.Tree.{tree, pairs}
-use Rattle.mst_node.specs.Shape.{tree_of_child}
 use Rattle.mst_node.proofs.UniqueTree.{pairs_tree}
 use Rattle.mst_node.proofs.making.build_in.Goals as goal
 

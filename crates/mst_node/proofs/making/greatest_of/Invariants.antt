@@ -1,5 +1,4 @@
-use Rattle.std.proofs.Common.{◌≡◌, max, drop}
-use Rattle.mst_node.specs.Tree.{greatest}
+use Rattle.mst_node.proofs.Names.{◌≡◌, max, drop, greatest}
 use Rattle.mst_node.proofs.making.greatest_of.Given as goal
 
 -- the greatest so far and the greatest of those to come

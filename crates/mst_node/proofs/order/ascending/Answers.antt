@@ -1,6 +1,4 @@
-use Rattle.std.proofs.lemmas.Grind.{common_steps}
-use Rattle.std.proofs.Common.{◌≡◌, ℕ, ◌+◌, ◌-◌, get_or, sym, ap, ◌∙◌, arith, rules}
-use Rattle.mst_key.specs.Map.{Pair, key_cmp}
+use Rattle.mst_node.proofs.Names.{common_steps, ◌≡◌, ℕ, ◌+◌, ◌-◌, get_or, sym, ap, ◌∙◌, arith, rules, Pair, key_cmp}
 use Rattle.mst_node.proofs.RisingKeys.{rising-at, rising-more}
 use Rattle.mst_node.proofs.order.ascending.Goals as goal
 

@@ -1,5 +1,4 @@
-use Rattle.std.proofs.Common.{take}
-use Rattle.mst_key.specs.Map.{IsAscending}
+use Rattle.mst_node.proofs.Names.{take, IsAscending}
 use Rattle.mst_node.proofs.order.ascending.Given as goal
 
 -- the pairs so far rise

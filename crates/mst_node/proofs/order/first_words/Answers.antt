@@ -1,4 +1,4 @@
-use Rattle.std.proofs.Common.{arith}
+use Rattle.mst_node.proofs.Names.{arith}
 use Rattle.mst_node.proofs.FirstWords.{chunks-less, chunks-greater}
 use Rattle.mst_node.proofs.ReadIsSpelled.{bytes-at}
 use Rattle.mst_node.proofs.order.first_words.Goals as goal

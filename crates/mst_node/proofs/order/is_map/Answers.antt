@@ -1,10 +1,4 @@
-use Rattle.std.proofs.Common.{◌≡◌, ◌∙◌, ◌+◌, ◌∷◌, ◌++◌, [], ℕ, take, length, sym, ap, subst, arith, rules}
-use Rattle.std.proofs.Math.Seq.{take-length}
-use Rattle.std.proofs.lemmas.List.{take_more}
-use Rattle.std.specs.List.{AllByRecursion}
-use Rattle.mst_key.specs.Bytes.{IsKey, IsValue}
-use Rattle.mst_key.specs.Map.{Pair}
-use Rattle.mst_key.proofs.Alls.{alls-append}
+use Rattle.mst_node.proofs.Names.{◌≡◌, ◌∙◌, ◌+◌, ◌∷◌, ◌++◌, [], ℕ, take, length, sym, ap, subst, arith, rules, take-length, take_more, AllByRecursion, IsKey, IsValue, Pair, alls-append}
 use Rattle.mst_node.proofs.order.is_map.Goals as goal
 
 abbrev Fits : Pair → Type 0

@@ -1,6 +1,4 @@
-use Rattle.std.proofs.Common.{take}
-use Rattle.std.specs.List.{AllByRecursion}
-use Rattle.mst_key.specs.Bytes.{IsKey, IsValue}
+use Rattle.mst_node.proofs.Names.{take, AllByRecursion, IsKey, IsValue}
 use Rattle.mst_node.proofs.order.is_map.Given as goal
 
 -- the pairs so far are within their limits

@@ -1,5 +1,4 @@
-use Rattle.std.proofs.Common.{◌-◌, ◌+◌, ◌∙◌, arith}
-use Rattle.mst_node.specs.Seen.{seen}
+use Rattle.mst_node.proofs.Names.{◌-◌, ◌+◌, ◌∙◌, arith, seen}
 use Rattle.mst_node.proofs.BytesAfterEntries.{behind_more}
 use Rattle.mst_node.proofs.reading.behind.Goals as goal
 

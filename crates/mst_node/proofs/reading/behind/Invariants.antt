@@ -1,5 +1,4 @@
-use Rattle.std.proofs.Common.{◌≡◌, ◌-◌}
-use Rattle.mst_node.specs.Reading.{behind_at}
+use Rattle.mst_node.proofs.Names.{◌≡◌, ◌-◌, behind_at}
 use Rattle.mst_node.proofs.reading.behind.Given as goal
 
 -- what lies after the entries to come lies after all

@@ -1,11 +1,4 @@
-use Rattle.std.proofs.Common.{◌≡◌, ◌≢◌, ◌≤◌, ◌<◌, ◌+◌, ◌-◌, [], length, take, drop, ℕ, List, Some, ◌∙◌, sym, ap, subst, arith, length-drop}
-use Rattle.std.proofs.lemmas.Bool.Decides.{nat_tests}
-use Rattle.std.proofs.lemmas.List.{length-take}
-use Rattle.std.specs.Prelude.{slice_range}
-use Rattle.sha2.specs.Sha256.{sha256}
-use Rattle.mst_key.specs.Layer.{layer_in}
-use Rattle.mst_node.specs.Top.{IsTop}
-use Rattle.mst_node.specs.Text.{child_digest, counted, held_of, held_text, heading}
+use Rattle.mst_node.proofs.Names.{◌≡◌, ◌≢◌, ◌≤◌, ◌<◌, ◌+◌, ◌-◌, [], length, take, drop, ℕ, List, Some, ◌∙◌, sym, ap, subst, arith, length-drop, nat_tests, length-take, slice_range, sha256, layer_in, IsTop, child_digest, counted, held_of, held_text, heading}
 use Rattle.mst_node.proofs.TreeEquation.{tree-no_pairs, has_some, some_other, gap_more, gap_none}
 use Rattle.mst_node.proofs.Heights.{height_of, height_some, low_none, low_more}
 use Rattle.mst_node.proofs.TopNodes.{at_layer-le, text_some, text_at, text_other, text_end, child_digest_some}

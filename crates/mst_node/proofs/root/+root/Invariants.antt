@@ -1,10 +1,4 @@
-use Rattle.std.proofs.Common.{◌≡◌, ◌≤◌, ◌+◌, ◌*◌, ℕ, List, ◌++◌, drop}
-use Rattle.std.specs.Prelude.{slice_range}
-use Rattle.sha2.specs.Hashers.{Holds256}
-use Rattle.mst_key.specs.Layer.{layer_in}
-use Rattle.mst_node.specs.Tree.{tree, entries_of}
-use Rattle.mst_node.specs.Text.{text}
-use Rattle.mst_node.specs.Top.{IsTop}
+use Rattle.mst_node.proofs.Names.{◌≡◌, ◌≤◌, ◌+◌, ◌*◌, ℕ, List, ◌++◌, drop, slice_range, Holds256, layer_in, tree, entries_of, text, IsTop}
 use Rattle.mst_node.proofs.TreeEquation.{Has}
 use Rattle.mst_node.proofs.TopNodes.{entries_text}
 use Rattle.mst_node.proofs.Heights.{height_of}

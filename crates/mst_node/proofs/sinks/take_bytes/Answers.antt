@@ -1,5 +1,4 @@
-use Rattle.std.proofs.Common.{◌++◌, ℕ, List, length, subst, sym, ap, ◌∙◌, arith}
-use Rattle.std.proofs.lemmas.List.{take_all}
+use Rattle.mst_node.proofs.Names.{◌++◌, ℕ, List, length, subst, sym, ap, ◌∙◌, arith, take_all}
 use Rattle.mst_node.proofs.sinks.take_bytes.Goals as goal
 
 pub slice_bounds-take-end-in-32 : goal.slice_bounds-take-end-in-32

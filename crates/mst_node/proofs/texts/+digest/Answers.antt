@@ -1,11 +1,4 @@
-use Rattle.std.proofs.Common.{◌≡◌, length, ℕ, subst, ap, sym, ◌∙◌, arith, rules, take}
-use Rattle.std.proofs.Math.Seq.{take-length}
-use Rattle.std.proofs.lemmas.Grind.{common_steps}
-use Rattle.sha2.specs.Sha256.{sha256}
-use Rattle.sha2.specs.Hashers.{Holds256}
-use Rattle.mst_node.specs.Text.{held_of, held_text, heading}
-use Rattle.mst_node.specs.declared.node.Node.{out-Node}
-use Rattle.mst_node.specs.declared.node.Entry.TheViews.{the_lemmas}
+use Rattle.mst_node.proofs.Names.{◌≡◌, length, ℕ, subst, ap, sym, ◌∙◌, arith, rules, take, take-length, common_steps, sha256, Holds256, held_of, held_text, heading, out-Node, the_lemmas}
 use Rattle.mst_node.proofs.NodeShapes.{entries-fit, child-fits, tail-fits, text-more, text_out}
 use Rattle.mst_node.proofs.texts.+digest.Goals as goal
 

@@ -1,8 +1,4 @@
-use Rattle.std.proofs.Common.{length, ◌++◌, take}
-use Rattle.std.specs.List.{flat_map}
-use Rattle.sha2.specs.Hashers.{Holds256}
-use Rattle.mst_node.specs.declared.node.Node.{out-Node}
-use Rattle.mst_node.specs.Text.{heading}
+use Rattle.mst_node.proofs.Names.{length, ◌++◌, take, flat_map, Holds256, out-Node, heading}
 use Rattle.mst_node.proofs.NodeShapes.{text_of_entry}
 use Rattle.mst_node.proofs.texts.+digest.Given as goal
 

@@ -1,10 +1,4 @@
-use Rattle.std.proofs.Common.{rules}
-use Rattle.std.proofs.Common.{◌≡◌, length, ℕ, List, [], ◌++◌, subst, ap, sym, ◌∙◌, arith, take}
-use Rattle.std.specs.Prelude.{IfSome}
-use Rattle.std.specs.List.{flat_map}
-use Rattle.std.proofs.Math.Seq.{take-length}
-use Rattle.mst_node.specs.Text.{held_of, held_text, child_text, heading}
-use Rattle.mst_node.specs.declared.node.Node.{out-Node}
+use Rattle.mst_node.proofs.Names.{rules, ◌≡◌, length, ℕ, List, [], ◌++◌, subst, ap, sym, ◌∙◌, arith, take, IfSome, flat_map, take-length, held_of, held_text, child_text, heading, out-Node}
 use Rattle.mst_node.proofs.NodeShapes.{entries-fit, child-fits, tail-fits, text-more, text_out, text_of_entry}
 use Rattle.mst_node.proofs.TextBuffers.{took_none, gives_taken}
 use Rattle.mst_node.proofs.texts.text_in.Goals as goal

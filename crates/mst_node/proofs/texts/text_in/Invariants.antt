@@ -1,8 +1,4 @@
-use Rattle.std.proofs.Common.{length, ◌≡◌, ◌++◌, take}
-use Rattle.std.specs.Prelude.{IfSome}
-use Rattle.std.specs.List.{flat_map}
-use Rattle.mst_node.specs.Text.{heading}
-use Rattle.mst_node.specs.declared.node.Node.{out-Node}
+use Rattle.mst_node.proofs.Names.{length, ◌≡◌, ◌++◌, take, IfSome, flat_map, heading, out-Node}
 use Rattle.mst_node.proofs.NodeShapes.{text_of_entry}
 use Rattle.mst_node.proofs.texts.text_in.Given as goal
 

@@ -1,15 +1,7 @@
-use Rattle.std.proofs.Common.{◌≡◌, ◌∙◌, ◌∷◌, ◌++◌, [], List, vec_items, sym, ap, subst, arith, rules}
-use Rattle.std.specs.Arc.{arc_value}
-use Rattle.std.specs.List.{AllByRecursion}
-use Rattle.std.specs.VecDeque.{deque_items}
-use Rattle.std.proofs.lemmas.List.{length-map, nil_from_length}
-use Rattle.mst_key.specs.declared.history.Edit.{Edit}
-use Rattle.mst_store.specs.Passes.{Known}
-use Rattle.mst_shards.specs.Opening.{Shards}
-use Rattle.mst_parts.specs.Origins.{Origin, edits_of, passes_of, IsStoreAt}
+use Rattle.mst_parts.proofs.Names.{◌≡◌, ◌∙◌, ◌∷◌, ◌++◌, [], List, vec_items, sym, ap, subst, arith, rules, arc_value, AllByRecursion, deque_items, length-map, Edit, Known, Shards, Origin, edits_of, passes_of, IsStoreAt, goes_on, all_gone}
+use Rattle.std.proofs.lemmas.List.{nil_from_length}
 use Rattle.mst_parts.proofs.Coming.{stands_at, passes_more, edits_more}
 use Rattle.mst_parts.proofs.Rooms.{room_for_all, room_for_one, one_fewer, room_still}
-use Rattle.mst_shards.proofs.HandingOut.{goes_on, all_gone}
 use Rattle.mst_parts.proofs.dealing.begin_all.Goals as goal
 
 pub loop-pass-init : goal.loop-pass-init

@@ -1,8 +1,5 @@
-use Rattle.std.proofs.Common.{◌≡◌, ◌+◌, ◌≤◌, ◌++◌, vec_len, vec_capacity, vec_items}
-use Rattle.std.specs.Arc.{arc_value}
-use Rattle.std.specs.List.{AllByRecursion}
-use Rattle.std.specs.VecDeque.{deque_items, deque_len, deque_capacity}
-use Rattle.mst_parts.specs.Origins.{edits_of, passes_of}
+use Rattle.mst_parts.proofs.Names.{◌≡◌, ◌+◌, ◌≤◌, ◌++◌, vec_len, vec_capacity, vec_items, arc_value, AllByRecursion, deque_items, deque_len, edits_of, passes_of}
+use Rattle.std.specs.VecDeque.{deque_capacity}
 use Rattle.mst_parts.proofs.dealing.begin_all.Given as goal
 
 -- the first parts are begun

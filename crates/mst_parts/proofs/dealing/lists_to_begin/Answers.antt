@@ -1,6 +1,4 @@
-use Rattle.std.proofs.Common.{◌≡◌, ◌∙◌, ◌+◌, ◌≤◌, ℕ, List, length, vec_capacity, ap, subst}
-use Rattle.mst_shards.specs.Opening.{Shards}
-use Rattle.mst_blocks.specs.Blocks.{parts_of}
+use Rattle.mst_parts.proofs.Names.{◌≡◌, ◌∙◌, ◌+◌, ◌≤◌, ℕ, List, length, vec_capacity, ap, subst, Shards, parts_of}
 use Rattle.mst_parts.proofs.dealing.lists_to_begin.Goals as goal
 
 pub returns-clause-edits : goal.returns-clause-edits

@@ -1,6 +1,4 @@
-use Rattle.std.proofs.Common.{◌≡◌, ◌∷◌, [], length, vec_items, sym, ap, subst, arith}
-use Rattle.std.specs.Arc.{arc_value}
-use Rattle.std.specs.List.{AllByRecursion}
+use Rattle.mst_parts.proofs.Names.{◌≡◌, ◌∷◌, [], length, vec_items, sym, ap, subst, arith, arc_value, AllByRecursion}
 use Rattle.mst_key.proofs.Alls.{alls-append}
 use Rattle.mst_parts.proofs.dealing.shares_of.Goals as goal
 

@@ -1,6 +1,4 @@
-use Rattle.std.proofs.Common.{◌≡◌, ◌≤◌, vec_len, vec_capacity, vec_items}
-use Rattle.std.specs.Arc.{arc_value}
-use Rattle.std.specs.List.{AllByRecursion}
+use Rattle.mst_parts.proofs.Names.{◌≡◌, ◌≤◌, vec_len, vec_capacity, vec_items, arc_value, AllByRecursion}
 use Rattle.mst_parts.proofs.dealing.shares_of.Given as goal
 
 -- the shares so far are of the map

@@ -1,4 +1,4 @@
-use Rattle.mst_blocks.proofs.Committing.{part_nothing}
+use Rattle.mst_parts.proofs.Names.{part_nothing}
 use Rattle.mst_parts.proofs.finishing.cancel_part.Goals as goal
 
 -- its shard was refused it

@@ -1,14 +1,7 @@
-use Rattle.std.proofs.Common.{◌≡◌, List, ◌∷◌, ◌++◌, [], length, sym, ap, ◌∙◌, subst, arith}
-use Rattle.std.specs.VecDeque.{deque_items}
-use Rattle.std.proofs.lemmas.List.{length-map}
-use Rattle.mst_store.specs.Passes.{Known}
-use Rattle.mst_shards.specs.Sharding.{AllStep}
-use Rattle.mst_blocks.specs.Blocks.{MakesNothing}
-use Rattle.mst_parts.specs.Origins.{Origin, passes_of}
+use Rattle.mst_parts.proofs.Names.{◌≡◌, List, ◌∷◌, ◌++◌, [], length, sym, ap, ◌∙◌, subst, arith, deque_items, length-map, Known, AllStep, MakesNothing, Origin, passes_of, goes_on, all_gone, all_step_length}
 use Rattle.mst_parts.proofs.Coming.{part_low, part_own}
 use Rattle.mst_parts.proofs.Rooms.{room_for_all, room_for_one, one_fewer}
-use Rattle.mst_shards.proofs.HandingOut.{goes_on, all_gone}
-use Rattle.mst_shards.proofs.PinningAll.{all_step_length, all_step_more}
+use Rattle.mst_shards.proofs.PinningAll.{all_step_more}
 use Rattle.mst_parts.proofs.finishing.cancel_parts.Goals as goal
 
 pub loop-part-init : goal.loop-part-init

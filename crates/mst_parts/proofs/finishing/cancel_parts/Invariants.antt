@@ -1,9 +1,4 @@
-use Rattle.std.proofs.Common.{◌≡◌, ◌+◌, ◌≤◌, List, ◌++◌, vec_len, vec_capacity, vec_items}
-use Rattle.std.specs.VecDeque.{deque_items, deque_len}
-use Rattle.mst_store.specs.Passes.{Known}
-use Rattle.mst_shards.specs.Sharding.{AllStep}
-use Rattle.mst_blocks.specs.Blocks.{MakesNothing}
-use Rattle.mst_parts.specs.Origins.{passes_of}
+use Rattle.mst_parts.proofs.Names.{◌≡◌, ◌+◌, ◌≤◌, List, ◌++◌, vec_len, vec_capacity, vec_items, deque_items, deque_len, Known, AllStep, MakesNothing, passes_of}
 use Rattle.mst_parts.proofs.finishing.cancel_parts.Given as goal
 
 -- the first parts are taken back

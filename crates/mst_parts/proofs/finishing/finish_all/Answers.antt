@@ -1,17 +1,9 @@
-use Rattle.std.proofs.Common.{◌≡◌, List, ◌∷◌, ◌++◌, [], length, map, refl, sym, ap, ◌∙◌, subst, arith}
-use Rattle.std.specs.VecDeque.{deque_items}
-use Rattle.std.proofs.lemmas.List.{length-append, length-map}
-use Rattle.mst_key.specs.declared.history.Edit.{Edit}
-use Rattle.mst_store.specs.Passes.{Known}
-use Rattle.mst_shards.specs.Sharding.{AllStep}
-use Rattle.mst_blocks.specs.Blocks.{MakesNothing}
-use Rattle.mst_parts.specs.Origins.{Origin, edits_of, passes_of}
-use Rattle.mst_blocks.specs.Staging.{AllStaged, IsStaged, canceled_stage}
+use Rattle.mst_parts.proofs.Names.{◌≡◌, List, ◌∷◌, ◌++◌, [], length, map, refl, sym, ap, ◌∙◌, subst, arith, deque_items, length-map, Edit, Known, AllStep, MakesNothing, Origin, edits_of, passes_of, AllStaged, canceled_stage, Stops, goes_on, all_gone, all_step_length}
+use Rattle.std.proofs.lemmas.List.{length-append}
+use Rattle.mst_blocks.specs.Staging.{IsStaged}
 use Rattle.mst_parts.proofs.Coming.{part_low, part_own}
 use Rattle.mst_parts.proofs.Rooms.{room_for_all, room_for_one, one_fewer}
-use Rattle.mst_blocks.proofs.Committing.{staged_more, nothing_more, canceled_more, Stops, stops_more}
-use Rattle.mst_shards.proofs.HandingOut.{goes_on, all_gone}
-use Rattle.mst_shards.proofs.PinningAll.{all_step_length}
+use Rattle.mst_blocks.proofs.Committing.{staged_more, nothing_more, canceled_more, stops_more}
 use Rattle.mst_parts.proofs.finishing.finish_all.Goals as goal
 
 pub loop-part-init : goal.loop-part-init

@@ -1,13 +1,4 @@
-use Rattle.std.proofs.Common.{◌≡◌, ◌+◌, ◌≤◌, List, ◌++◌, length, map, vec_len, vec_capacity, vec_items}
-use Rattle.std.specs.Prelude.{IsNone}
-use Rattle.std.specs.VecDeque.{deque_items, deque_len}
-use Rattle.mst_key.specs.declared.history.Edit.{Edit}
-use Rattle.mst_store.specs.Passes.{Known}
-use Rattle.mst_shards.specs.Sharding.{AllStep}
-use Rattle.mst_blocks.specs.Blocks.{MakesNothing}
-use Rattle.mst_parts.specs.Origins.{edits_of, passes_of}
-use Rattle.mst_blocks.specs.Staging.{AllStaged, canceled_stage}
-use Rattle.mst_blocks.proofs.Committing.{Stops}
+use Rattle.mst_parts.proofs.Names.{◌≡◌, ◌+◌, ◌≤◌, List, ◌++◌, length, map, vec_len, vec_capacity, vec_items, IsNone, deque_items, deque_len, Edit, Known, AllStep, MakesNothing, edits_of, passes_of, AllStaged, canceled_stage, Stops}
 use Rattle.mst_parts.proofs.finishing.finish_all.Given as goal
 
 -- the first parts are lifted

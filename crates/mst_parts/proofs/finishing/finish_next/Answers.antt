@@ -1,11 +1,8 @@
-use Rattle.std.proofs.Common.{◌≡◌, ◌<◌, ℕ, length, sym, subst}
-use Rattle.mst_store.specs.Passes.{Known}
-use Rattle.mst_store.specs.Preparing.{Waiting}
-use Rattle.mst_blocks.specs.Blocks.{MakesNothing, RefusesPart}
+use Rattle.mst_parts.proofs.Names.{◌≡◌, ◌<◌, ℕ, length, sym, subst, Known, Waiting, MakesNothing, PreparesNext, part_nothing}
+use Rattle.mst_blocks.specs.Blocks.{RefusesPart}
 use Rattle.mst_blocks.specs.declared.faults.PartFault.{PartFault}
-use Rattle.mst_blocks.specs.Staging.{PreparesNext}
 use Rattle.mst_parts.proofs.Coming.{staged_ready, unless_some}
-use Rattle.mst_blocks.proofs.Committing.{looks_nothing, part_nothing}
+use Rattle.mst_blocks.proofs.Committing.{looks_nothing}
 use Rattle.mst_parts.proofs.finishing.finish_next.Goals as goal
 
 -- it is prepared

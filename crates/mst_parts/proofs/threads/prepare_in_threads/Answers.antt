@@ -1,6 +1,6 @@
 use denote.Exit.{yes}
 use denote.Param.Send.{param_send, arg_send}
-use Rattle.std.proofs.Common.{sym, ◌∙◌}
+use Rattle.mst_parts.proofs.Names.{sym, ◌∙◌}
 use Rattle.mst_parts.proofs.Sent.{part_send, kept_each}
 use Rattle.mst_parts.proofs.threads.prepare_in_threads.Goals as goal
 

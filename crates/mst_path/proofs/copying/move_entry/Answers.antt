@@ -1,10 +1,4 @@
-use Rattle.std.proofs.Common.{arith, rules}
-use Rattle.std.proofs.lemmas.Grind.{elements}
-use Rattle.std.proofs.Common.{sym, subst, refl, ◌∷◌, [], List, ℕ}
-use Rattle.std.proofs.lemmas.List.{append-nil}
-use Rattle.mst_arena.specs.Lives.{State}
-use Rattle.mst_path.specs.Moves.{IsOld, Moves}
-use Rattle.mst_path.specs.Writing.{ahead}
+use Rattle.mst_path.proofs.Names.{arith, rules, elements, sym, subst, refl, ◌∷◌, [], List, ℕ, append-nil, State, IsOld, Moves, ahead}
 use Rattle.mst_path.proofs.lemmas.rows.Moving.{moves_takes, moves_kill, moves_then, old_stays}
 use Rattle.mst_path.proofs.copying.move_entry.Goals as goal
 

@@ -1,12 +1,4 @@
-use Rattle.std.proofs.Common.{◌≡◌, ◌+◌, ◌-◌, ℕ, Bool, [], ◌∷◌, ◌++◌, IfSome, IsSome, IsTrue, refl, sym, ◌∙◌, ap, subst, arith}
-use Rattle.mst_key.specs.declared.format.Format.{Format}
-use Rattle.mst_arena.specs.Content.{Content, part_at}
-use Rattle.mst_arena.specs.Row.{keyed_links}
-use Rattle.mst_arena.specs.Standing.{link_of, rows_of, HasRows}
-use Rattle.mst_path.specs.Takes.{KeepsBut}
-use Rattle.mst_path.specs.Moves.{Moves}
-use Rattle.mst_path.specs.Writing.{ahead, link_from, IsWritten, IsRootOf}
-use Rattle.mst_path.specs.Copying.{Copying}
+use Rattle.mst_path.proofs.Names.{◌≡◌, ◌+◌, ◌-◌, ℕ, Bool, [], ◌∷◌, ◌++◌, IfSome, IsSome, IsTrue, refl, sym, ◌∙◌, ap, subst, arith, Format, Content, part_at, keyed_links, link_of, rows_of, HasRows, KeepsBut, Moves, ahead, link_from, IsWritten, IsRootOf, Copying}
 use Rattle.mst_path.proofs.lemmas.rows.CopyRuns.{Progress, Next, starts, ends, some_left, steps, next_run, link_is, link_less, row_there, row_old}
 use Rattle.mst_path.proofs.lemmas.rows.CopyRows.{links_there, ends_are, pair_there, next_some, one_ahead, row_out, small_link, old_alive, still_writable, blank_taken, blank_ahead}
 use Rattle.mst_path.proofs.copying.move_run.Given.{Over}

@@ -1,9 +1,5 @@
-use Rattle.mst_key.specs.declared.format.Format.{Format}
-use Rattle.std.proofs.Common.{◌≡◌, ◌≤◌, ◌+◌}
-use Rattle.mst_arena.specs.Lives.{free_count}
-use Rattle.mst_path.specs.Takes.{RowsAreWritable, StaysBeside}
-use Rattle.mst_path.specs.Writing.{IsNextBlank, IsWriter}
-use Rattle.mst_path.specs.Copying.{Copying}
+use Rattle.mst_path.proofs.Names.{Format, ◌≡◌, ◌≤◌, ◌+◌, free_count, RowsAreWritable, StaysBeside, IsWriter, Copying}
+use Rattle.mst_path.specs.Writing.{IsNextBlank}
 use Rattle.mst_path.proofs.lemmas.rows.CopyRuns.{Progress}
 use Rattle.mst_path.proofs.copying.move_run.Given as goal
 

@@ -1,13 +1,4 @@
-use Rattle.std.proofs.Common.{◌≡◌, ◌≤◌, ◌<◌, ◌+◌, ℕ, List, sym, ap, subst, arith, rules, ◌^◌}
-use Rattle.mst_key.specs.declared.format.Format.{Format}
-use Rattle.mst_key.specs.Layer.{layer_in}
-use Rattle.mst_arena.specs.Content.{Content}
-use Rattle.mst_arena.specs.Lives.{State}
-use Rattle.mst_arena.specs.Standing.{tree_of}
-use Rattle.mst_change.specs.Cost.{split_rows}
-use Rattle.mst_path.specs.Joining.{height, height_at}
-use Rattle.mst_path.specs.Splitting.{ToSplit}
-use Rattle.mst_path.specs.PutPath.{RisingTree, pair_rows, IsPutStep, PutsDown, PutsBetween, PutsAnew}
+use Rattle.mst_path.proofs.Names.{◌≡◌, ◌≤◌, ◌<◌, ◌+◌, ℕ, List, sym, ap, subst, arith, rules, ◌^◌, Format, layer_in, Content, State, tree_of, split_rows, height, height_at, ToSplit, RisingTree, pair_rows, IsPutStep, PutsDown, PutsBetween, PutsAnew}
 use Rattle.mst_path.proofs.lemmas.steps.PutGaps.{whole_split, put_top_rows, falls_at}
 use Rattle.mst_path.proofs.counting.+put_cost.Given.{Over}
 use Rattle.mst_path.proofs.counting.+put_cost.Goals.{In-OnTop, After-split_cost, In-Down, After-put_cost-inner, In-Between, After-split_cost-split, In-Anew}

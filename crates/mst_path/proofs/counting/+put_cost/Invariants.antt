@@ -1,4 +1,4 @@
-use Rattle.mst_path.specs.Joining.{height_at}
+use Rattle.mst_path.proofs.Names.{height_at}
 use Rattle.mst_path.proofs.counting.+put_cost.Given as goal
 
 abbrev pub decreases-put_cost : goal.decreases-put_cost

@@ -1,14 +1,4 @@
-use Rattle.std.proofs.Common.{◌≡◌, ◌∙◌, ◌<◌, ◌+◌, ℕ, ◌==◌, ◌&&◌, Bool, sym, ap, subst, arith, rules, ◌^◌}
-use Rattle.mst_key.specs.declared.format.Format.{Format}
-use Rattle.mst_arena.specs.Content.{Content}
-use Rattle.mst_arena.specs.Lives.{State}
-use Rattle.mst_arena.specs.Standing.{tree_of}
-use Rattle.mst_change.specs.Split.{below, above}
-use Rattle.mst_change.specs.Parts.{is_empty}
-use Rattle.mst_change.specs.Cost.{side_rows, split_rows}
-use Rattle.mst_path.specs.Joining.{height_at}
-use Rattle.mst_path.specs.Splitting.{ToSplit}
-use Rattle.mst_path.specs.Gaps.{IsOpened, OpensGap, OpensEntry}
+use Rattle.mst_path.proofs.Names.{◌≡◌, ◌∙◌, ◌<◌, ◌+◌, ℕ, ◌==◌, ◌&&◌, Bool, sym, ap, subst, arith, rules, ◌^◌, Format, Content, State, tree_of, below, above, is_empty, side_rows, split_rows, height_at, ToSplit, IsOpened, OpensGap, OpensEntry}
 use Rattle.mst_path.proofs.lemmas.steps.Splitting.{positive, none_rows, no_below, no_above, no_entry, split_inner, split_falls, below_is, above_is, rows_are, rows_counted}
 use Rattle.mst_path.proofs.counting.+split_cost.Given.{Over}
 use Rattle.mst_path.proofs.counting.+split_cost.Goals.{In-Down, After-is_no_side-none_above}

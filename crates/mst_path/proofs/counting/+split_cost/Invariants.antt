@@ -1,4 +1,4 @@
-use Rattle.mst_path.specs.Joining.{height_at}
+use Rattle.mst_path.proofs.Names.{height_at}
 use Rattle.mst_path.proofs.counting.+split_cost.Given as goal
 
 abbrev pub decreases-split_cost : goal.decreases-split_cost

@@ -1,6 +1,4 @@
-use Rattle.std.proofs.Common.{arith}
-use Rattle.mst_arena.specs.Lives.{free_count}
-use Rattle.mst_path.specs.PutPath.{pair_rows}
+use Rattle.mst_path.proofs.Names.{arith, free_count, pair_rows}
 use Rattle.mst_path.proofs.lemmas.cost.Sizes.{decided}
 use Rattle.mst_path.proofs.counting.put_fits.Goals as goal
 

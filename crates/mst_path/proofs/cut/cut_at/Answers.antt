@@ -1,14 +1,7 @@
-use Rattle.mst_key.specs.declared.format.Format.TheVariants.{One}
-use Rattle.std.proofs.Common.{◌≡◌, ◌-◌, ◌+◌, ℕ, List, Some, IsSome, refl, ◌∙◌, sym, ap, subst, arith}
-use Rattle.mst_arena.specs.Content.{Content, part_at}
-use Rattle.mst_arena.specs.Row.{keyed_links}
+use Rattle.mst_path.proofs.Names.{One, ◌≡◌, ◌-◌, ◌+◌, ℕ, List, Some, IsSome, refl, ◌∙◌, sym, ap, subst, arith, Content, part_at, keyed_links, KeyedLinks, EntryRun, EntriesLie, CutGap, PlacedEntry}
 use Rattle.mst_arena.specs.Ways.{entry_way, way_at}
-use Rattle.mst_arena.specs.declared.row.KeyedLinks.{KeyedLinks}
 use Rattle.mst_arena.specs.declared.sought.Way.TheVariants.{Here}
 use Rattle.mst_arena.proofs.WayLemmas.{way_is, to_child, is_here, to_next}
-use Rattle.mst_path.specs.declared.making.EntryRun.{EntryRun}
-use Rattle.mst_path.specs.Cutting.{EntriesLie, CutGap}
-use Rattle.mst_path.specs.Writing.{PlacedEntry}
 use Rattle.mst_path.proofs.lemmas.rows.CopyRows.{links_there}
 use Rattle.mst_path.proofs.lemmas.trees.Cutting.{Onward, AtEntry, onward_starts, at_entry, next_links, cut_end, cut_gap, cut_found, cut_on}
 use Rattle.mst_path.proofs.cut.cut_at.Given.{Over}

@@ -1,7 +1,4 @@
-use Rattle.mst_key.specs.declared.format.Format.{Format}
-use Rattle.std.proofs.Common.{◌≡◌, List}
-use Rattle.mst_path.specs.Writing.{PlacedEntry}
-use Rattle.mst_path.specs.Cutting.{EntriesLie}
+use Rattle.mst_path.proofs.Names.{Format, ◌≡◌, List, PlacedEntry, EntriesLie}
 use Rattle.mst_path.proofs.lemmas.trees.Cutting.{Onward}
 use Rattle.mst_path.proofs.cut.cut_at.Given as goal
 

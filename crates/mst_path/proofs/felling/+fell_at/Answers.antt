@@ -1,11 +1,4 @@
-use Rattle.std.proofs.Common.{◌≡◌, ℕ, ◌+◌, ◌-◌, ◌<◌, [], Some, IsSome, sym, ◌∙◌, ap, subst, arith, rules}
-use Rattle.mst_arena.specs.Content.{Content, part_at}
-use Rattle.mst_arena.specs.Lives.{State}
-use Rattle.mst_arena.specs.Row.{keyed_links}
-use Rattle.mst_arena.specs.Standing.{used}
-use Rattle.mst_path.specs.Felling.{ToFell}
-use Rattle.mst_path.specs.Joining.{height_at}
-use Rattle.mst_path.specs.Moves.{Moves}
+use Rattle.mst_path.proofs.Names.{◌≡◌, ℕ, ◌+◌, ◌-◌, ◌<◌, [], Some, IsSome, sym, ◌∙◌, ap, subst, arith, rules, Content, part_at, State, keyed_links, used, ToFell, height_at, Moves}
 use Rattle.mst_path.proofs.lemmas.steps.Felling.{Felling, AtEntry, started, all_open, entry_there, at_entry, at_last, height_read}
 use Rattle.mst_path.proofs.felling.+fell_at.Given.{Over}
 use Rattle.mst_path.proofs.felling.+fell_at.Goals.{After-kill-in-loop}

@@ -1,7 +1,4 @@
-use Rattle.std.proofs.Common.{◌≡◌}
-use Rattle.mst_arena.specs.Standing.{used}
-use Rattle.mst_path.specs.Joining.{height_at}
-use Rattle.mst_path.specs.Felling.{ToFell}
+use Rattle.mst_path.proofs.Names.{◌≡◌, used, height_at, ToFell}
 use Rattle.mst_path.proofs.lemmas.steps.Felling.{Felling}
 use Rattle.mst_path.proofs.felling.+fell_at.Given as goal
 

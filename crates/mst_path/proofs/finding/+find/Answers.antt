@@ -1,15 +1,4 @@
-use Rattle.std.proofs.Common.{◌≡◌, ◌∙◌, ◌<◌, ℕ, List, Some, IsSome, sym, ap, subst, arith, rules}
-use Rattle.mst_key.specs.Map.{IsAscending, map_get}
-use Rattle.mst_key.specs.declared.format.Format.{Format}
-use Rattle.mst_node.specs.Tree.{pairs}
-use Rattle.mst_arena.specs.Content.{Content, part_at}
-use Rattle.mst_arena.specs.Lives.{State}
-use Rattle.mst_arena.specs.Row.{entry_value}
-use Rattle.mst_arena.specs.Standing.{tree_of}
-use Rattle.mst_path.specs.Cutting.{EntriesLie}
-use Rattle.mst_path.specs.Joining.{height_at}
-use Rattle.mst_path.specs.RemovePath.{SearchTree}
-use Rattle.mst_path.specs.Writing.{PlacedEntry}
+use Rattle.mst_path.proofs.Names.{◌≡◌, ◌∙◌, ◌<◌, ℕ, List, Some, IsSome, sym, ap, subst, arith, rules, IsAscending, map_get, Format, pairs, Content, part_at, State, entry_value, tree_of, EntriesLie, height_at, SearchTree, PlacedEntry}
 use Rattle.mst_path.proofs.lemmas.steps.Removals.{top}
 use Rattle.mst_path.proofs.lemmas.steps.Splitting.{positive}
 use Rattle.mst_path.proofs.lemmas.trees.Lookups.{FindsBelow, FindsHere, lies, cut_top, finds_below, finds_here, some_value}

@@ -1,4 +1,4 @@
-use Rattle.mst_path.specs.Joining.{height_at}
+use Rattle.mst_path.proofs.Names.{height_at}
 use Rattle.mst_path.proofs.finding.+find.Given as goal
 
 abbrev pub decreases-find : goal.decreases-find

@@ -1,4 +1,4 @@
-use Rattle.std.proofs.Common.{rules}
+use Rattle.mst_path.proofs.Names.{rules}
 use Rattle.mst_path.proofs.lemmas.steps.Framing.{spare_old, closed}
 use Rattle.mst_path.proofs.frames.close.Goals as goal
 

@@ -1,4 +1,4 @@
-use Rattle.std.proofs.Common.{◌≡◌, ◌<◌, ℕ, zero, suc, refl, arith}
+use Rattle.mst_path.proofs.Names.{◌≡◌, ◌<◌, ℕ, zero, suc, refl, arith}
 use Rattle.mst_path.proofs.lemmas.steps.Framing.{alone, filled}
 use Rattle.mst_path.proofs.frames.fill.Goals as goal
 

@@ -1,7 +1,5 @@
-use Rattle.std.proofs.Common.{List, ℕ, Option, false, sym, ◌∙◌, ap, rules}
-use Rattle.std.specs.Option.{option_map_or}
+use Rattle.mst_path.proofs.Names.{List, ℕ, Option, false, sym, ◌∙◌, ap, rules, option_map_or, same_bytes}
 use Rattle.std.specs.Cmp.Lexicographic.{texts_ties}
-use Rattle.mst_node.specs.Cost.{same_bytes}
 use Rattle.mst_path.proofs.insertion.is_same.Goals as goal
 
 pub returns-in-Some : goal.returns-in-Some

@@ -1,14 +1,4 @@
-use Rattle.mst_key.specs.Layer.{layer_in}
-use Rattle.std.proofs.Common.{◌≡◌, ◌∙◌, ◌≤◌, ◌<◌, ◌+◌, ◌*◌, List, ℕ, Bool, length, true, true≢false, sym, ap, subst, arith, rules}
-use Rattle.std.specs.Bool.{MatchBool}
-use Rattle.mst_key.specs.Map.{Pair, map_get}
-use Rattle.mst_key.specs.declared.format.Format.{Format}
-use Rattle.mst_arena.specs.Content.{Content}
-use Rattle.mst_arena.specs.Lives.{State, free_count}
-use Rattle.mst_arena.specs.Standing.{Stands, numbers}
-use Rattle.mst_path.specs.Making.{Grown}
-use Rattle.mst_path.specs.PutPath.{RisingTree, in_rising, with_pair, pair_rows}
-use Rattle.mst_path.specs.Changing.{AreOld}
+use Rattle.mst_path.proofs.Names.{layer_in, ◌≡◌, ◌∙◌, ◌≤◌, ◌<◌, ◌+◌, ◌*◌, List, ℕ, Bool, length, true, true≢false, sym, ap, subst, arith, rules, MatchBool, Pair, map_get, Format, Content, State, free_count, Stands, numbers, Grown, RisingTree, in_rising, with_pair, pair_rows, AreOld}
 use Rattle.mst_path.proofs.lemmas.versions.Changes.{any_old, search_at, rises, says}
 use Rattle.mst_path.proofs.lemmas.versions.Inserted.{is_same, same_found, rising_at, least_new, cost_other, AfterPut, after_other, after_same}
 use Rattle.mst_path.proofs.insertion.put.Given.{Over}

@@ -1,12 +1,4 @@
-use Rattle.std.proofs.Common.{◌∙◌, ◌≤◌, ◌<◌, ◌+◌, ℕ, sym, ap, subst, arith, rules}
-use Rattle.mst_arena.specs.Content.{Content}
-use Rattle.mst_arena.specs.Lives.{free_count}
-use Rattle.mst_arena.specs.Lists.{times}
-use Rattle.mst_arena.specs.Standing.{used}
-use Rattle.mst_path.specs.Takes.{RowsAreWritable}
-use Rattle.mst_path.specs.Making.{Grown}
-use Rattle.mst_path.specs.Frames.{Framed, in_frame, tree_round, frame_rows}
-use Rattle.mst_path.specs.Joining.{TwoTrees, in_both, both_joined, both_rows, height_at, Met}
+use Rattle.mst_path.proofs.Names.{◌∙◌, ◌≤◌, ◌<◌, ◌+◌, ℕ, sym, ap, subst, arith, rules, Content, free_count, times, used, RowsAreWritable, Grown, Framed, in_frame, tree_round, frame_rows, TwoTrees, in_both, both_joined, both_rows, height_at, Met}
 use Rattle.mst_path.proofs.lemmas.rows.CopyRows.{still_writable}
 use Rattle.mst_path.proofs.lemmas.steps.Rounds.{regrown, frame_after, room_after, closed_round}
 use Rattle.mst_path.proofs.lemmas.trees.Joined.{left_none, right_none, lower_trees}

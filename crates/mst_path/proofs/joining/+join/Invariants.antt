@@ -1,5 +1,4 @@
-use Rattle.std.proofs.Common.{◌+◌}
-use Rattle.mst_path.specs.Joining.{height_at}
+use Rattle.mst_path.proofs.Names.{◌+◌, height_at}
 use Rattle.mst_path.proofs.joining.+join.Given as goal
 
 abbrev pub decreases-join : goal.decreases-join

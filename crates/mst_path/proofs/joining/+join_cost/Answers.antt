@@ -1,8 +1,4 @@
-use Rattle.mst_key.specs.declared.format.Format.{Format}
-use Rattle.std.proofs.Common.{◌≡◌, ◌≤◌, ◌<◌, ◌+◌, ℕ, sym, ap, subst, arith, rules}
-use Rattle.mst_arena.specs.Content.{Content}
-use Rattle.mst_arena.specs.Lives.{State}
-use Rattle.mst_path.specs.Joining.{TwoTrees, both_rows, height_at}
+use Rattle.mst_path.proofs.Names.{Format, ◌≡◌, ◌≤◌, ◌<◌, ◌+◌, ℕ, sym, ap, subst, arith, rules, Content, State, TwoTrees, both_rows, height_at}
 use Rattle.mst_path.proofs.lemmas.trees.Joined.{lower_trees}
 use Rattle.mst_path.proofs.joining.+join_cost.Given.{Over}
 use Rattle.mst_path.proofs.joining.+join_cost.Goals.{After-join_cost-inner}

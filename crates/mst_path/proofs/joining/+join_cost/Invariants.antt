@@ -1,5 +1,4 @@
-use Rattle.std.proofs.Common.{◌+◌}
-use Rattle.mst_path.specs.Joining.{height_at}
+use Rattle.mst_path.proofs.Names.{◌+◌, height_at}
 use Rattle.mst_path.proofs.joining.+join_cost.Given as goal
 
 abbrev pub decreases-join_cost : goal.decreases-join_cost

@@ -1,9 +1,4 @@
-use Rattle.mst_key.specs.declared.format.Format.{Format}
-use Rattle.std.proofs.Common.{◌≡◌, ◌∙◌, ◌-◌, Some, IsSome, sym, ap, subst, arith, rules}
-use Rattle.mst_arena.specs.Content.{Content, part_at}
-use Rattle.mst_arena.specs.Lives.{State}
-use Rattle.mst_arena.specs.Row.{head_links, keyed_links}
-use Rattle.mst_path.specs.Joining.{TwoTrees, Met}
+use Rattle.mst_path.proofs.Names.{Format, ◌≡◌, ◌∙◌, ◌-◌, Some, IsSome, sym, ap, subst, arith, rules, Content, part_at, State, head_links, keyed_links, TwoTrees, Met}
 use Rattle.mst_path.proofs.lemmas.trees.Opening.{Opened, head_there}
 use Rattle.mst_path.proofs.lemmas.trees.Meetings.{b_node, first_some, first_there, met_above, met_below, met_beside}
 use Rattle.mst_path.proofs.joining.meet.Given.{Over}

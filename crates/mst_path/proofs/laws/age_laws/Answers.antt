@@ -1,12 +1,6 @@
-use Rattle.std.proofs.Common.{◌≡◌, List, [], refl, ◌∙◌}
-use Rattle.mst_key.specs.History.{after}
-use Rattle.mst_key.specs.declared.format.Format.{Format}
+use Rattle.mst_path.proofs.Names.{◌≡◌, List, [], refl, ◌∙◌, after, Format, empty, Life, Placed, none, head, tree_of, HasAges}
 use Rattle.mst_path.proofs.lemmas.versions.Migrated.{all_new}
-use Rattle.mst_node.specs.Tree.{empty}
 use Rattle.mst_node.proofs.TreeEquation.{tree-no_pairs}
-use Rattle.mst_arena.specs.declared.life.Life.{Life}
-use Rattle.mst_arena.specs.Standing.{Placed, none, head, tree_of}
-use Rattle.mst_arena.specs.Ages.{HasAges}
 use Rattle.mst_path.proofs.lemmas.versions.AgeSteps.{ages_stay, ages_next, ages_swept}
 use Rattle.mst_path.proofs.lemmas.versions.KeyAges.{all_aged}
 use Rattle.mst_path.proofs.laws.age_laws.Goals as goal

@@ -1,7 +1,4 @@
-use Rattle.std.proofs.Common.{refl, ap, arith}
-use Rattle.mst_arena.specs.Lists.{times}
-use Rattle.mst_arena.specs.Standing.{numbers}
-use Rattle.mst_arena.proofs.ListLemmas.{times-append}
+use Rattle.mst_path.proofs.Names.{refl, ap, arith, times, numbers, times-append}
 use Rattle.mst_path.proofs.lemmas.versions.Reached.{reached_old}
 use Rattle.mst_path.proofs.laws.premises_can_be_met.Goals as goal
 

@@ -1,8 +1,4 @@
-use Rattle.std.proofs.Common.{◌≡◌, ℕ, ◌∷◌, [], sym, subst, ap, arith, eqb, true}
-use Rattle.std.proofs.lemmas.Bool.Decides.{nat_tests}
-use Rattle.mst_arena.specs.Lives.{version}
-use Rattle.mst_arena.specs.Lists.{bit}
-use Rattle.mst_path.specs.Reached.{ReachesExactly}
+use Rattle.mst_path.proofs.Names.{◌≡◌, ℕ, ◌∷◌, [], sym, subst, ap, arith, eqb, true, nat_tests, version, bit, ReachesExactly}
 use Rattle.mst_path.proofs.lemmas.versions.Reached as reached
 use Rattle.mst_path.proofs.lemmas.rows.RowCounts.{as_many}
 use Rattle.mst_path.proofs.lemmas.rows.FreeCounts.{count_swept, alone}

@@ -1,8 +1,5 @@
 -- A tree has as many nodes as trees that are not empty stand in it.
-use Rattle.std.proofs.Common.{◌≡◌, length, length-append, refl, arith}
-use Rattle.mst_node.specs.Tree.{Tree, empty, node, Entries, last, entry}
-use Rattle.mst_node.specs.Cost.{subtrees, entries_subtrees}
-use Rattle.mst_path.specs.Planting.{node_count, entries_node_count}
+use Rattle.mst_path.proofs.Names.{◌≡◌, length, length-append, refl, arith, Tree, empty, node, Entries, last, entry, subtrees, entries_subtrees, node_count, entries_node_count}
 
 mutual
   pub count_nodes : (t : Tree) → node_count t ≡ length (subtrees t)

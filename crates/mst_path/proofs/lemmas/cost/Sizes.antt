@@ -1,20 +1,12 @@
 -- A remove makes no more new rows than its tree has, and a put no more than twice as many and two.
-use Rattle.mst_key.specs.declared.format.Format.{Format}
-use Rattle.std.proofs.Common.{◌≡◌, ℕ, ◌+◌, ◌*◌, ◌<◌, ◌≤◌, Bool, true, false, List, length, refl, arith, length-append}
-use Rattle.std.specs.Prelude.{nat_le}
-use Rattle.std.specs.Bool.{MatchBool}
-use Rattle.std.proofs.lemmas.Bool.Decides.{nat_tests}
-use Rattle.mst_node.specs.Tree.{Tree, empty, node, Entries, last, entry, entry_count}
+use Rattle.mst_path.proofs.Names.{Format, ◌≡◌, ℕ, ◌+◌, ◌*◌, ◌<◌, ◌≤◌, Bool, true, false, List, length, refl, arith, length-append, nat_le, MatchBool, nat_tests, Tree, empty, node, Entries, last, entry, entry_count, Placed, none, head, Chain, end, cell, tree_of, entries_of, used, chain_used, first_child, last_child, with_first, is_empty, below, above, join, tree_remove, split_rows, put_rows, join_rows, remove_rows, with_first_count}
 use Rattle.mst_node.specs.Trail.{by_order}
-use Rattle.mst_arena.specs.Standing.{Placed, none, head, Chain, end, cell, tree_of, entries_of, used, chain_used}
-use Rattle.mst_change.specs.Parts.{first_child, last_child, with_first, is_empty}
-use Rattle.mst_change.specs.Split.{below, above, entries_below, entries_above}
-use Rattle.mst_change.specs.Join.{join}
-use Rattle.mst_change.specs.Remove.{tree_remove, entries_remove}
-use Rattle.mst_change.specs.Cost.{split_rows, gap_rows, put_among_rows, put_rows, put_gap_rows, join_node_rows, join_first_rows, join_rows, join_last_rows, remove_rows, entries_remove_rows}
+use Rattle.mst_change.specs.Split.{entries_below, entries_above}
+use Rattle.mst_change.specs.Remove.{entries_remove}
+use Rattle.mst_change.specs.Cost.{gap_rows, put_among_rows, put_gap_rows, join_node_rows, join_first_rows, join_last_rows, entries_remove_rows}
 use Rattle.mst_change.proofs.Cost.Bounds.{side_le, split_count}
 use Rattle.mst_change.proofs.Choices.{at_order, at_layer}
-use Rattle.mst_change.proofs.Parts.{seam_count, with_first_count}
+use Rattle.mst_change.proofs.Parts.{seam_count}
 
 -- how many rows a tree has
 abbrev mutual

@@ -1,21 +1,5 @@
 -- Entries that are copied one after another.
-use Rattle.mst_key.specs.declared.format.Format.{Format}
-use Rattle.std.proofs.Common.{◌≡◌, ℕ, zero, suc, ◌+◌, ◌-◌, ◌≤◌, Bool, true, false, eqb, List, [], ◌∷◌, ◌++◌, length, Option, Some, refl, sym, ◌∙◌, ap, subst, arith, append_assoc, length-append}
-use Rattle.std.proofs.lemmas.Bool.Decides.{nat_tests}
-use Rattle.std.proofs.lemmas.List.{append-nil}
-use Rattle.mst_arena.specs.Content.{Content}
-use Rattle.mst_arena.specs.Lives.{State, version, next}
-use Rattle.mst_arena.specs.Lists.{In, times, bit}
-use Rattle.mst_arena.specs.declared.life.Life.TheVariants.{Born}
-use Rattle.mst_arena.specs.Standing.{used}
-use Rattle.mst_arena.proofs.ListLemmas.{times-append}
-use Rattle.mst_path.specs.Takes.{IsOut, KeepsBut}
-use Rattle.mst_path.specs.Moves.{IsAlive, IsOld, Moves, IsNew}
-use Rattle.mst_path.specs.Made.{AreMade}
-use Rattle.mst_path.specs.Runs.{RunStands, own, gaps_used, AreCopies}
-use Rattle.mst_path.specs.Writing.{PlacedEntry, link_from, entries_used, ahead, IsWritten}
-use Rattle.mst_path.specs.Copying.{Going, Copied}
-use Rattle.mst_path.specs.declared.node_writer.NodeWriter.{NodeWriter}
+use Rattle.mst_path.proofs.Names.{Format, ◌≡◌, ℕ, zero, suc, ◌+◌, ◌-◌, ◌≤◌, Bool, true, false, eqb, List, [], ◌∷◌, ◌++◌, length, Option, Some, refl, sym, ◌∙◌, ap, subst, arith, append_assoc, length-append, nat_tests, append-nil, Content, State, version, next, In, times, bit, Born, used, times-append, IsOut, KeepsBut, IsAlive, IsOld, Moves, IsNew, AreMade, RunStands, own, gaps_used, AreCopies, PlacedEntry, link_from, entries_used, ahead, IsWritten, Going, Copied, NodeWriter}
 use Rattle.mst_path.proofs.lemmas.trees.Made.{made_old, made-append, new_stays, made_stays, entries_stay}
 use Rattle.mst_path.proofs.lemmas.rows.Entries.{entries_used-push}
 use Rattle.mst_path.proofs.lemmas.rows.Moving.{not_in, out_of_times, times_of_out, moves_none, moves_then, alive_stays, old_stays}

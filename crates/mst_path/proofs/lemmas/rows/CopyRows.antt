@@ -1,29 +1,8 @@
 -- Rows that are copied: which are new and which old, and what is read of them.
-use Rattle.mst_key.specs.declared.format.Format.{Format}
-use Rattle.std.proofs.Common.{◌≡◌, ℕ, zero, suc, ◌+◌, ◌-◌, ◌<◌, ◌≤◌, Bool, true, eqb, List, [], ◌∷◌, ◌++◌, length, Option, Some, None, refl, sym, ◌∙◌, ap, subst, arith, inl, inr, IsTrue, IfSome, IsSome}
-use Rattle.std.specs.Prelude.{slice_get, option_and_then}
-use Rattle.mst_arena.specs.Row.{keyed_links, bare_links, entry_pair}
-use Rattle.mst_arena.specs.declared.row.KeyedLinks.{KeyedLinks}
+use Rattle.mst_path.proofs.Names.{Format, ◌≡◌, ℕ, zero, suc, ◌+◌, ◌-◌, ◌<◌, ◌≤◌, Bool, true, eqb, List, [], ◌∷◌, ◌++◌, length, Option, Some, None, refl, sym, ◌∙◌, ap, subst, arith, inl, inr, IsTrue, IfSome, IsSome, slice_get, option_and_then, keyed_links, entry_pair, KeyedLinks, AllByRecursion, nat_tests, Content, State, next, In, times, bit, Row, Entry, Life, Born, Placed, used, link_of, HasRows, times-append, placed_frame, IsOut, KeepsBut, FreeIsBlank, FewRows, RowsAreWritable, IsAlive, IsOld, Moves, IsNew, OldPiece, own_rows, own, gaps_used, EachGap, PlacedEntry, entries_used, ahead, IsAhead, Going, NodeWriter, in_either}
+use Rattle.mst_arena.specs.Row.{bare_links}
 use Rattle.mst_arena.specs.declared.row.BareLinks.{BareLinks}
-use Rattle.std.specs.List.{AllByRecursion}
-use Rattle.std.proofs.lemmas.Bool.Decides.{nat_tests}
-use Rattle.mst_arena.specs.Content.{Content}
-use Rattle.mst_arena.specs.Lives.{State, next}
-use Rattle.mst_arena.specs.Lists.{In, times, bit}
-use Rattle.mst_arena.specs.declared.row.Row.{Row}
-use Rattle.mst_arena.specs.declared.row.Row.TheVariants.{Entry}
-use Rattle.mst_arena.specs.declared.life.Life.{Life}
-use Rattle.mst_arena.specs.declared.life.Life.TheVariants.{Born}
-use Rattle.mst_arena.specs.Standing.{Placed, none as no_tree, head as tree_head, used, link_of, HasRows}
-use Rattle.mst_arena.proofs.ListLemmas.{times-append}
-use Rattle.mst_arena.proofs.Stands.{placed_frame}
-use Rattle.mst_path.specs.Takes.{IsOut, KeepsBut, FreeIsBlank, FewRows, RowsAreWritable}
-use Rattle.mst_path.specs.Moves.{IsAlive, IsOld, Moves, IsNew}
-use Rattle.mst_path.specs.Runs.{OldPiece, own_rows, own, gaps_used, EachGap}
-use Rattle.mst_path.specs.Writing.{PlacedEntry, entries_used, ahead, IsAhead}
-use Rattle.mst_path.specs.Copying.{Going}
-use Rattle.mst_path.specs.declared.node_writer.NodeWriter.{NodeWriter}
-use Rattle.mst_arena.proofs.ListLemmas.{in_either}
+use Rattle.mst_arena.specs.Standing.{none as no_tree, head as tree_head}
 use Rattle.mst_path.proofs.lemmas.rows.Moving.{not_in, out_of_times}
 
 -- ---- rows and lists of rows

@@ -1,18 +1,5 @@
 -- A number of entries that are copied one after another.
-use Rattle.mst_key.specs.declared.format.Format.{Format}
-use Rattle.std.proofs.Common.{◌≡◌, ℕ, ◌+◌, ◌-◌, ◌<◌, ◌≤◌, List, [], ◌∷◌, ◌++◌, length, Some, refl, sym, ◌∙◌, ap, subst, arith, append_assoc}
-use Rattle.std.proofs.lemmas.List.{append-nil}
-use Rattle.mst_arena.specs.Content.{Content}
-use Rattle.mst_arena.specs.Lives.{State, next}
-use Rattle.mst_arena.specs.Lists.{times}
-use Rattle.mst_arena.specs.declared.row.Row.TheVariants.{Entry}
-use Rattle.mst_arena.specs.Standing.{link_of}
-use Rattle.mst_path.specs.Takes.{KeepsBut}
-use Rattle.mst_path.specs.Moves.{IsOld, Moves}
-use Rattle.mst_path.specs.Runs.{RunStands, own, gaps_used}
-use Rattle.mst_path.specs.Writing.{PlacedEntry, link_from, entries_used, ahead, IsWritten}
-use Rattle.mst_path.specs.Copying.{Copying, Copied}
-use Rattle.mst_path.specs.declared.node_writer.NodeWriter.{NodeWriter}
+use Rattle.mst_path.proofs.Names.{Format, ◌≡◌, ℕ, ◌+◌, ◌-◌, ◌<◌, ◌≤◌, List, [], ◌∷◌, ◌++◌, length, Some, refl, sym, ◌∙◌, ap, subst, arith, append_assoc, append-nil, Content, State, next, times, Entry, link_of, KeepsBut, IsOld, Moves, RunStands, own, gaps_used, PlacedEntry, link_from, entries_used, ahead, IsWritten, Copying, Copied, NodeWriter}
 use Rattle.mst_path.proofs.lemmas.rows.CopyRows.{at_self}
 use Rattle.mst_path.proofs.lemmas.rows.Copies.{copy_in, one_copied, rest_runs, rest_once, copied_none, copied_then}
 

@@ -1,20 +1,10 @@
 -- Entries that are written, with one more of them and as the chain of a node.
-use Rattle.mst_key.specs.declared.format.Format.{Format}
-use Rattle.std.proofs.Common.{◌≡◌, ◌≢◌, ℕ, ◌+◌, ◌∷◌, [], List, ◌++◌, length, map, Option, Some, None, IfSome, IsSome, refl, sym, ◌∙◌, ap, subst, arith, append_assoc}
-use Rattle.std.specs.Prelude.{option_and_then}
-use Rattle.std.specs.List.{AllByRecursion}
-use Rattle.std.proofs.lemmas.List.{append-nil, map-append, length-map}
+use Rattle.mst_path.proofs.Names.{Format, ◌≡◌, ◌≢◌, ℕ, ◌+◌, ◌∷◌, [], List, ◌++◌, length, map, Option, Some, None, IfSome, IsSome, refl, sym, ◌∙◌, ap, subst, arith, append_assoc, option_and_then, AllByRecursion, append-nil, map-append, length-map, Pair, child_text, child_digest, Content, Writes, part_at, keyed_links, entry_pair, Row, Entry, Head, Placed, tree_of, entries_of, link_of, first_of, tail_of, count_of, rows_of, chain_rows, used, chain_used, HasRows, all-append, all-front, all-back, placed_frame, PlacedEntry, chain_of, link_from, entry_rows, entries_used, text_up_to}
 use Rattle.std.proofs.lemmas.Grind.{flat_map-append}
-use Rattle.mst_key.specs.Map.{Pair}
 use Rattle.mst_node.specs.Tree as tree
-use Rattle.mst_node.specs.Text.{child_text, child_digest, counted, flat_entries, tail_digest, spelling, text, held_of, held_text}
-use Rattle.mst_arena.specs.Content.{Content, Writes, part_at, relinked}
-use Rattle.mst_arena.specs.Row.{keyed_links, entry_pair}
-use Rattle.mst_arena.specs.declared.row.Row.{Row}
-use Rattle.mst_arena.specs.declared.row.Row.TheVariants.{Entry, Head}
-use Rattle.mst_arena.specs.Standing.{Placed, tree_of, entries_of, link_of, first_of, tail_of, count_of, rows_of, chain_rows, used, chain_used, HasRows}
-use Rattle.mst_arena.proofs.Stands.{all-append, all-front, all-back, placed_frame}
-use Rattle.mst_path.specs.Writing.{PlacedEntry, chain_of, link_from, entry_rows, entries_used, flat_of, text_up_to}
+use Rattle.mst_node.specs.Text.{counted, flat_entries, tail_digest, spelling, text, held_of, held_text}
+use Rattle.mst_arena.specs.Content.{relinked}
+use Rattle.mst_path.specs.Writing.{flat_of}
 
 -- ---- one more entry
 

@@ -1,29 +1,13 @@
 -- How many rows are free, if a list has each of the other rows once, and at most, beside rows that
 -- are alive.
-use Rattle.std.proofs.Common.{◌≡◌, ℕ, zero, suc, ◌+◌, ◌<◌, ◌≤◌, Bool, true, false, cond, eqb, List, [], ◌∷◌, length, map, filter, Option, Some, None, refl, sym, ◌∙◌, ap, arith}
-use Rattle.std.specs.Prelude.{◌↔◌, slice_get, option_map}
-use Rattle.std.specs.List.{list_any}
-use Rattle.std.proofs.lemmas.Bool.Decides.{nat_tests}
-use Rattle.std.proofs.lemmas.Option.{slice_get-map}
-use Rattle.mst_arena.specs.Lives.{State, version, reached_at, reaches, reaches_life, free_count, swept_life}
-use Rattle.mst_arena.specs.Lists.{In, times, bit, is_at, Lists}
-use Rattle.mst_key.specs.declared.format.Format.{Format}
-use Rattle.mst_key.specs.Map.{Pair}
-use Rattle.mst_arena.specs.Content.{Content}
-use Rattle.mst_arena.specs.Standing.{IsDistinct, Stands, tree_of, used, numbers}
-use Rattle.mst_arena.specs.declared.row.Root.{Root}
-use Rattle.mst_arena.specs.declared.life.Life.{Life}
-use Rattle.mst_arena.specs.declared.life.Life.TheVariants.{Free, Born, Dead}
+use Rattle.mst_path.proofs.Names.{◌≡◌, ℕ, zero, suc, ◌+◌, ◌<◌, ◌≤◌, Bool, true, false, cond, eqb, List, [], ◌∷◌, length, map, filter, Option, Some, None, refl, sym, ◌∙◌, ap, arith, ◌↔◌, slice_get, option_map, list_any, nat_tests, slice_get-map, State, version, reached_at, reaches, reaches_life, free_count, swept_life, In, times, bit, Format, Pair, Content, IsDistinct, Stands, tree_of, used, numbers, Root, Life, Free, Born, Dead, ReachesExactly, TogetherReach, Changes, IsPast, IsSettled, swept_by, one_row, AreOld, IsAlive}
+use Rattle.mst_arena.specs.Lists.{is_at, Lists}
 use Rattle.mst_arena.proofs.ListLemmas.{suc_test, there}
 use Rattle.mst_arena.proofs.DeskLemmas.{length_mapped}
-use Rattle.mst_path.specs.Reached.{ReachesExactly, TogetherReach, Changes, IsPast, IsSettled, swept_by}
 use Rattle.mst_path.proofs.lemmas.rows.Taking.{frees, frees_is}
 use Rattle.mst_path.proofs.lemmas.versions.Changes.{distinct_times}
-use Rattle.mst_arena.proofs.ListLemmas.{one_row}
 use Rattle.mst_path.proofs.lemmas.versions.Reached.{some_reach, by_place}
 use Rattle.mst_path.proofs.lemmas.rows.RowCounts.{as_many}
-use Rattle.mst_path.specs.Changing.{AreOld}
-use Rattle.mst_path.specs.Moves.{IsAlive}
 use Rattle.mst_path.proofs.lemmas.cost.Sizes.{size, size_used}
 use Rattle.mst_path.proofs.lemmas.rows.CopyRows.{old_alive}
 

@@ -1,16 +1,7 @@
 -- Rows that are taken and killed, one step after another.
-use Rattle.std.proofs.Common.{◌≡◌, ℕ, zero, suc, ◌+◌, ◌≤◌, Bool, true, false, cond, eqb, List, [], ◌∷◌, ◌++◌, Some, refl, sym, ◌∙◌, ap, subst, arith, inl, inr, length-append}
-use Rattle.std.specs.Prelude.{slice_get, slice_set}
-use Rattle.std.proofs.lemmas.Bool.Decides.{nat_tests}
-use Rattle.mst_arena.specs.Lives.{State, version, next, is_free, free_count, with_life, ended_life}
-use Rattle.mst_arena.specs.Lists.{In, times, bit}
-use Rattle.mst_arena.specs.declared.life.Life.{Life}
-use Rattle.mst_arena.specs.declared.life.Life.TheVariants.{Free, Born, Dead}
-use Rattle.mst_arena.proofs.ListLemmas.{get-set, times-append, in_either, one_row}
-use Rattle.mst_path.specs.Takes.{Takes, IsOut}
-use Rattle.mst_path.specs.Moves.{IsAlive, IsOld, IsKilled, Moves}
+use Rattle.mst_path.proofs.Names.{◌≡◌, ℕ, zero, suc, ◌+◌, ◌≤◌, Bool, true, false, cond, eqb, List, [], ◌∷◌, ◌++◌, Some, refl, sym, ◌∙◌, ap, subst, arith, inl, inr, length-append, slice_get, slice_set, nat_tests, State, version, next, is_free, free_count, with_life, ended_life, In, times, bit, Life, Free, Born, Dead, times-append, in_either, one_row, Takes, IsOut, IsAlive, IsOld, IsKilled, Moves, length-set}
+use Rattle.mst_arena.proofs.ListLemmas.{get-set}
 use Rattle.mst_path.proofs.lemmas.rows.Taking.{frees, frees_is, frees_drop, still_free}
-use Rattle.std.proofs.Math.ListN.{length-set}
 
 -- ---- numbers in lists
 

@@ -1,9 +1,5 @@
 -- A change of rows adds none and loses none.
-use Rattle.std.proofs.Common.{◌≡◌, ℕ, suc, List, [], ◌∷◌, length, Some, None, refl, sym, ◌∙◌, ap}
-use Rattle.std.specs.Prelude.{slice_get}
-use Rattle.mst_arena.specs.Lives.{State}
-use Rattle.mst_arena.specs.declared.life.Life.{Life}
-use Rattle.mst_path.specs.Reached.{Changes}
+use Rattle.mst_path.proofs.Names.{◌≡◌, ℕ, suc, List, [], ◌∷◌, length, Some, None, refl, sym, ◌∙◌, ap, slice_get, State, Life, Changes}
 use Rattle.mst_path.proofs.lemmas.versions.Reached.{by_place}
 
 -- lists that end at the same place

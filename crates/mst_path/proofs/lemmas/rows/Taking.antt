@@ -1,16 +1,7 @@
 -- What is known of rows that were taken.
-use Rattle.std.proofs.Common.{◌≡◌, ◌≢◌, ℕ, zero, suc, ◌+◌, ◌<◌, Bool, IsTrue, cond, List, [], ◌∷◌, ◌++◌, length, Some, refl, sym, ◌∙◌, ap, subst, arith}
-use Rattle.std.specs.Prelude.{slice_get, slice_set}
-use Rattle.std.specs.List.{AllByRecursion}
+use Rattle.mst_path.proofs.Names.{◌≡◌, ◌≢◌, ℕ, zero, suc, ◌+◌, ◌<◌, Bool, IsTrue, cond, List, [], ◌∷◌, ◌++◌, length, Some, refl, sym, ◌∙◌, ap, subst, arith, slice_get, slice_set, AllByRecursion, Content, State, next, is_free, free_count, IsDistinct, Life, Free, Born, Dead, all-append, all-front, all-back, Takes, IsOut, KeepsBut, FreeIsBlank, FewRows, length-set}
 use Rattle.std.proofs.lemmas.List.Recursion.{is_count_by}
-use Rattle.mst_arena.specs.Content.{Content}
-use Rattle.mst_arena.specs.Lives.{State, next, is_free, free_count}
-use Rattle.mst_arena.specs.Standing.{IsDistinct}
-use Rattle.mst_arena.specs.declared.life.Life.{Life}
-use Rattle.mst_arena.specs.declared.life.Life.TheVariants.{Free, Born, Dead}
-use Rattle.mst_arena.proofs.Stands.{all-append, all-front, all-back}
-use Rattle.mst_path.specs.Takes.{born_with, Takes, IsOut, KeepsBut, FreeIsBlank, FewRows}
-use Rattle.std.proofs.Math.ListN.{length-set}
+use Rattle.mst_path.specs.Takes.{born_with}
 
 -- ---- numbers in lists
 

@@ -1,29 +1,7 @@
 -- A tree that is felled: its head, its entries one after another, each with the tree before it, and
 -- the tree in its last gap. `falls` says which rows of a tree die: all, or those that are not kept.
-use Rattle.std.proofs.Common.{◌≡◌, ℕ, zero, suc, ◌+◌, ◌-◌, ◌<◌, ◌≤◌, List, [], ◌∷◌, ◌++◌, Option, Some, IsSome, append_assoc, refl, sym, ◌∙◌, ap, subst, arith}
-use Rattle.std.specs.Prelude.{option_and_then}
-use Rattle.std.specs.Option.{option_map_or}
-use Rattle.mst_key.specs.declared.format.Format.{Format}
-use Rattle.mst_key.specs.Map.{Pair}
-use Rattle.mst_node.specs.Tree.{Tree, IsMst, IsMstEntries, IsUnder}
-use Rattle.mst_node.proofs.UniqueTree.{tree_mst}
-use Rattle.mst_arena.specs.Content.{Content, part_at}
-use Rattle.mst_arena.specs.Lives.{State, next, with_life, ended_life}
-use Rattle.std.specs.Prelude.{slice_get}
-use Rattle.mst_arena.specs.Lists.{In, times}
-use Rattle.mst_arena.specs.Row.{head_links, keyed_links}
-use Rattle.mst_arena.specs.declared.row.Root.{Root}
-use Rattle.mst_arena.specs.declared.row.Row.{Row}
-use Rattle.mst_arena.specs.declared.row.Row.TheVariants.{Entry}
-use Rattle.mst_arena.specs.declared.row.HeadLinks.{HeadLinks}
-use Rattle.mst_arena.specs.declared.row.KeyedLinks.{KeyedLinks}
-use Rattle.mst_arena.specs.Standing.{Placed, none, head, Chain, end, cell, tree_of, entries_of, link_of, first_of, tail_of, count_of, head_row, rows_of, chain_rows, used, chain_used, HasRows, Stands, numbers}
-use Rattle.mst_arena.proofs.ListLemmas.{times-append}
-use Rattle.mst_arena.proofs.Stands.{all-front, all-back}
-use Rattle.mst_path.specs.Changing.{AreOld}
-use Rattle.mst_path.specs.Felling.{ToFell, MayFall}
-use Rattle.mst_path.specs.Joining.{height_at}
-use Rattle.mst_path.specs.Moves.{IsOld, Moves}
+use Rattle.mst_path.proofs.Names.{◌≡◌, ℕ, zero, suc, ◌+◌, ◌-◌, ◌<◌, ◌≤◌, List, [], ◌∷◌, ◌++◌, Option, Some, IsSome, append_assoc, refl, sym, ◌∙◌, ap, subst, arith, option_and_then, option_map_or, Format, Pair, Tree, IsMst, IsMstEntries, IsUnder, tree_mst, Content, part_at, State, next, with_life, ended_life, slice_get, In, times, head_links, keyed_links, Root, Row, Entry, HeadLinks, KeyedLinks, Placed, none, head, Chain, end, cell, tree_of, entries_of, link_of, first_of, tail_of, count_of, head_row, rows_of, chain_rows, used, chain_used, HasRows, Stands, numbers, times-append, all-front, all-back, AreOld, ToFell, height_at, IsOld, Moves}
+use Rattle.mst_path.specs.Felling.{MayFall}
 use Rattle.mst_path.proofs.lemmas.rows.CopyRows.{at_self}
 use Rattle.mst_path.proofs.lemmas.rows.Moving.{moves_kill, moves_then, old_stays}
 use Rattle.mst_path.proofs.lemmas.versions.Changes.{distinct_times}

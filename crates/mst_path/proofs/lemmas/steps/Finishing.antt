@@ -1,25 +1,6 @@
 -- A node whose front is written, up to its head, with no entries at the back.
-use Rattle.mst_key.specs.declared.format.Format.{Format}
-use Rattle.std.proofs.Common.{◌≡◌, ℕ, zero, suc, ◌+◌, ◌-◌, ◌<◌, ◌≤◌, eqb, List, [], ◌∷◌, ◌++◌, length, Option, Some, None, refl, sym, ◌∙◌, ap, subst, arith, inr}
-use Rattle.mst_node.specs.Tree.{node, Entries, last, entry}
-use Rattle.mst_node.specs.Shape.{with_entries}
-use Rattle.mst_arena.specs.Content.{Content}
-use Rattle.mst_arena.specs.Lives.{State, version, next}
-use Rattle.mst_arena.specs.Lists.{In, times, bit}
-use Rattle.mst_arena.specs.declared.row.Root.{Root}
-use Rattle.mst_arena.specs.declared.life.Life.TheVariants.{Born}
-use Rattle.mst_arena.specs.Standing.{Placed, none as no_tree, head, tree_of, entries_of, rows_of, used, HasRows}
-use Rattle.mst_arena.proofs.ListLemmas.{times-append}
-use Rattle.mst_change.specs.Parts.{with_first}
-use Rattle.mst_path.specs.Takes.{IsOut, KeepsBut}
-use Rattle.mst_path.specs.Moves.{IsAlive, Moves, IsNew}
-use Rattle.mst_path.specs.Made.{IsMade}
-use Rattle.mst_path.specs.Runs.{Piece, own, gaps_used, AreCopies}
-use Rattle.mst_path.specs.Writing.{PlacedEntry, chain_of, entries_used, ahead, IsAhead, IsWriter, IsWritten, IsRootOf}
-use Rattle.mst_path.specs.Copying.{Going}
-use Rattle.mst_path.specs.Making.{cell_of, cells_of, entries_to, others, HasTail, Rest, Finished}
-use Rattle.mst_path.specs.declared.making.NodeParts.{NodeParts}
-use Rattle.mst_path.specs.declared.node_writer.NodeWriter.{NodeWriter}
+use Rattle.mst_path.proofs.Names.{Format, ◌≡◌, ℕ, zero, suc, ◌+◌, ◌-◌, ◌<◌, ◌≤◌, eqb, List, [], ◌∷◌, ◌++◌, length, Option, Some, None, refl, sym, ◌∙◌, ap, subst, arith, inr, node, Entries, last, entry, with_entries, Content, State, version, next, In, times, bit, Root, Born, Placed, head, tree_of, entries_of, rows_of, used, HasRows, times-append, with_first, IsOut, KeepsBut, IsAlive, Moves, IsNew, IsMade, Piece, own, gaps_used, AreCopies, PlacedEntry, chain_of, entries_used, ahead, IsAhead, IsWriter, IsWritten, IsRootOf, Going, cell_of, cells_of, entries_to, others, HasTail, Rest, Finished, NodeParts, NodeWriter}
+use Rattle.mst_arena.specs.Standing.{none as no_tree}
 use Rattle.mst_path.proofs.lemmas.rows.Entries.{entries_used-push, used_chain}
 use Rattle.mst_path.proofs.lemmas.rows.Moving.{not_in, out_of_times, moves_none, alive_stays}
 use Rattle.mst_path.proofs.lemmas.trees.Made.{made_chain, made-append, new_stays, made_stays, entries_stay}

@@ -1,30 +1,9 @@
 -- The frame of a gap stays while the tree in the gap is made anew, and is closed round it.
-use Rattle.mst_key.specs.declared.format.Format.{Format}
-use Rattle.std.proofs.Common.{◌≡◌, ℕ, zero, suc, ◌+◌, ◌<◌, ◌≤◌, Bool, false, eqb, List, [], ◌∷◌, ◌++◌, length, Option, Some, None, refl, sym, ◌∙◌, ap, subst, arith, inl, inr, ◌⊎◌, length-append, ◌==◌, ◌||◌}
-use Rattle.std.specs.Prelude.{slice_get, if◌then◌else◌}
-use Rattle.std.proofs.lemmas.Bool.Decides.{nat_tests}
-use Rattle.std.proofs.lemmas.List.{length-map}
-use Rattle.mst_node.specs.Tree.{Tree, node, Entries, last, entry, entry_count}
-use Rattle.mst_node.specs.Shape.{TreeEntry, with_entries}
-use Rattle.mst_arena.specs.Content.{Content}
-use Rattle.mst_arena.specs.Lives.{State, next, with_life, ended_life}
-use Rattle.mst_arena.specs.Lists.{In, times, bit}
-use Rattle.mst_arena.specs.declared.row.Root.{Root}
-use Rattle.mst_arena.specs.Standing.{Placed, none as no_tree, tree_of, used}
-use Rattle.mst_arena.proofs.ListLemmas.{times-append}
-use Rattle.mst_arena.proofs.Stands.{placed_frame}
-use Rattle.mst_path.specs.declared.frames.Frame.{Frame}
-use Rattle.mst_change.specs.Parts.{with_first, node_of}
-use Rattle.mst_change.specs.Cost.{side_rows}
-use Rattle.mst_path.specs.Moves.{IsOld, Moves}
-use Rattle.mst_path.specs.Runs.{Piece, own, gaps_used}
-use Rattle.mst_path.specs.Making.{HasTail, Grown, cell_of, cells_of, entries_to, others}
-use Rattle.mst_path.specs.Frames.{Framed, spare, frame_rows, in_entries, in_frame, tree_round}
-use Rattle.mst_path.specs.Writing.{PlacedEntry, IsRootOf, ahead}
+use Rattle.mst_path.proofs.Names.{Format, ◌≡◌, ℕ, zero, suc, ◌+◌, ◌<◌, ◌≤◌, Bool, false, eqb, List, [], ◌∷◌, ◌++◌, length, Option, Some, None, refl, sym, ◌∙◌, ap, subst, arith, inl, inr, ◌⊎◌, length-append, ◌==◌, ◌||◌, slice_get, if◌then◌else◌, nat_tests, length-map, Tree, node, Entries, last, entry, entry_count, TreeEntry, with_entries, Content, State, next, with_life, ended_life, In, times, bit, Root, Placed, tree_of, used, times-append, placed_frame, Frame, with_first, node_of, side_rows, IsOld, Moves, Piece, own, gaps_used, HasTail, Grown, cell_of, cells_of, entries_to, others, Framed, spare, frame_rows, in_entries, in_frame, tree_round, PlacedEntry, IsRootOf, ahead, with_first_count, with_entries_count}
+use Rattle.mst_arena.specs.Standing.{none as no_tree}
 use Rattle.mst_path.proofs.lemmas.rows.Moving.{times_of_out, moves_none, moves_kill, moves_then, old_stays, alive_out}
 use Rattle.mst_path.proofs.lemmas.trees.Made.{made_stays, piece_alive}
 use Rattle.mst_path.proofs.lemmas.rows.CopyRows.{all_in, kept_at, old_alive, own_frame, gaps_frame, gaps_old, at_self}
-use Rattle.mst_change.proofs.Parts.{with_first_count, with_entries_count}
 
 -- ---- two rows die
 

@@ -1,30 +1,11 @@
 -- A node that is made of parts with a new entry after the front, up to its head.
-use Rattle.mst_key.specs.declared.format.Format.{Format}
-use Rattle.std.proofs.Common.{◌≡◌, ℕ, zero, suc, ◌+◌, ◌<◌, ◌≤◌, min, List, [], ◌∷◌, ◌++◌, length, Some, refl, sym, ◌∙◌, ap, subst, arith, length-append}
-use Rattle.mst_node.specs.Tree.{node, Entries, entry}
-use Rattle.mst_node.specs.Shape.{TreeEntry, with_entries}
-use Rattle.mst_arena.specs.Content.{Content}
-use Rattle.mst_arena.specs.Lives.{State, next}
-use Rattle.mst_arena.specs.Lists.{times}
-use Rattle.mst_arena.specs.declared.row.Root.{Root}
-use Rattle.mst_arena.specs.Standing.{Placed, tree_of, used}
-use Rattle.mst_arena.proofs.ListLemmas.{times-append}
-use Rattle.mst_change.specs.Parts.{with_first}
-use Rattle.mst_path.specs.Takes.{KeepsBut}
-use Rattle.mst_path.specs.Moves.{IsAlive, Moves, IsNew}
-use Rattle.mst_path.specs.Runs.{Piece, own, gaps_used}
-use Rattle.mst_path.specs.Writing.{entries_used, ahead, IsWritten}
-use Rattle.mst_path.specs.Copying.{Going, Copied}
-use Rattle.mst_path.specs.Making.{cells_of, entries_to, others, PartsStand, in_parts, Grown, Rest, Finished}
-use Rattle.mst_path.specs.declared.making.NodeParts.{NodeParts}
-use Rattle.mst_path.specs.declared.node_writer.NodeWriter.{NodeWriter}
+use Rattle.mst_path.proofs.Names.{Format, ◌≡◌, ℕ, zero, suc, ◌+◌, ◌<◌, ◌≤◌, min, List, [], ◌∷◌, ◌++◌, length, Some, refl, sym, ◌∙◌, ap, subst, arith, length-append, node, Entries, entry, TreeEntry, with_entries, Content, State, next, times, Root, Placed, tree_of, used, times-append, with_first, KeepsBut, IsAlive, Moves, IsNew, Piece, own, gaps_used, entries_used, ahead, IsWritten, Going, Copied, cells_of, entries_to, others, PartsStand, in_parts, Grown, Rest, Finished, NodeParts, NodeWriter, with_entries-append}
 use Rattle.mst_path.proofs.lemmas.rows.Moving.{out_of_times, times_of_out, moves_then, alive_out}
 use Rattle.mst_path.proofs.lemmas.trees.Made.{new_stays, piece_alive}
 use Rattle.mst_path.proofs.lemmas.steps.Finishing.{used_more, going_more, copies_cells}
 use Rattle.mst_path.proofs.lemmas.steps.Untouched.{piece_later, back_later}
 use Rattle.mst_path.proofs.lemmas.steps.Whole.{Begun, part_alive, all_taken, taken_times, unwritten, front_used, front_rest}
 use Rattle.mst_path.proofs.lemmas.trees.Cutting.{cells-append}
-use Rattle.mst_change.proofs.Parts.{with_entries-append}
 
 module _ {A : Type 0} (format : Format) {w : NodeWriter A} {c : Content} {s s1 : State}
     {parts : NodeParts}

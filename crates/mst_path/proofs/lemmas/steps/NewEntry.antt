@@ -1,16 +1,5 @@
 -- A new entry between the two sides of a tree.
-use Rattle.mst_key.specs.declared.format.Format.{Format}
-use Rattle.std.proofs.Common.{◌≡◌, ℕ, ◌+◌, ◌<◌, ◌≤◌, List, [], refl, sym, ◌∙◌, ap, arith}
-use Rattle.mst_node.specs.Tree.{Tree, node, entry, last}
-use Rattle.mst_arena.specs.Content.{Content}
-use Rattle.mst_arena.specs.Lives.{State}
-use Rattle.mst_arena.specs.Lists.{times}
-use Rattle.mst_arena.specs.declared.row.Root.{Root}
-use Rattle.mst_arena.specs.Standing.{Placed, none, tree_of, used}
-use Rattle.mst_path.specs.declared.making.EntryRun.{EntryRun}
-use Rattle.mst_path.specs.Making.{PartsStand, Grown, Split}
-use Rattle.mst_path.specs.Moves.{IsAlive}
-use Rattle.mst_path.specs.PutPath.{TwoStand, in_two}
+use Rattle.mst_path.proofs.Names.{Format, ◌≡◌, ℕ, ◌+◌, ◌<◌, ◌≤◌, List, [], refl, sym, ◌∙◌, ap, arith, Tree, node, entry, last, Content, State, times, Root, Placed, none, tree_of, used, EntryRun, PartsStand, Grown, Split, IsAlive, TwoStand, in_two}
 use Rattle.mst_path.proofs.lemmas.steps.Steps.{step_split, step_grown, step_then, apart_after}
 
 -- parts without entries, with a tree in the seam

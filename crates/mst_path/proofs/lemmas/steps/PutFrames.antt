@@ -1,19 +1,5 @@
 -- The frame of a gap stays while the tree in the gap is split, and is closed round a new entry.
-use Rattle.mst_key.specs.declared.format.Format.{Format}
-use Rattle.std.proofs.Common.{ℕ, ◌+◌, ◌<◌, ◌≤◌, List, refl, ◌∙◌, ap, arith, inl, inr}
-use Rattle.mst_node.specs.Tree.{Tree}
-use Rattle.mst_arena.specs.Content.{Content}
-use Rattle.mst_arena.specs.Lives.{State}
-use Rattle.mst_arena.specs.Lists.{times}
-use Rattle.mst_arena.specs.declared.row.Root.{Root}
-use Rattle.mst_arena.specs.Standing.{Placed, tree_of, used}
-use Rattle.mst_path.specs.declared.frames.Frame.{Frame}
-use Rattle.mst_path.specs.Making.{PartsStand, Grown, Split}
-use Rattle.mst_path.specs.Moves.{IsAlive}
-use Rattle.mst_path.specs.Frames.{Framed, in_frame}
-use Rattle.mst_path.specs.Joining.{TwoTrees}
-use Rattle.mst_path.specs.Writing.{IsRootOf}
-use Rattle.mst_path.specs.PutPath.{TwoStand, in_two, tree_with, with_rows}
+use Rattle.mst_path.proofs.Names.{Format, ℕ, ◌+◌, ◌<◌, ◌≤◌, List, refl, ◌∙◌, ap, arith, inl, inr, Tree, Content, State, times, Root, Placed, tree_of, used, Frame, PartsStand, Grown, Split, IsAlive, Framed, in_frame, TwoTrees, IsRootOf, TwoStand, in_two, tree_with, with_rows}
 use Rattle.mst_path.proofs.lemmas.trees.Joined.{old_piece}
 use Rattle.mst_path.proofs.lemmas.rows.CopyRows.{old_alive}
 use Rattle.mst_path.proofs.lemmas.steps.Framing.{frame_old}

@@ -1,26 +1,6 @@
 -- What becomes of a node into whose tree a pair is put, by its layer and by where the key falls.
-use Rattle.mst_key.specs.declared.format.Format.{Format}
-use Rattle.std.proofs.Common.{◌≡◌, ℕ, zero, suc, ◌+◌, ◌<◌, ◌≤◌, List, refl, sym, ◌∙◌, ap, subst, arith}
-use Rattle.mst_key.specs.Layer.{layer_in}
-use Rattle.mst_key.specs.Map.{IsAscending}
-use Rattle.mst_node.specs.Tree.{Tree, empty, node, Entries, last, entry, entry_count, pairs, entries_pairs, IsMst, IsMstEntries, IsUnder}
-use Rattle.mst_node.specs.Shape.{TreeEntry, with_entries}
-use Rattle.mst_arena.specs.Content.{Content}
-use Rattle.mst_arena.specs.Lives.{State}
-use Rattle.mst_arena.specs.Standing.{Placed, none as no_tree, head as tree_head, tree_of, link_of}
-use Rattle.mst_path.specs.declared.frames.Frame.{Frame}
-use Rattle.mst_path.specs.declared.joining.Meeting.{Meeting}
-use Rattle.mst_change.specs.Parts.{first_child, with_first}
-use Rattle.mst_change.specs.Split.{below, above}
-use Rattle.mst_change.specs.Put.{put_at}
-use Rattle.mst_change.specs.Cost.{split_rows, put_rows}
-use Rattle.mst_path.specs.Making.{cells_of, entries_to}
-use Rattle.mst_path.specs.Joining.{height, height_at}
-use Rattle.mst_path.specs.Gaps.{OpensGap, OpensEntry}
-use Rattle.mst_path.specs.Splitting.{ToSplit}
-use Rattle.mst_path.specs.PutPath.{RisingTree, PutsDown, PutsBetween, PutsAnew}
-use Rattle.mst_change.proofs.Parts.{with_first_count, with_entries_count}
-use Rattle.mst_change.proofs.Split.Steps.{gap_count}
+use Rattle.mst_path.proofs.Names.{Format, ◌≡◌, ℕ, zero, suc, ◌+◌, ◌<◌, ◌≤◌, List, refl, sym, ◌∙◌, ap, subst, arith, layer_in, IsAscending, Tree, empty, node, Entries, last, entry, entry_count, pairs, entries_pairs, IsMst, IsMstEntries, IsUnder, TreeEntry, with_entries, Content, State, Placed, tree_of, link_of, Frame, Meeting, first_child, with_first, below, above, put_at, split_rows, put_rows, cells_of, entries_to, height, height_at, OpensGap, OpensEntry, ToSplit, RisingTree, PutsDown, PutsBetween, PutsAnew, with_first_count, with_entries_count, gap_count}
+use Rattle.mst_arena.specs.Standing.{none as no_tree, head as tree_head}
 use Rattle.mst_change.proofs.Put.Steps.{put_lower, put_rows_lower, put_level, put_rows_level, put_higher, put_rows_higher, put_value, put_rows_value}
 use Rattle.mst_path.proofs.lemmas.trees.Heights.{gap_rises, entry_layer}
 use Rattle.mst_path.proofs.lemmas.trees.NodeRuns.{node_of_some, side_some}

@@ -1,34 +1,6 @@
 -- What becomes of a node whose tree loses a key, by where the key stands among its entries.
-use Rattle.mst_key.specs.declared.format.Format.{Format}
-use Rattle.std.proofs.Common.{◌≡◌, ℕ, ◌+◌, ◌-◌, ◌<◌, eqb, false, List, [], ◌∷◌, ◌++◌, length, Option, Some, None, refl, sym, ◌∙◌, ap, subst, arith, length-append}
-use Rattle.std.proofs.lemmas.List.{length-map}
-use Rattle.mst_node.specs.Tree.{Tree, Entries, entry, entry_count, IsMstEntries}
-use Rattle.mst_node.specs.Shape.{TreeEntry, with_entries}
-use Rattle.mst_arena.specs.Content.{Content, part_at}
-use Rattle.mst_arena.specs.Lives.{State}
-use Rattle.mst_arena.specs.Lists.{times, bit}
-use Rattle.mst_arena.specs.Row.{head_links}
-use Rattle.mst_arena.specs.declared.row.HeadLinks.{HeadLinks}
-use Rattle.mst_arena.specs.Standing.{tree_of, link_of, used}
-use Rattle.mst_arena.proofs.ListLemmas.{times-append}
-use Rattle.mst_path.specs.declared.making.EntryRun.{EntryRun}
-use Rattle.mst_change.specs.Parts.{first_child, with_first, node_of}
-use Rattle.mst_change.specs.Join.{join}
-use Rattle.mst_change.specs.Remove.{tree_remove}
-use Rattle.mst_change.specs.Cost.{side_rows, join_rows, remove_rows}
-use Rattle.mst_path.specs.Moves.{IsOld}
-use Rattle.mst_path.specs.Runs.{OldPiece, RunStands, own, gaps_used, EachGap}
-use Rattle.mst_path.specs.Making.{BackRun, cell_of, cells_of, entries_to, others, tail_behind}
-use Rattle.mst_path.specs.Cutting.{gap_before, CutGap, CutFound}
-use Rattle.mst_path.specs.RemovePath.{SearchTree, in_tree, without, without_rows}
-use Rattle.mst_path.specs.Frames.{Framed, tree_round, frame_rows}
-use Rattle.mst_path.specs.declared.frames.Frame.{Frame}
-use Rattle.mst_path.specs.declared.joining.Meeting.{Meeting}
-use Rattle.mst_path.specs.Joining.{TwoTrees, in_both, both_joined, both_rows}
-use Rattle.mst_path.specs.Gaps.{OpensGap, OpensEntry}
-use Rattle.mst_path.specs.Writing.{PlacedEntry, link_from}
+use Rattle.mst_path.proofs.Names.{Format, ◌≡◌, ℕ, ◌+◌, ◌-◌, ◌<◌, eqb, false, List, [], ◌∷◌, ◌++◌, length, Option, Some, None, refl, sym, ◌∙◌, ap, subst, arith, length-append, length-map, Tree, Entries, entry, entry_count, IsMstEntries, TreeEntry, with_entries, Content, part_at, State, times, bit, head_links, HeadLinks, tree_of, link_of, used, times-append, EntryRun, first_child, with_first, node_of, join, tree_remove, side_rows, join_rows, remove_rows, IsOld, OldPiece, RunStands, own, gaps_used, EachGap, BackRun, cell_of, cells_of, entries_to, others, tail_behind, gap_before, CutGap, CutFound, SearchTree, in_tree, without, without_rows, Framed, tree_round, frame_rows, Frame, Meeting, TwoTrees, in_both, both_joined, both_rows, OpensGap, OpensEntry, PlacedEntry, link_from, with_entries_count}
 use Rattle.mst_path.proofs.lemmas.rows.CopyRows.{at_self, old_alive}
-use Rattle.mst_change.proofs.Parts.{with_entries_count}
 use Rattle.mst_change.proofs.Remove.Steps.{remove_step, remove_rows_step, remove_here, remove_rows_here}
 use Rattle.mst_path.proofs.lemmas.trees.Opening.{Opened, opened, count_to}
 use Rattle.mst_path.proofs.lemmas.trees.NodeRuns.{each_in, both_alive}

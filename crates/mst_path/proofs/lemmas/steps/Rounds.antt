@@ -1,21 +1,5 @@
 -- A tree is made in a gap, and the frame round it is closed.
-use Rattle.mst_key.specs.declared.format.Format.{Format}
-use Rattle.std.proofs.Common.{◌≡◌, ℕ, ◌+◌, ◌<◌, ◌≤◌, List, refl, sym, ◌∙◌, ap, arith}
-use Rattle.mst_node.specs.Tree.{Tree}
-use Rattle.mst_arena.specs.Content.{Content}
-use Rattle.mst_arena.specs.Lives.{State, free_count}
-use Rattle.mst_arena.specs.Lists.{times}
-use Rattle.mst_arena.specs.declared.row.Root.{Root}
-use Rattle.mst_arena.specs.Standing.{tree_of, used}
-use Rattle.mst_path.specs.declared.frames.Frame.{Frame}
-use Rattle.mst_change.specs.Remove.{tree_remove}
-use Rattle.mst_change.specs.Cost.{remove_rows}
-use Rattle.mst_path.specs.Making.{Grown}
-use Rattle.mst_path.specs.Writing.{IsRootOf}
-use Rattle.mst_path.specs.Frames.{Framed, in_frame, tree_round, frame_rows}
-use Rattle.mst_path.specs.Joining.{height_at}
-use Rattle.mst_path.specs.RemovePath.{SearchTree, in_tree, without, without_rows}
-use Rattle.mst_path.specs.Gaps.{OpensGap}
+use Rattle.mst_path.proofs.Names.{Format, ◌≡◌, ℕ, ◌+◌, ◌<◌, ◌≤◌, List, refl, sym, ◌∙◌, ap, arith, Tree, Content, State, free_count, times, Root, tree_of, used, Frame, tree_remove, remove_rows, Grown, IsRootOf, Framed, in_frame, tree_round, frame_rows, height_at, SearchTree, in_tree, without, without_rows, OpensGap}
 use Rattle.mst_path.proofs.lemmas.steps.Framing.{framed_after, grown_round}
 use Rattle.mst_path.proofs.lemmas.trees.Meetings.{height_there}
 use Rattle.mst_path.proofs.lemmas.trees.Joined.{placed_none, unchanged}

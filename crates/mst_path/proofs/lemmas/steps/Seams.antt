@@ -1,31 +1,11 @@
 -- A node whose front is written, up to its head, with entries at the back.
-use Rattle.mst_key.specs.declared.format.Format.{Format}
-use Rattle.std.proofs.Common.{◌≡◌, ℕ, ◌+◌, ◌-◌, ◌<◌, ◌≤◌, min, eqb, List, [], ◌∷◌, ◌++◌, length, Option, Some, None, refl, sym, ◌∙◌, ap, subst, arith, length-append}
-use Rattle.mst_node.specs.Tree.{node, Entries, last, entry}
-use Rattle.mst_node.specs.Shape.{TreeEntry, with_entries}
-use Rattle.mst_arena.specs.Content.{Content}
-use Rattle.mst_arena.specs.Lives.{State, next}
-use Rattle.mst_arena.specs.Lists.{In, times, bit}
-use Rattle.mst_arena.specs.declared.row.Root.{Root}
+use Rattle.mst_path.proofs.Names.{Format, ◌≡◌, ℕ, ◌+◌, ◌-◌, ◌<◌, ◌≤◌, min, eqb, List, [], ◌∷◌, ◌++◌, length, Option, Some, None, refl, sym, ◌∙◌, ap, subst, arith, length-append, node, Entries, last, entry, TreeEntry, with_entries, Content, State, next, In, times, bit, Root, head, tree_of, entries_of, rows_of, used, link_of, HasRows, times-append, placed_frame, with_first, IsOut, KeepsBut, IsAlive, IsOld, Moves, IsNew, Piece, OldPiece, own, gaps_used, PlacedEntry, chain_of, link_from, entries_used, ahead, IsAhead, IsWritten, IsRootOf, Going, Copying, Copied, cells_of, entries_to, others, BackRun, Rest, Finished, NodeParts, NodeWriter, with_entries-append}
 use Rattle.mst_arena.specs.declared.row.Row.TheVariants.{Entry as EntryRow}
-use Rattle.mst_arena.specs.Standing.{head, tree_of, entries_of, rows_of, used, link_of, HasRows}
-use Rattle.mst_arena.proofs.ListLemmas.{times-append}
-use Rattle.mst_arena.proofs.Stands.{placed_frame}
-use Rattle.mst_change.specs.Parts.{with_first}
-use Rattle.mst_path.specs.Takes.{IsOut, KeepsBut}
-use Rattle.mst_path.specs.Moves.{IsAlive, IsOld, Moves, IsNew}
-use Rattle.mst_path.specs.Runs.{Piece, OldPiece, own, gaps_used}
-use Rattle.mst_path.specs.Writing.{PlacedEntry, chain_of, link_from, entries_used, ahead, IsAhead, IsWritten, IsRootOf}
-use Rattle.mst_path.specs.Copying.{Going, Copying, Copied}
-use Rattle.mst_path.specs.Making.{cells_of, entries_to, others, BackRun, Rest, Finished}
-use Rattle.mst_path.specs.declared.making.NodeParts.{NodeParts}
-use Rattle.mst_path.specs.declared.node_writer.NodeWriter.{NodeWriter}
 use Rattle.mst_path.proofs.lemmas.rows.Moving.{not_in, out_of_times, times_of_out, moves_then, alive_stays, alive_out, old_stays}
 use Rattle.mst_path.proofs.lemmas.trees.Made.{made_old, new_stays, piece_alive}
 use Rattle.mst_path.proofs.lemmas.rows.CopyRows.{at_self, kept_at, all_in, new_not_old, new_alive, old_alive, own_frame, gaps_frame, gaps_old}
 use Rattle.mst_path.proofs.lemmas.steps.Finishing.{used_more, going_more, copies_cells, chain_entries, all_used, head_piece, used_entries, entries_used-append, copies_gaps}
 use Rattle.mst_path.proofs.lemmas.trees.Cutting.{cells-append}
-use Rattle.mst_change.proofs.Parts.{with_entries-append}
 
 -- ---- the first entry at the back
 

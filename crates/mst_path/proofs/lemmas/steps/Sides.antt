@@ -1,23 +1,7 @@
 -- Both sides of a node, one after the other.
-use Rattle.mst_key.specs.declared.format.Format.{Format}
-use Rattle.std.proofs.Common.{◌≡◌, ℕ, zero, suc, ◌+◌, ◌<◌, ◌≤◌, false, List, [], ◌∷◌, length, refl, sym, ap, subst, arith}
-use Rattle.std.specs.Prelude.{slice_get}
-use Rattle.mst_node.specs.Shape.{with_entries}
-use Rattle.mst_arena.specs.Content.{Content}
-use Rattle.mst_arena.specs.Lives.{State, next, with_life, ended_life}
-use Rattle.mst_arena.specs.Lists.{times}
-use Rattle.mst_arena.specs.declared.row.Root.{Root}
-use Rattle.mst_arena.specs.Standing.{Placed, tree_of, used}
-use Rattle.mst_change.specs.Parts.{node_of, with_first}
-use Rattle.mst_change.specs.Cost.{side_rows}
-use Rattle.mst_path.specs.Moves.{IsAlive, IsOld}
-use Rattle.mst_path.specs.Runs.{Piece, own, gaps_used}
-use Rattle.mst_path.specs.Writing.{PlacedEntry}
-use Rattle.mst_path.specs.Making.{others, HasTail, PartsStand, in_parts, cells_of, entries_to, Grown, Split}
-use Rattle.mst_path.specs.Splitting.{side_of, BothStand, in_both}
-use Rattle.mst_path.specs.declared.making.NodeParts.{NodeParts}
+use Rattle.mst_path.proofs.Names.{Format, ◌≡◌, ℕ, zero, suc, ◌+◌, ◌<◌, ◌≤◌, false, List, [], ◌∷◌, length, refl, sym, ap, subst, arith, slice_get, with_entries, Content, State, next, with_life, ended_life, times, Root, Placed, tree_of, used, node_of, with_first, side_rows, IsAlive, IsOld, Piece, own, gaps_used, PlacedEntry, others, HasTail, PartsStand, in_parts, cells_of, entries_to, Grown, Split, side_of, BothStand, NodeParts, one_row}
+use Rattle.mst_path.specs.Splitting.{in_both}
 use Rattle.mst_path.proofs.lemmas.rows.CopyRows.{at_self, old_alive}
-use Rattle.mst_arena.proofs.ListLemmas.{one_row}
 use Rattle.mst_path.proofs.lemmas.rows.Moving.{moves_none}
 use Rattle.mst_path.proofs.lemmas.trees.Made.{piece_alive}
 use Rattle.mst_path.proofs.lemmas.steps.Steps.{Step, step_grown, step_kill, step_then, piece_after, old_after, apart_after, parts_after, parts_alive}

@@ -1,28 +1,6 @@
 -- One node of a split: what both sides are made of.
-use Rattle.mst_key.specs.declared.format.Format.{Format}
-use Rattle.std.proofs.Common.{◌≡◌, ℕ, ◌+◌, ◌<◌, ◌≤◌, ◌==◌, ◌&&◌, Bool, true, false, List, [], ◌∷◌, None, refl, sym, ◌∙◌, ap, subst, arith}
-use Rattle.std.proofs.lemmas.Bool.{and_parts}
-use Rattle.mst_key.specs.Layer.{layer_in}
-use Rattle.mst_key.specs.Map.{map_get}
-use Rattle.mst_node.specs.Tree.{Tree, empty, last, pairs}
-use Rattle.mst_node.specs.Shape.{TreeEntry, with_entries}
-use Rattle.mst_arena.specs.Content.{Content}
-use Rattle.mst_arena.specs.Lives.{State, free_count}
-use Rattle.mst_arena.specs.Lists.{times}
-use Rattle.mst_arena.specs.declared.row.Root.{Root}
-use Rattle.mst_arena.specs.Standing.{Placed, none, tree_of, used}
-use Rattle.mst_path.specs.declared.making.EntryRun.{EntryRun}
-use Rattle.mst_path.specs.declared.frames.Frame.{Frame}
-use Rattle.mst_change.specs.Parts.{with_first, node_of, is_empty}
-use Rattle.mst_change.specs.Split.{below, above}
-use Rattle.mst_change.specs.Cost.{side_rows, split_rows}
-use Rattle.mst_path.specs.Moves.{IsAlive}
-use Rattle.mst_path.specs.Runs.{Piece}
-use Rattle.mst_path.specs.Writing.{IsRootOf, ahead}
-use Rattle.mst_path.specs.Making.{cells_of, entries_to, Split}
-use Rattle.mst_path.specs.Frames.{in_frame, spare}
-use Rattle.mst_path.specs.Gaps.{OpensGap}
-use Rattle.mst_path.specs.Splitting.{ToSplit, BothStand, side_of, in_both}
+use Rattle.mst_path.proofs.Names.{Format, ◌≡◌, ℕ, ◌+◌, ◌<◌, ◌≤◌, ◌==◌, ◌&&◌, Bool, true, false, List, [], ◌∷◌, None, refl, sym, ◌∙◌, ap, subst, arith, and_parts, layer_in, map_get, Tree, empty, last, pairs, TreeEntry, with_entries, Content, State, free_count, times, Root, Placed, none, tree_of, used, EntryRun, Frame, with_first, node_of, is_empty, below, above, side_rows, split_rows, IsAlive, Piece, IsRootOf, ahead, cells_of, entries_to, Split, in_frame, spare, OpensGap, ToSplit, BothStand, side_of}
+use Rattle.mst_path.specs.Splitting.{in_both}
 use Rattle.mst_path.proofs.lemmas.rows.Moving.{moves_none}
 use Rattle.mst_path.proofs.lemmas.trees.Made.{made_old}
 use Rattle.mst_path.proofs.lemmas.rows.CopyRows.{at_self, old_alive}

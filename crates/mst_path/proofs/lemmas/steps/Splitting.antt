@@ -1,29 +1,6 @@
 -- One node of a split: what is split in its gap, and what that takes.
-use Rattle.mst_key.specs.declared.format.Format.{Format}
-use Rattle.std.proofs.Common.{◌≡◌, ℕ, zero, suc, ◌+◌, ◌<◌, ◌≤◌, ◌==◌, ◌&&◌, ◌||◌, Bool, true, false, List, [], ◌∷◌, length, refl, sym, ◌∙◌, ap, subst, arith}
-use Rattle.std.proofs.lemmas.Bool.Decides.{nat_tests}
-use Rattle.std.proofs.lemmas.List.{length-map}
-use Rattle.mst_key.specs.Layer.{layer_in}
-use Rattle.mst_key.specs.Map.{IsAscending}
-use Rattle.std.specs.Prelude.{if◌then◌else◌}
-use Rattle.mst_node.specs.Tree.{Tree, empty, node, Entries, last, entry_count, pairs, entries_pairs, IsMst, IsMstEntries}
-use Rattle.mst_node.specs.Shape.{TreeEntry, with_entries}
-use Rattle.mst_arena.specs.Content.{Content}
-use Rattle.mst_arena.specs.Lives.{State}
-use Rattle.mst_arena.specs.Lists.{times}
-use Rattle.mst_arena.specs.declared.row.Root.{Root}
-use Rattle.mst_arena.specs.Standing.{Placed, none, head, tree_of, link_of, used}
-use Rattle.mst_path.specs.declared.frames.Frame.{Frame}
-use Rattle.mst_path.specs.declared.joining.Meeting.{Meeting}
-use Rattle.mst_change.specs.Parts.{first_child, with_first, node_of, is_empty}
-use Rattle.mst_change.specs.Split.{below, above}
-use Rattle.mst_change.specs.Cost.{side_rows, split_rows}
-use Rattle.mst_path.specs.Writing.{IsRootOf}
-use Rattle.mst_path.specs.Making.{cell_of, cells_of, entries_to, Split}
-use Rattle.mst_path.specs.Joining.{height, height_at}
-use Rattle.mst_path.specs.Gaps.{OpensGap, OpensEntry}
-use Rattle.mst_path.specs.Splitting.{ToSplit}
-use Rattle.mst_change.proofs.Split.Steps.{below_step, above_step, gap_count, none_below, none_above, split_rows_step}
+use Rattle.mst_path.proofs.Names.{Format, ◌≡◌, ℕ, zero, suc, ◌+◌, ◌<◌, ◌≤◌, ◌==◌, ◌&&◌, ◌||◌, Bool, true, false, List, [], ◌∷◌, length, refl, sym, ◌∙◌, ap, subst, arith, nat_tests, length-map, layer_in, IsAscending, if◌then◌else◌, Tree, empty, node, Entries, last, entry_count, pairs, entries_pairs, IsMst, IsMstEntries, TreeEntry, with_entries, Content, State, times, Root, Placed, none, head, tree_of, link_of, used, Frame, Meeting, first_child, with_first, node_of, is_empty, below, above, side_rows, split_rows, IsRootOf, cell_of, cells_of, entries_to, Split, height, height_at, OpensGap, OpensEntry, ToSplit, gap_count}
+use Rattle.mst_change.proofs.Split.Steps.{below_step, above_step, none_below, none_above, split_rows_step}
 use Rattle.mst_path.proofs.lemmas.rows.Moving.{moves_none}
 use Rattle.mst_path.proofs.lemmas.trees.Heights.{gap_rises, entry_layer}
 use Rattle.mst_path.proofs.lemmas.trees.NodeRuns.{height_under}

@@ -1,21 +1,5 @@
 -- Steps of a change, one after another, and what they leave alone.
-use Rattle.mst_key.specs.declared.format.Format.{Format}
-use Rattle.std.proofs.Common.{◌≡◌, ℕ, zero, suc, ◌+◌, ◌<◌, ◌≤◌, List, [], ◌∷◌, ◌++◌, length, refl, sym, ◌∙◌, subst, arith, length-append}
-use Rattle.std.specs.Prelude.{slice_get}
-use Rattle.mst_node.specs.Tree.{Tree}
-use Rattle.mst_arena.specs.Content.{Content}
-use Rattle.mst_arena.specs.Lives.{State, next, with_life, ended_life}
-use Rattle.mst_arena.specs.Lists.{times}
-use Rattle.mst_arena.specs.declared.row.Root.{Root}
-use Rattle.mst_arena.specs.Standing.{Placed, used}
-use Rattle.mst_arena.proofs.ListLemmas.{times-append}
-use Rattle.mst_arena.proofs.Stands.{placed_frame}
-use Rattle.mst_path.specs.Takes.{KeepsBut}
-use Rattle.mst_path.specs.Moves.{IsAlive, IsOld, Moves}
-use Rattle.mst_path.specs.Runs.{Piece, OldPiece, RunStands, own, gaps_used, EachGap}
-use Rattle.mst_path.specs.Writing.{PlacedEntry}
-use Rattle.mst_path.specs.Making.{others, BackRun, PartsStand, in_parts, Grown, Split}
-use Rattle.mst_path.specs.declared.making.NodeParts.{NodeParts}
+use Rattle.mst_path.proofs.Names.{Format, ◌≡◌, ℕ, zero, suc, ◌+◌, ◌<◌, ◌≤◌, List, [], ◌∷◌, ◌++◌, length, refl, sym, ◌∙◌, subst, arith, length-append, slice_get, Tree, Content, State, next, with_life, ended_life, times, Root, Placed, used, times-append, placed_frame, KeepsBut, IsAlive, IsOld, Moves, Piece, OldPiece, RunStands, own, gaps_used, EachGap, PlacedEntry, others, BackRun, PartsStand, in_parts, Grown, Split, NodeParts}
 use Rattle.mst_path.proofs.lemmas.rows.Moving.{out_of_times, times_of_out, moves_kill, moves_then, old_stays, alive_out}
 use Rattle.mst_path.proofs.lemmas.trees.Made.{made_stays, piece_alive}
 use Rattle.mst_path.proofs.lemmas.rows.CopyRows.{all_in, kept_at, old_alive, own_frame, gaps_frame, gaps_old}

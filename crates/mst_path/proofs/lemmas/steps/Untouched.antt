@@ -1,16 +1,5 @@
 -- What a step neither kills nor writes stands as before.
-use Rattle.mst_key.specs.declared.format.Format.{Format}
-use Rattle.std.proofs.Common.{◌≡◌, ℕ, List}
-use Rattle.mst_arena.specs.Content.{Content}
-use Rattle.mst_arena.specs.Lives.{State}
-use Rattle.mst_arena.specs.Lists.{In, times}
-use Rattle.mst_arena.specs.Standing.{Placed, used}
-use Rattle.mst_arena.proofs.Stands.{placed_frame}
-use Rattle.mst_path.specs.Takes.{KeepsBut}
-use Rattle.mst_path.specs.Moves.{IsAlive, Moves}
-use Rattle.mst_path.specs.Runs.{Piece, OldPiece, RunStands, own, gaps_used}
-use Rattle.mst_path.specs.Writing.{PlacedEntry}
-use Rattle.mst_path.specs.Making.{others, BackRun}
+use Rattle.mst_path.proofs.Names.{Format, ◌≡◌, ℕ, List, Content, State, In, times, Placed, used, placed_frame, KeepsBut, IsAlive, Moves, Piece, OldPiece, RunStands, own, gaps_used, PlacedEntry, others, BackRun}
 use Rattle.mst_path.proofs.lemmas.rows.Moving.{old_stays}
 use Rattle.mst_path.proofs.lemmas.rows.CopyRows.{kept_at, all_in, old_alive, own_frame, gaps_frame, gaps_old}
 use Rattle.mst_path.proofs.lemmas.trees.Made.{made_stays, piece_alive}

@@ -1,24 +1,5 @@
 -- A node that is made of parts, from the first row that is taken to its head.
-use Rattle.mst_key.specs.declared.format.Format.{Format}
-use Rattle.std.proofs.Common.{◌≡◌, ℕ, zero, suc, ◌+◌, ◌<◌, ◌≤◌, min, eqb, List, [], ◌∷◌, ◌++◌, length, Option, Some, refl, sym, ◌∙◌, ap, subst, arith, length-append}
-use Rattle.mst_node.specs.Tree.{node}
-use Rattle.mst_node.specs.Shape.{TreeEntry, with_entries}
-use Rattle.mst_arena.specs.Content.{Content}
-use Rattle.mst_arena.specs.Lives.{State, version, next}
-use Rattle.mst_arena.specs.Lists.{In, times, bit}
-use Rattle.mst_arena.specs.declared.row.Root.{Root}
-use Rattle.mst_arena.specs.declared.life.Life.TheVariants.{Born}
-use Rattle.mst_arena.specs.Standing.{Placed, tree_of, used}
-use Rattle.mst_arena.proofs.ListLemmas.{times-append}
-use Rattle.mst_change.specs.Parts.{with_first}
-use Rattle.mst_path.specs.Takes.{Takes, IsOut}
-use Rattle.mst_path.specs.Moves.{IsAlive, Moves, IsNew}
-use Rattle.mst_path.specs.Runs.{Piece, own, gaps_used}
-use Rattle.mst_path.specs.Writing.{entries_used, ahead, IsWritten}
-use Rattle.mst_path.specs.Copying.{Going, Copying, Copied}
-use Rattle.mst_path.specs.Making.{cells_of, entries_to, others, PartsStand, in_parts, Grown, Rest, Finished}
-use Rattle.mst_path.specs.declared.making.NodeParts.{NodeParts}
-use Rattle.mst_path.specs.declared.node_writer.NodeWriter.{NodeWriter}
+use Rattle.mst_path.proofs.Names.{Format, ◌≡◌, ℕ, zero, suc, ◌+◌, ◌<◌, ◌≤◌, min, eqb, List, [], ◌∷◌, ◌++◌, length, Option, Some, refl, sym, ◌∙◌, ap, subst, arith, length-append, node, TreeEntry, with_entries, Content, State, version, next, In, times, bit, Root, Born, Placed, tree_of, used, times-append, with_first, Takes, IsOut, IsAlive, Moves, IsNew, Piece, own, gaps_used, entries_used, ahead, IsWritten, Going, Copying, Copied, cells_of, entries_to, others, PartsStand, in_parts, Grown, Rest, Finished, NodeParts, NodeWriter}
 use Rattle.mst_path.proofs.lemmas.rows.Moving.{not_in, out_of_times, times_of_out, moves_takes, moves_then, alive_out, old_stays}
 use Rattle.mst_path.proofs.lemmas.rows.CopyRows.{at_self, new_not_old, old_alive, gaps_old}
 use Rattle.mst_path.proofs.lemmas.trees.Made.{new_stays, piece_alive}

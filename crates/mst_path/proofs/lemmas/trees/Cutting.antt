@@ -1,25 +1,8 @@
 -- A walk along the entries of a node, up to where a key stands.
-use Rattle.mst_key.specs.declared.format.Format.{Format}
-use Rattle.std.proofs.Common.{◌≡◌, ℕ, ◌+◌, ◌-◌, ◌<◌, List, [], ◌∷◌, ◌++◌, length, Some, refl, sym, ◌∙◌, ap, subst, arith, append_assoc, length-append, Less, Equal, Greater}
-use Rattle.std.specs.Prelude.{option_and_then}
-use Rattle.std.proofs.lemmas.List.{map-append}
+use Rattle.mst_path.proofs.Names.{Format, ◌≡◌, ℕ, ◌+◌, ◌-◌, ◌<◌, List, [], ◌∷◌, ◌++◌, length, Some, refl, sym, ◌∙◌, ap, subst, arith, append_assoc, length-append, option_and_then, map-append, last, entry, TreeEntry, with_entries, Content, part_at, keyed_links, Entry, KeyedLinks, HeadLinks, Placed, link_of, tree_of, HasRows, all-append, CellsBelow, own_rows, PlacedEntry, link_from, cell_of, cells_of, entries_to, EntriesLie, CutGap, CutFound, with_entries-append}
+use Rattle.std.proofs.Common.{Less, Equal, Greater}
 use Rattle.mst_key.specs.Map.{key_cmp}
 use Rattle.mst_key.proofs.KeyOrder.{same_from_equal, less_from_greater}
-use Rattle.mst_node.specs.Tree.{last, entry}
-use Rattle.mst_node.specs.Shape.{TreeEntry, with_entries}
-use Rattle.mst_arena.specs.Content.{Content, part_at}
-use Rattle.mst_arena.specs.Row.{keyed_links}
-use Rattle.mst_arena.specs.declared.row.Row.TheVariants.{Entry}
-use Rattle.mst_arena.specs.declared.row.KeyedLinks.{KeyedLinks}
-use Rattle.mst_arena.specs.declared.row.HeadLinks.{HeadLinks}
-use Rattle.mst_arena.specs.Standing.{Placed, link_of, tree_of, HasRows}
-use Rattle.mst_arena.proofs.Stands.{all-append}
-use Rattle.mst_change.specs.Gap.{CellsBelow}
-use Rattle.mst_path.specs.Runs.{own_rows}
-use Rattle.mst_path.specs.Writing.{PlacedEntry, link_from}
-use Rattle.mst_path.specs.Making.{cell_of, cells_of, entries_to}
-use Rattle.mst_path.specs.Cutting.{EntriesLie, CutGap, CutFound}
-use Rattle.mst_change.proofs.Parts.{with_entries-append}
 use Rattle.mst_path.proofs.lemmas.rows.CopyRows.{links_are}
 
 -- so many entries are passed, all below the key, and the others begin at the link

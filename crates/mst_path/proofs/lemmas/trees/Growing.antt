@@ -1,19 +1,6 @@
 -- A node that is planted entry by entry.
-use Rattle.mst_key.specs.declared.format.Format.{Format}
-use Rattle.std.proofs.Common.{◌≡◌, ℕ, ◌+◌, ◌<◌, ◌≤◌, List, [], ◌∷◌, ◌++◌, length, map, Option, None, Some, IfSome, refl, sym, ◌∙◌, ap, subst, arith, append_assoc, length-append}
-use Rattle.std.specs.List.{AllByRecursion}
-use Rattle.std.proofs.lemmas.List.{append-nil, map-append}
+use Rattle.mst_path.proofs.Names.{Format, ◌≡◌, ℕ, ◌+◌, ◌<◌, ◌≤◌, List, [], ◌∷◌, ◌++◌, length, map, Option, None, Some, IfSome, refl, sym, ◌∙◌, ap, subst, arith, append_assoc, length-append, AllByRecursion, append-nil, map-append, TreeEntry, with_entries, Content, State, free_count, Root, Placed, none, head, tree_of, entries_of, link_of, rows_of, used, chain_used, HasRows, IsDistinct, all-front, all-back, NodeWriter, Takes, IsOut, KeepsBut, FewRows, PlacedEntry, chain_of, entries_used, IsRootOf, ahead, link_to, IsAhead, IsWritten, rows_needed, Planted}
 use Rattle.mst_node.specs.Tree as tree
-use Rattle.mst_node.specs.Shape.{TreeEntry, with_entries}
-use Rattle.mst_arena.specs.Content.{Content}
-use Rattle.mst_arena.specs.Lives.{State, free_count}
-use Rattle.mst_arena.specs.declared.row.Root.{Root}
-use Rattle.mst_arena.specs.Standing.{Placed, none, head, tree_of, entries_of, link_of, rows_of, used, chain_used, HasRows, IsDistinct}
-use Rattle.mst_arena.proofs.Stands.{all-front, all-back}
-use Rattle.mst_path.specs.declared.node_writer.NodeWriter.{NodeWriter}
-use Rattle.mst_path.specs.Takes.{Takes, IsOut, KeepsBut, FewRows}
-use Rattle.mst_path.specs.Writing.{PlacedEntry, chain_of, entries_used, IsRootOf, ahead, link_to, IsAhead, IsWritten}
-use Rattle.mst_path.specs.Planting.{rows_needed, Planted}
 use Rattle.mst_path.proofs.lemmas.rows.Taking.{Apart, takes_append, takes_count, takes_small, keeps_append, kept, distinct-apart, distinct_front, apart_one, out_back, out_front, out_both}
 use Rattle.mst_path.proofs.lemmas.rows.Entries.{entries_used-push, entries_frame, used_chain}
 use Rattle.mst_path.proofs.lemmas.trees.Nodes.{entries_needed, used_count}

@@ -1,12 +1,6 @@
 -- What is known of the trees in the gaps of a node, and of its entries.
-use Rattle.std.proofs.Common.{◌≡◌, ℕ, List, [], ◌∷◌}
-use Rattle.mst_key.specs.declared.format.Format.{Format}
-use Rattle.mst_key.specs.Layer.{layer_in}
-use Rattle.mst_key.specs.Map.{IsAscending}
-use Rattle.mst_node.specs.Tree.{Tree, Entries, last, entry, pairs, entries_pairs, IsMstEntries}
-use Rattle.mst_node.specs.Shape.{TreeEntry, with_entries}
-use Rattle.mst_change.specs.Parts.{first_child}
-use Rattle.mst_change.proofs.Split.Trees.{rest_rises, child_rises}
+use Rattle.mst_path.proofs.Names.{◌≡◌, ℕ, List, [], ◌∷◌, Format, layer_in, IsAscending, Tree, Entries, last, entry, pairs, entries_pairs, IsMstEntries, TreeEntry, with_entries, first_child, rest_rises}
+use Rattle.mst_change.proofs.Split.Trees.{child_rises}
 
 module _ (format : Format) (l : ℕ) (es : Entries) where
   pub gap_rises : (front : List TreeEntry) → IsAscending (entries_pairs (with_entries front es))

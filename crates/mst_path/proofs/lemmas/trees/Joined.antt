@@ -1,20 +1,7 @@
 -- Two trees that are joined: if one of them is empty, and if the trees that meet are already
 -- joined.
-use Rattle.mst_key.specs.declared.format.Format.{Format}
-use Rattle.std.proofs.Common.{◌≡◌, ℕ, ◌+◌, ◌<◌, [], refl, sym, ◌∙◌, ap, arith}
-use Rattle.mst_node.specs.Tree.{Tree, empty}
-use Rattle.mst_arena.specs.Content.{Content}
-use Rattle.mst_arena.specs.Lives.{State}
-use Rattle.mst_arena.specs.Lists.{times}
-use Rattle.mst_arena.specs.declared.row.Root.{Root}
-use Rattle.mst_arena.specs.Standing.{Placed, none as no_tree, head as tree_head, tree_of, link_of, used}
-use Rattle.mst_path.specs.declared.joining.Meeting.{Meeting}
-use Rattle.mst_change.specs.Join.{join}
-use Rattle.mst_change.specs.Cost.{join_rows}
-use Rattle.mst_path.specs.Making.{Grown}
-use Rattle.mst_path.specs.Runs.{Piece, OldPiece}
-use Rattle.mst_path.specs.Writing.{IsRootOf}
-use Rattle.mst_path.specs.Joining.{TwoTrees, in_both, both_joined, both_rows, height_at, Met}
+use Rattle.mst_path.proofs.Names.{Format, ◌≡◌, ℕ, ◌+◌, ◌<◌, [], refl, sym, ◌∙◌, ap, arith, Tree, empty, Content, State, times, Root, Placed, tree_of, link_of, used, Meeting, join, join_rows, Grown, Piece, OldPiece, IsRootOf, TwoTrees, in_both, both_joined, both_rows, height_at, Met}
+use Rattle.mst_arena.specs.Standing.{none as no_tree, head as tree_head}
 use Rattle.mst_path.proofs.lemmas.rows.Moving.{moves_none}
 use Rattle.mst_path.proofs.lemmas.trees.Made.{made_old}
 use Rattle.mst_change.proofs.Join.Steps.{join_empty}

@@ -1,30 +1,13 @@
 -- The value of a key in a tree that stands, by where the key stands among the entries of the top
 -- node.
-use Rattle.mst_key.specs.declared.format.Format.{Format}
-use Rattle.std.proofs.Common.{◌≡◌, ℕ, ◌-◌, ◌<◌, List, [], ◌∷◌, Option, Some, IsSome, option_and_then, refl, sym, ◌∙◌, ap, subst, arith}
-use Rattle.mst_key.specs.Map.{map_get, IsAscending}
+use Rattle.mst_path.proofs.Names.{Format, ◌≡◌, ℕ, ◌-◌, ◌<◌, List, [], ◌∷◌, Option, Some, IsSome, refl, sym, ◌∙◌, ap, subst, arith, map_get, IsAscending, Tree, Entries, last, entry, pairs, entries_pairs, TreeEntry, with_entries, Content, part_at, State, head_links, entry_value, Row, Entry, HeadLinks, Placed, tree_of, link_of, EntryRun, first_child, CellsBelow, cells_of, entries_to, tail_behind, EntriesLie, CutGap, CutFound, height_at, SearchTree, PlacedEntry, link_from, rest_rises}
+use Rattle.std.proofs.Common.{option_and_then}
 use Rattle.mst_key.proofs.MapLaws.{map_get-here}
 use Rattle.mst_key.proofs.Splits.{map_get-left, map_get-right}
-use Rattle.mst_node.specs.Tree.{Tree, Entries, last, entry, pairs, entries_pairs}
-use Rattle.mst_node.specs.Shape.{TreeEntry, with_entries}
-use Rattle.mst_arena.specs.Content.{Content, part_at}
-use Rattle.mst_arena.specs.Lives.{State}
-use Rattle.mst_arena.specs.Row.{head_links, entry_value}
-use Rattle.mst_arena.specs.declared.row.Row.{Row}
-use Rattle.mst_arena.specs.declared.row.Row.TheVariants.{Entry}
-use Rattle.mst_arena.specs.declared.row.HeadLinks.{HeadLinks}
-use Rattle.mst_arena.specs.Standing.{Placed, tree_of, link_of}
-use Rattle.mst_path.specs.declared.making.EntryRun.{EntryRun}
 use Rattle.mst_path.specs.declared.cut.Cut.{Cut}
-use Rattle.mst_change.specs.Parts.{first_child}
-use Rattle.mst_change.specs.Gap.{CellsBelow, FallsFirst, IsGap, IsAt}
-use Rattle.mst_path.specs.Making.{cells_of, entries_to, tail_behind}
-use Rattle.mst_path.specs.Cutting.{EntriesLie, IsCut, CutGap, CutFound}
-use Rattle.mst_path.specs.Joining.{height_at}
-use Rattle.mst_path.specs.RemovePath.{SearchTree}
-use Rattle.mst_path.specs.Writing.{PlacedEntry, link_from}
+use Rattle.mst_change.specs.Gap.{FallsFirst, IsGap, IsAt}
+use Rattle.mst_path.specs.Cutting.{IsCut}
 use Rattle.mst_change.proofs.Split.Pairs.{behind_above, before_below, before_same}
-use Rattle.mst_change.proofs.Split.Trees.{rest_rises}
 use Rattle.mst_path.proofs.lemmas.trees.Heights.{gap_rises}
 use Rattle.mst_path.proofs.lemmas.trees.Meetings.{height_there}
 use Rattle.mst_path.proofs.lemmas.trees.Parting.{back_rows}

@@ -1,18 +1,5 @@
 -- Trees of which each node is wholly old or made anew: how they are made, and that they stay so.
-use Rattle.mst_key.specs.declared.format.Format.{Format}
-use Rattle.std.proofs.Common.{◌≡◌, ℕ, ◌+◌, ◌<◌, eqb, Bool, true, false, List, [], ◌∷◌, ◌++◌, Some, refl, sym, ◌∙◌, ap, subst, arith, inl, inr}
-use Rattle.std.proofs.lemmas.Bool.Decides.{nat_tests}
-use Rattle.mst_arena.specs.Content.{Content}
-use Rattle.mst_arena.specs.Lives.{State, version, next}
-use Rattle.mst_arena.specs.Lists.{In, times, bit}
-use Rattle.mst_arena.specs.declared.life.Life.TheVariants.{Born}
-use Rattle.mst_arena.specs.Standing.{Placed, none, head, Chain, end, cell, used, chain_used}
-use Rattle.mst_arena.proofs.ListLemmas.{times-append}
-use Rattle.mst_path.specs.Made.{IsMade, IsMadeChain, AreMade}
-use Rattle.mst_path.specs.Moves.{IsAlive, IsOld, IsNew, Moves}
-use Rattle.mst_path.specs.Runs.{Piece}
-use Rattle.mst_path.specs.Writing.{PlacedEntry, chain_of, entries_used}
-use Rattle.mst_arena.proofs.ListLemmas.{in_either}
+use Rattle.mst_path.proofs.Names.{Format, ◌≡◌, ℕ, ◌+◌, ◌<◌, eqb, Bool, true, false, List, [], ◌∷◌, ◌++◌, Some, refl, sym, ◌∙◌, ap, subst, arith, inl, inr, nat_tests, Content, State, version, next, In, times, bit, Born, Placed, none, head, Chain, end, cell, used, chain_used, times-append, IsMade, IsMadeChain, AreMade, IsAlive, IsOld, IsNew, Moves, Piece, PlacedEntry, chain_of, entries_used, in_either}
 use Rattle.mst_path.proofs.lemmas.rows.Moving.{alive_out, old_stays}
 
 at_self : (x : ℕ) → bit (eqb x x) ≡ 1

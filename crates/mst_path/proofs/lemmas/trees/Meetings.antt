@@ -1,33 +1,10 @@
 -- Where two trees meet that are to be joined, by the layers of their nodes.
-use Rattle.mst_key.specs.declared.format.Format.{Format}
-use Rattle.std.proofs.Common.{◌≡◌, ℕ, zero, suc, ◌+◌, ◌-◌, ◌<◌, ◌≤◌, List, [], ◌∷◌, length, Option, Some, IsSome, refl, sym, ◌∙◌, ap, subst, arith}
-use Rattle.std.specs.Prelude.{option_and_then}
-use Rattle.std.specs.Option.{option_map_or}
-use Rattle.std.proofs.lemmas.List.{length-map}
-use Rattle.mst_node.specs.Tree.{node, Entries, last, entry, entry_count, IsUnder, IsMst, IsMstEntries}
-use Rattle.mst_node.specs.Shape.{TreeEntry, with_entries}
-use Rattle.mst_arena.specs.Content.{Content, part_at}
-use Rattle.mst_arena.specs.Lives.{State}
-use Rattle.mst_arena.specs.Lists.{times}
-use Rattle.mst_arena.specs.Row.{head_links, keyed_links}
-use Rattle.mst_arena.specs.declared.row.Row.{Row}
-use Rattle.mst_arena.specs.declared.row.Row.TheVariants.{Entry}
-use Rattle.mst_arena.specs.declared.row.HeadLinks.{HeadLinks}
-use Rattle.mst_arena.specs.declared.row.KeyedLinks.{KeyedLinks}
-use Rattle.mst_arena.specs.Standing.{Placed, none as no_tree, head as tree_head, tree_of, link_of, rows_of, used, HasRows}
-use Rattle.mst_arena.proofs.ListLemmas.{times-append}
-use Rattle.mst_arena.specs.Limits.{highest_layer}
-use Rattle.mst_change.specs.Parts.{cells, last_child, first_child, with_first}
-use Rattle.mst_change.specs.Join.{join}
-use Rattle.mst_change.specs.Cost.{join_rows}
-use Rattle.mst_path.specs.Moves.{IsOld}
-use Rattle.mst_path.specs.Runs.{OldPiece, RunStands, gaps_used}
-use Rattle.mst_path.specs.Making.{BackRun, cell_of, cells_of, entries_to, others}
-use Rattle.mst_path.specs.Joining.{TwoTrees, height, height_at, Met, above_right, below_right, beside_right}
-use Rattle.mst_path.specs.Writing.{PlacedEntry, link_from}
+use Rattle.mst_path.proofs.Names.{Format, ◌≡◌, ℕ, zero, suc, ◌+◌, ◌-◌, ◌<◌, ◌≤◌, List, [], ◌∷◌, length, Option, Some, IsSome, refl, sym, ◌∙◌, ap, subst, arith, option_and_then, option_map_or, length-map, node, Entries, last, entry, entry_count, IsUnder, IsMst, IsMstEntries, TreeEntry, with_entries, Content, part_at, State, times, head_links, keyed_links, Row, Entry, HeadLinks, KeyedLinks, Placed, tree_of, link_of, rows_of, used, HasRows, times-append, highest_layer, cells, last_child, first_child, with_first, join, join_rows, IsOld, OldPiece, RunStands, gaps_used, BackRun, cell_of, cells_of, entries_to, others, TwoTrees, height, height_at, Met, PlacedEntry, link_from, with_first_count, with_entries_count}
+use Rattle.mst_arena.specs.Standing.{none as no_tree, head as tree_head}
+use Rattle.mst_path.specs.Joining.{above_right, below_right, beside_right}
 use Rattle.mst_path.proofs.lemmas.rows.CopyRows.{links_there, links_are}
 use Rattle.mst_path.proofs.lemmas.trees.Nodes.{layer_of_entries}
-use Rattle.mst_change.proofs.Parts.{first_mst, last_mst, with_first_count, with_entries_count}
+use Rattle.mst_change.proofs.Parts.{first_mst, last_mst}
 use Rattle.mst_change.proofs.Join.Steps.{join_higher, join_lower, join_level, join_rows_higher, join_rows_lower, join_rows_level}
 use Rattle.mst_path.proofs.lemmas.trees.Opening.{Opened, opened, cells_to, last_to, count_to, First, first_of_some}
 use Rattle.mst_path.proofs.lemmas.trees.NodeRuns.{each_in, node_of_some, side_some, height_under, back_of_run, no_back, no_front, both_alive}

@@ -1,21 +1,6 @@
 -- Nodes with entries, and their runs at the front and at the back.
-use Rattle.mst_key.specs.declared.format.Format.{Format}
-use Rattle.std.proofs.Common.{◌≡◌, ℕ, zero, suc, ◌+◌, ◌<◌, ◌≤◌, ◌==◌, ◌||◌, Bool, true, false, eqb, List, [], ◌∷◌, length, refl, ap, subst, arith, inl, inr, ◌⊎◌}
-use Rattle.std.specs.Prelude.{if◌then◌else◌}
-use Rattle.std.specs.List.{AllByRecursion}
-use Rattle.std.proofs.lemmas.Bool.Decides.{nat_tests}
-use Rattle.mst_node.specs.Tree.{Tree, empty, node, Entries, last, entry, entry_count, IsUnder}
-use Rattle.mst_arena.specs.Content.{Content}
-use Rattle.mst_arena.specs.Lives.{State}
-use Rattle.mst_arena.specs.Lists.{In, times, bit}
-use Rattle.mst_arena.specs.Standing.{Placed, none as no_tree, link_of, used}
-use Rattle.mst_change.specs.Parts.{node_of}
-use Rattle.mst_change.specs.Cost.{side_rows}
-use Rattle.mst_path.specs.Moves.{IsAlive}
-use Rattle.mst_path.specs.Runs.{OldPiece, RunStands, EachGap}
-use Rattle.mst_path.specs.Making.{BackRun, HasTail, others}
-use Rattle.mst_path.specs.Joining.{height}
-use Rattle.mst_path.specs.Writing.{PlacedEntry}
+use Rattle.mst_path.proofs.Names.{Format, ◌≡◌, ℕ, zero, suc, ◌+◌, ◌<◌, ◌≤◌, ◌==◌, ◌||◌, Bool, true, false, eqb, List, [], ◌∷◌, length, refl, ap, subst, arith, inl, inr, ◌⊎◌, if◌then◌else◌, AllByRecursion, nat_tests, Tree, empty, node, Entries, last, entry, entry_count, IsUnder, Content, State, In, times, bit, Placed, link_of, used, node_of, side_rows, IsAlive, OldPiece, RunStands, EachGap, BackRun, HasTail, others, height, PlacedEntry}
+use Rattle.mst_arena.specs.Standing.{none as no_tree}
 use Rattle.mst_path.proofs.lemmas.rows.CopyRows.{old_alive}
 
 -- ---- rows of a list, each with a fact

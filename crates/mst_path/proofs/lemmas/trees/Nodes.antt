@@ -1,20 +1,14 @@
 -- How many rows a tree takes, and what is known of the children of a node.
-use Rattle.mst_key.specs.declared.format.Format.{Format}
-use Rattle.std.proofs.Common.{◌≡◌, ℕ, zero, suc, ◌+◌, ◌*◌, ◌<◌, ◌≤◌, ◌==◌, Bool, true, false, cond, List, [], ◌∷◌, ◌++◌, length, map, take, get_or, refl, sym, ◌∙◌, ap, subst, arith, length-append}
+use Rattle.mst_path.proofs.Names.{Format, ◌≡◌, ℕ, zero, suc, ◌+◌, ◌*◌, ◌<◌, ◌≤◌, ◌==◌, Bool, true, false, cond, List, [], ◌∷◌, ◌++◌, length, map, take, get_or, refl, sym, ◌∙◌, ap, subst, arith, length-append, length-map, sha256, One, Tree, empty, node, Entries, last, entry, pairs, entries_pairs, entry_count, IsMst, IsMstEntries, TreeEntry, with_entries, tree_of_child, tree_entry, out-Node, out-Entry, Placed, none, head, Chain, end, cell, tree_of, entries_of, used, chain_used, highest_layer, node_count, entries_node_count, rows_needed}
 use Rattle.std.proofs.Math.Seq.{take-length}
-use Rattle.std.proofs.lemmas.List.{length-map, map_more}
-use Rattle.sha2.specs.Sha256.{sha256}
+use Rattle.std.proofs.lemmas.List.{map_more}
 use Rattle.sha2.proofs.Facts256.{length-sha256}
-use Rattle.mst_key.specs.declared.format.Format.TheVariants.{One, Two}
+use Rattle.mst_key.specs.declared.format.Format.TheVariants.{Two}
 use Rattle.mst_key.specs.Layer.{layer_in, digits, zeros_in_front}
-use Rattle.mst_node.specs.Tree.{Tree, empty, node, Entries, last, entry, pairs, entries_pairs, entry_count, IsMst, IsMstEntries}
-use Rattle.mst_node.specs.Shape.{TreeEntry, with_entries, tree_of as tree_of_node, tree_of_child, tree_entry}
-use Rattle.mst_node.specs.declared.node.Node.{Node, out-Node}
-use Rattle.mst_node.specs.declared.node.Entry.{Entry, out-Entry}
+use Rattle.mst_node.specs.Shape.{tree_of as tree_of_node}
+use Rattle.mst_node.specs.declared.node.Node.{Node}
+use Rattle.mst_node.specs.declared.node.Entry.{Entry}
 use Rattle.mst_node.proofs.NodeShapes.{tree_of_out, tree_entry_out}
-use Rattle.mst_arena.specs.Standing.{Placed, none, head, Chain, end, cell, tree_of, entries_of, used, chain_used}
-use Rattle.mst_arena.specs.Limits.{highest_layer}
-use Rattle.mst_path.specs.Planting.{node_count, entries_node_count, rows_needed}
 
 -- ---- how many rows
 

@@ -1,24 +1,6 @@
 -- A node that stands, opened: its head, its entries, and the tree in the last gap.
-use Rattle.mst_key.specs.declared.format.Format.{Format}
-use Rattle.std.proofs.Common.{◌≡◌, ℕ, ◌+◌, ◌-◌, ◌<◌, eqb, List, [], ◌∷◌, length, Option, Some, IsSome, refl, sym, ◌∙◌, ap, subst, arith}
-use Rattle.std.specs.Prelude.{option_and_then}
-use Rattle.mst_node.specs.Tree.{node, entry, entry_count}
-use Rattle.mst_node.specs.Shape.{TreeEntry}
-use Rattle.mst_arena.specs.Content.{Content, part_at}
-use Rattle.mst_arena.specs.Lives.{State}
-use Rattle.mst_arena.specs.Lists.{In, times, bit}
-use Rattle.mst_arena.specs.Row.{head_links}
-use Rattle.mst_arena.specs.declared.row.Row.{Row}
-use Rattle.mst_arena.specs.declared.row.Row.TheVariants.{Entry}
-use Rattle.mst_arena.specs.declared.row.HeadLinks.{HeadLinks}
-use Rattle.mst_arena.specs.Standing.{Placed, none as no_tree, head as tree_head, Chain, end, cell, tree_of, entries_of, link_of, first_of, tail_of, count_of, head_row, rows_of, chain_rows, used, chain_used, HasRows}
-use Rattle.mst_arena.proofs.ListLemmas.{times-append}
-use Rattle.mst_arena.proofs.Stands.{all-front, all-back}
-use Rattle.mst_change.specs.Parts.{cells, last_child}
-use Rattle.mst_path.specs.Moves.{IsOld}
-use Rattle.mst_path.specs.Runs.{OldPiece, RunStands, own_rows, own, gaps_used, EachGap}
-use Rattle.mst_path.specs.Making.{cell_of, cells_of, entries_to}
-use Rattle.mst_path.specs.Writing.{PlacedEntry, link_from}
+use Rattle.mst_path.proofs.Names.{Format, ◌≡◌, ℕ, ◌+◌, ◌-◌, ◌<◌, eqb, List, [], ◌∷◌, length, Option, Some, IsSome, refl, sym, ◌∙◌, ap, subst, arith, option_and_then, node, entry, entry_count, TreeEntry, Content, part_at, State, In, times, bit, head_links, Row, Entry, HeadLinks, Placed, Chain, end, cell, tree_of, entries_of, link_of, first_of, tail_of, count_of, head_row, rows_of, chain_rows, used, chain_used, HasRows, times-append, all-front, all-back, cells, last_child, IsOld, OldPiece, RunStands, own_rows, own, gaps_used, EachGap, cell_of, cells_of, entries_to, PlacedEntry, link_from}
+use Rattle.mst_arena.specs.Standing.{none as no_tree, head as tree_head}
 use Rattle.mst_path.proofs.lemmas.rows.CopyRows.{at_self}
 
 -- ---- the entries of a chain

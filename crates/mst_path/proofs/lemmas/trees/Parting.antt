@@ -1,22 +1,7 @@
 -- The entries of a node that is opened, separated at a gap: those in front of it, the tree in it,
 -- and those after it.
-use Rattle.mst_key.specs.declared.format.Format.{Format}
-use Rattle.std.proofs.Common.{◌≡◌, ℕ, zero, suc, ◌+◌, ◌<◌, ◌≤◌, List, [], ◌∷◌, ◌++◌, length, Some, refl, sym, ◌∙◌, ap, subst, arith}
-use Rattle.mst_node.specs.Tree.{Tree, Entries, entry_count, IsMst, IsMstEntries}
-use Rattle.mst_node.specs.Shape.{with_entries}
-use Rattle.mst_arena.specs.Content.{Content}
-use Rattle.mst_arena.specs.Lives.{State}
-use Rattle.mst_arena.specs.Lists.{In, times}
-use Rattle.mst_arena.specs.Standing.{Placed, none as no_tree, tree_of, link_of, used, HasRows}
-use Rattle.mst_arena.specs.declared.row.Row.TheVariants.{Entry}
-use Rattle.mst_arena.proofs.ListLemmas.{times-append}
-use Rattle.mst_change.specs.Parts.{first_child, with_first}
-use Rattle.mst_path.specs.Moves.{IsOld}
-use Rattle.mst_path.specs.Runs.{OldPiece, RunStands, own_rows, own, gaps_used, EachGap}
-use Rattle.mst_path.specs.Making.{BackRun, cells_of, entries_to, others, tail_behind}
-use Rattle.mst_path.specs.Cutting.{gap_before}
-use Rattle.mst_path.specs.Joining.{height}
-use Rattle.mst_path.specs.Writing.{PlacedEntry, link_from}
+use Rattle.mst_path.proofs.Names.{Format, ◌≡◌, ℕ, zero, suc, ◌+◌, ◌<◌, ◌≤◌, List, [], ◌∷◌, ◌++◌, length, Some, refl, sym, ◌∙◌, ap, subst, arith, Tree, Entries, entry_count, IsMst, IsMstEntries, with_entries, Content, State, In, times, Placed, tree_of, link_of, used, HasRows, Entry, times-append, first_child, with_first, IsOld, OldPiece, RunStands, own_rows, own, gaps_used, EachGap, BackRun, cells_of, entries_to, others, tail_behind, gap_before, height, PlacedEntry, link_from}
+use Rattle.mst_arena.specs.Standing.{none as no_tree}
 use Rattle.mst_path.proofs.lemmas.rows.CopyRows.{own-append}
 use Rattle.mst_path.proofs.lemmas.trees.Cutting.{link_from-append}
 use Rattle.mst_path.proofs.lemmas.trees.NodeRuns.{height_under}

@@ -1,30 +1,12 @@
 -- The ages of rows, from one version to the next, and over a sweep.
-use Rattle.std.proofs.Common.{◌≡◌, ℕ, zero, suc, ◌<◌, ◌≤◌, ◌⊎◌, inl, inr, nat_lt, nat_le, Bool, true, false, ◌&&◌, ◌||◌, cond, List, [], ◌∷◌, ◌++◌, length, length-append, Option, Some, None, refl, sym, ◌∙◌, ap, arith, true≢false}
-use Rattle.std.specs.Prelude.{◌==◌, Contains, slice_get}
-use Rattle.std.specs.List.{AllByRecursion, list_any}
-use Rattle.std.proofs.lemmas.Bool.Decides.{nat_tests}
+use Rattle.mst_path.proofs.Names.{◌≡◌, ℕ, zero, suc, ◌<◌, ◌≤◌, ◌⊎◌, inl, inr, nat_lt, Bool, true, false, ◌&&◌, ◌||◌, cond, List, [], ◌∷◌, ◌++◌, length, length-append, Option, Some, None, refl, sym, ◌∙◌, ap, arith, true≢false, Contains, slice_get, AllByRecursion, list_any, nat_tests, slice_get-map, History, after, format_after, Format, is_subtree, tree_at, lasts, Tree, tree, is_old, State, version, next, reaches, reached_at, swept_life, In, Life, Free, Born, Dead, Placed, tree_of, used, all_contained, top_inside, placed_nodes, top_rows, HasAge, HasAges, IsAged, IsNew, ReachesExactly, Changes, IsSettled, swept_by}
+use Rattle.std.proofs.Common.{nat_le}
+use Rattle.std.specs.Prelude.{◌==◌}
 use Rattle.std.proofs.lemmas.List.{take_all, take-append-le}
-use Rattle.std.proofs.lemmas.Option.{slice_get-map}
-use Rattle.mst_key.specs.History.{History, after, format_after}
-use Rattle.mst_key.specs.declared.format.Format.{Format}
 use Rattle.mst_key.specs.declared.history.Event.{Event}
 use Rattle.mst_key.proofs.Alls.{alls-weaker}
 use Rattle.mst_key.proofs.SpanLaws.{contains-all}
-use Rattle.mst_node.specs.Cost.{is_subtree}
-use Rattle.mst_node.specs.Stays.{tree_at, lasts}
-use Rattle.mst_node.specs.Tree.{Tree, tree}
 use Rattle.mst_node.proofs.HeldLaws.{lasts_here, lasts_on, lasts_stands}
-use Rattle.mst_node.proofs.InTrees.{is_old}
-use Rattle.mst_arena.specs.Lives.{State, version, next, reaches, reached_at, swept_life}
-use Rattle.mst_arena.specs.Lists.{In}
-use Rattle.mst_arena.specs.declared.life.Life.{Life}
-use Rattle.mst_arena.specs.declared.life.Life.TheVariants.{Free, Born, Dead}
-use Rattle.mst_arena.specs.Standing.{Placed, tree_of, used}
-use Rattle.mst_arena.proofs.NodeRows.{all_contained, top_inside}
-use Rattle.mst_arena.specs.Ages.{placed_nodes, top_rows, HasAge, HasAges}
-use Rattle.mst_path.specs.Ages.{IsAged}
-use Rattle.mst_path.specs.Moves.{IsNew}
-use Rattle.mst_path.specs.Reached.{ReachesExactly, Changes, IsSettled, swept_by}
 use Rattle.mst_path.proofs.lemmas.versions.NodeSums.{node_in}
 use Rattle.mst_path.proofs.lemmas.versions.Reached.{older, newest, has_in, some_reach}
 

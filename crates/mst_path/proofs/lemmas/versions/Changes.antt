@@ -1,29 +1,9 @@
 -- From the rows that a change of the tree took and killed to what its caller learns: by the rows
 -- that stood before it and those that stand after it.
-use Rattle.mst_key.specs.declared.format.Format.{Format}
-use Rattle.std.proofs.Common.{◌≡◌, ◌≢◌, ℕ, zero, suc, ◌+◌, ◌<◌, ◌≤◌, eqb, Bool, true, false, List, [], ◌∷◌, Option, Some, refl, sym, ◌∙◌, ap, subst, arith}
-use Rattle.std.specs.Prelude.{slice_get}
-use Rattle.std.specs.List.{AllByRecursion}
-use Rattle.std.proofs.lemmas.Bool.Decides.{nat_tests}
-use Rattle.mst_key.specs.Map.{Pair, IsMap, IsAscending, map_get}
-use Rattle.mst_node.specs.Tree.{Tree, IsMst, pairs, tree}
+use Rattle.mst_path.proofs.Names.{Format, ◌≡◌, ◌≢◌, ℕ, zero, suc, ◌+◌, ◌<◌, ◌≤◌, eqb, Bool, true, false, List, [], ◌∷◌, Option, Some, refl, sym, ◌∙◌, ap, subst, arith, slice_get, AllByRecursion, nat_tests, Pair, IsAscending, map_get, Tree, IsMst, pairs, tree, cost, pairs_tree, tree_mst, Content, State, free_count, In, times, bit, Free, Root, Placed, tree_of, used, IsDistinct, Stands, numbers, one_placed, IsOld, IsKilled, IsMade, Grown, SearchTree, AreOld, MapStands, IsTaken, OnlyFreeWritten, Changes, AfterChange}
+use Rattle.mst_key.specs.Map.{IsMap}
 use Rattle.mst_node.specs.Text.{digest}
-use Rattle.mst_node.specs.Cost.{cost}
-use Rattle.mst_node.proofs.UniqueTree.{pairs_tree, tree_mst}
-use Rattle.mst_arena.specs.Content.{Content}
-use Rattle.mst_arena.specs.Lives.{State, free_count}
-use Rattle.mst_arena.specs.Lists.{In, times, bit}
-use Rattle.mst_arena.specs.declared.life.Life.TheVariants.{Free}
-use Rattle.mst_arena.specs.declared.row.Root.{Root}
-use Rattle.mst_arena.specs.Standing.{Placed, tree_of, used, IsDistinct, Stands, numbers}
-use Rattle.mst_arena.proofs.Stands.{one_placed}
-use Rattle.mst_path.specs.Moves.{IsOld, IsKilled}
-use Rattle.mst_path.specs.Made.{IsMade}
-use Rattle.mst_path.specs.Making.{Grown}
-use Rattle.mst_path.specs.RemovePath.{SearchTree}
-use Rattle.mst_path.specs.Changing.{AreOld, MapStands, IsTaken, AreTaken, AreKilled, OthersLive, OnlyFreeWritten, SameVersions}
-use Rattle.mst_path.specs.Reached.{Changes}
-use Rattle.mst_path.specs.AfterChange.{AfterChange}
+use Rattle.mst_path.specs.Changing.{AreTaken, AreKilled, OthersLive, SameVersions}
 use Rattle.mst_path.proofs.lemmas.rows.CopyRows.{kept_at}
 use Rattle.mst_path.proofs.lemmas.trees.Joined.{unchanged}
 

@@ -1,12 +1,9 @@
 -- The rows that kept versions reach together are as many as these versions hold: each stay of a
 -- node counts once, at the first kept version in its run. Nodes, their rows, the runs and what a
 -- version reaches are left open.
-use Rattle.std.proofs.Common.{◌≡◌, ℕ, zero, suc, ◌+◌, ◌<◌, ◌≤◌, ◌⊎◌, inl, inr, eqb, Bool, true, false, ◌&&◌, ◌||◌, List, [], ◌∷◌, ◌++◌, length, length-append, refl, sym, ◌∙◌, ap, subst, ⊎_elim, arith}
-use Rattle.std.specs.Prelude.{◌↔◌}
-use Rattle.std.proofs.lemmas.Bool.Decides.{nat_tests}
-use Rattle.mst_arena.specs.Lists.{times}
-use Rattle.mst_arena.proofs.ListLemmas.{times-append}
-use Rattle.std.proofs.lemmas.Bool.{or_cases, or_parts, and_parts}
+use Rattle.mst_path.proofs.Names.{◌≡◌, ℕ, zero, suc, ◌+◌, ◌<◌, ◌≤◌, ◌⊎◌, inl, inr, eqb, Bool, true, false, ◌&&◌, ◌||◌, List, [], ◌∷◌, ◌++◌, length, length-append, refl, sym, ◌∙◌, ap, subst, arith, ◌↔◌, nat_tests, times, times-append, or_cases, and_parts}
+use Rattle.std.proofs.Common.{⊎_elim}
+use Rattle.std.proofs.lemmas.Bool.{or_parts}
 
 -- none, or some
 by_zero : (n : ℕ) (A : Type 0) → (n ≡ 0 → A) → (0 < n → A) → A

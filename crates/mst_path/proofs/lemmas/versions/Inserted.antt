@@ -1,26 +1,10 @@
 -- A put into a map that stands at a root: what it takes, and what stands then.
-use Rattle.mst_key.specs.declared.format.Format.{Format}
-use Rattle.std.proofs.Common.{◌≡◌, ℕ, ◌+◌, ◌*◌, ◌≤◌, Bool, true, false, cond, List, length, Option, Some, None, refl, sym, ◌∙◌, ap, arith}
-use Rattle.std.specs.Option.{option_map_or}
+use Rattle.mst_path.proofs.Names.{Format, ◌≡◌, ℕ, ◌+◌, ◌*◌, ◌≤◌, Bool, true, false, cond, List, length, Option, Some, None, refl, sym, ◌∙◌, ap, arith, option_map_or, layer_in, Pair, map_get, Tree, tree, same_bytes, cost, pairs_tree, Content, State, free_count, times, Root, tree_of, used, Stands, numbers, put_at, put_rows, Grown, RisingTree, in_rising, with_pair, pair_rows, AreOld, MapStands, AfterChange}
 use Rattle.mst_key.specs.Bytes.{IsKey, IsValue}
-use Rattle.mst_key.specs.Layer.{layer_in}
-use Rattle.mst_key.specs.Map.{Pair, map_get, put}
+use Rattle.mst_key.specs.Map.{put}
 use Rattle.mst_key.proofs.KeyOrder.{same_from_test, test_of_same}
 use Rattle.mst_key.proofs.MapLaws.{put-unchanged, IsMap-put}
-use Rattle.mst_node.specs.Tree.{Tree, tree}
-use Rattle.mst_node.specs.Cost.{same_bytes, cost}
-use Rattle.mst_node.proofs.UniqueTree.{pairs_tree}
-use Rattle.mst_arena.specs.Content.{Content}
-use Rattle.mst_arena.specs.Lives.{State, free_count}
-use Rattle.mst_arena.specs.Lists.{times}
-use Rattle.mst_arena.specs.declared.row.Root.{Root}
-use Rattle.mst_arena.specs.Standing.{tree_of, used, Stands, numbers}
-use Rattle.mst_change.specs.Put.{put_at, tree_put}
-use Rattle.mst_change.specs.Cost.{put_rows}
-use Rattle.mst_path.specs.Making.{Grown}
-use Rattle.mst_path.specs.PutPath.{RisingTree, in_rising, with_pair, pair_rows}
-use Rattle.mst_path.specs.Changing.{AreOld, MapStands}
-use Rattle.mst_path.specs.AfterChange.{AfterChange}
+use Rattle.mst_change.specs.Put.{tree_put}
 use Rattle.mst_path.proofs.lemmas.versions.Changes.{search_at, rises, Changed, after_change, unchanged_map}
 use Rattle.mst_change.proofs.Cost.Put.{cost_put}
 use Rattle.mst_change.proofs.Put.Trees.{put_tree}

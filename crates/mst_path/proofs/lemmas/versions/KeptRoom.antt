@@ -1,29 +1,17 @@
 -- The rows that kept versions of a history reach together are as many as these versions hold.
-use Rattle.std.proofs.Common.{◌≡◌, ℕ, zero, suc, ◌+◌, ◌<◌, ◌≤◌, inl, inr, eqb, nat_lt, Bool, true, false, not, ◌&&◌, ◌||◌, cond, List, [], ◌∷◌, ◌++◌, length, take, refl, sym, ◌∙◌, ap, subst, arith, true≢false}
-use Rattle.std.specs.Prelude.{◌↔◌, ◌==◌}
-use Rattle.std.specs.List.{AllByRecursion, list_any}
-use Rattle.std.proofs.lemmas.Bool.Decides.{nat_tests}
+use Rattle.mst_path.proofs.Names.{◌≡◌, ℕ, zero, suc, ◌+◌, ◌<◌, ◌≤◌, inl, inr, eqb, nat_lt, Bool, true, false, ◌&&◌, ◌||◌, cond, List, [], ◌∷◌, ◌++◌, length, take, refl, sym, ◌∙◌, ap, subst, arith, true≢false, ◌↔◌, AllByRecursion, list_any, nat_tests, History, after, format_after, Format, subtrees, entries_subtrees, is_subtree, top_entries, tree_at, lasts, Tree, tree, State, version, reaches, free_count, In, times, bit, Placed, none, head, Chain, end, cell, tree_of, entries_of, used, chain_used, IsDistinct, Life, times-append, placed_nodes, chain_nodes, chain_own, top_rows, HasAge, TogetherReach, IsSettled, swept_by, and_parts, or_cases}
+use Rattle.std.proofs.Common.{not}
+use Rattle.std.specs.Prelude.{◌==◌}
 use Rattle.std.proofs.lemmas.List.{length-take-le, take-take}
-use Rattle.mst_key.specs.History.{History, after, format_after}
-use Rattle.mst_key.specs.declared.format.Format.{Format}
-use Rattle.mst_node.specs.Cost.{subtrees, entries_subtrees, is_subtree, top_entries}
-use Rattle.mst_node.specs.Stays.{tree_at, lasts, is_kept, has_stayed, rows_first_at, held_below, held}
-use Rattle.mst_node.specs.Tree.{Tree, tree}
+use Rattle.mst_node.specs.Stays.{is_kept, has_stayed, rows_first_at, held_below, held}
 use Rattle.mst_node.proofs.Weights.{weigh, weigh_is, weigh-append}
-use Rattle.mst_arena.specs.Lives.{State, version, reaches, free_count}
-use Rattle.mst_arena.specs.Lists.{In, times, bit}
-use Rattle.mst_arena.specs.Standing.{Placed, none, head, Chain, end, cell, tree_of, entries_of, used, chain_used, IsDistinct}
-use Rattle.mst_arena.specs.declared.life.Life.{Life}
-use Rattle.mst_arena.proofs.ListLemmas.{times-append}
-use Rattle.mst_arena.specs.Ages.{placed_nodes, chain_nodes, chain_own, top_rows, HasAge}
 use Rattle.mst_path.specs.Ages.{HasPlace}
-use Rattle.mst_path.specs.Reached.{TogetherReach, IsSettled, swept_by}
 use Rattle.mst_path.proofs.lemmas.versions.Changes.{distinct_times, times_distinct}
 use Rattle.mst_path.proofs.lemmas.rows.FreeCounts.{count_swept, any_in}
 use Rattle.mst_path.proofs.lemmas.versions.HeldRows as counting
 use Rattle.mst_path.proofs.lemmas.versions.NodeSums.{own_length}
 use Rattle.mst_path.proofs.lemmas.versions.Reached.{has_in}
-use Rattle.std.proofs.lemmas.Bool.{and_parts, and_from, or_cases, or_left, or_right}
+use Rattle.std.proofs.lemmas.Bool.{and_from, or_left, or_right}
 
 -- ---- the nodes of a tree have its rows
 

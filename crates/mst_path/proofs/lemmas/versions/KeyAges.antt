@@ -1,19 +1,6 @@
 -- How old the nodes are after a change of a key: those that stood stay on their rows, and the
 -- others have new rows and did not stand.
-use Rattle.std.proofs.Common.{◌≡◌, ℕ, ◌+◌, List, sym, ap, ◌∙◌}
-use Rattle.std.specs.List.{AllByRecursion}
-use Rattle.mst_key.specs.Map.{Pair}
-use Rattle.mst_key.specs.declared.format.Format.{Format}
-use Rattle.mst_node.specs.Cost.{cost, new_rows}
-use Rattle.mst_arena.specs.Content.{Content}
-use Rattle.mst_arena.specs.Lives.{State, free_count}
-use Rattle.mst_arena.specs.Standing.{tree_of, used, Stands, numbers}
-use Rattle.mst_arena.specs.declared.row.Root.{Root}
-use Rattle.mst_arena.specs.Ages.{placed_nodes}
-use Rattle.mst_path.specs.Ages.{IsAged}
-use Rattle.mst_path.specs.Changing.{AreOld, OnlyFreeWritten}
-use Rattle.mst_path.specs.Made.{IsMade}
-use Rattle.mst_path.specs.Reached.{Changes}
+use Rattle.mst_path.proofs.Names.{◌≡◌, ℕ, ◌+◌, List, sym, ap, ◌∙◌, AllByRecursion, Pair, Format, cost, new_rows, Content, State, free_count, tree_of, used, Stands, numbers, Root, placed_nodes, IsAged, AreOld, OnlyFreeWritten, IsMade, Changes}
 use Rattle.mst_path.proofs.lemmas.versions.Changes.{distinct_times}
 use Rattle.mst_path.proofs.lemmas.versions.NodeAges.{aged}
 

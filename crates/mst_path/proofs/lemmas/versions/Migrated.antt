@@ -1,26 +1,9 @@
 -- A whole tree is planted beside the one that stands, which is felled: what that does to lives, and
 -- how old the rows of the new tree are if it is of another format.
-use Rattle.std.proofs.Common.{◌≡◌, ℕ, ◌+◌, Bool, false, ◌&&◌, ◌||◌, List, [], ◌++◌, Some, inl, inr, refl, sym, ◌∙◌, ap, subst}
-use Rattle.std.specs.Prelude.{Contains, ◌==◌}
-use Rattle.std.specs.List.{AllByRecursion, list_any}
-use Rattle.std.proofs.lemmas.List.{append-nil}
-use Rattle.mst_key.specs.declared.format.Format.{Format}
-use Rattle.mst_key.proofs.SpanLaws.{contains-cases, contains-nothing}
-use Rattle.std.proofs.lemmas.List.Elements.{Contains-append_cases}
-use Rattle.mst_node.specs.Tree.{Tree, node, Entries}
-use Rattle.mst_node.specs.Cost.{subtrees, entries_subtrees, same_format, same_tree, same_entries}
-use Rattle.mst_arena.specs.Lives.{State, version}
-use Rattle.mst_arena.specs.Lists.{In}
-use Rattle.mst_arena.specs.declared.life.Life.TheVariants.{Born}
-use Rattle.mst_arena.specs.Standing.{Placed, none, head, Chain, end, cell, tree_of, entries_of, used}
-use Rattle.mst_arena.specs.Ages.{placed_nodes, chain_nodes}
-use Rattle.mst_path.specs.Ages.{IsAged}
-use Rattle.mst_path.specs.Changing.{IsTaken}
-use Rattle.mst_path.specs.Moves.{IsKilled, IsNew, Moves}
-use Rattle.mst_path.specs.Reached.{Changes}
-use Rattle.mst_path.specs.Takes.{Takes}
+use Rattle.mst_path.proofs.Names.{◌≡◌, ℕ, ◌+◌, Bool, false, ◌&&◌, ◌||◌, List, [], ◌++◌, Some, inl, inr, refl, sym, ◌∙◌, ap, subst, Contains, AllByRecursion, list_any, append-nil, Format, contains-cases, contains-nothing, Contains-append_cases, Tree, node, Entries, subtrees, entries_subtrees, State, version, In, Born, Placed, none, head, Chain, end, cell, tree_of, entries_of, used, placed_nodes, chain_nodes, IsAged, IsTaken, IsKilled, IsNew, Moves, Changes, Takes, all_contained, top_inside}
+use Rattle.std.specs.Prelude.{◌==◌}
+use Rattle.mst_node.specs.Cost.{same_format, same_tree, same_entries}
 use Rattle.mst_path.proofs.lemmas.rows.Moving.{moves_takes, moves_then, not_in}
-use Rattle.mst_arena.proofs.NodeRows.{all_contained, top_inside}
 use Rattle.mst_path.proofs.lemmas.versions.Reached.{by_in}
 use Rattle.std.proofs.lemmas.List.Folds.{list_any-append}
 use Rattle.std.proofs.lemmas.Bool.{or_from}

@@ -1,25 +1,7 @@
 -- After a change of the tree each node has the rows that it had before, or only new rows; and the
 -- latter only if its tree did not stand before.
-use Rattle.std.proofs.Common.{◌≡◌, ℕ, zero, suc, ◌+◌, ◌<◌, ◌≤◌, ◌⊎◌, inl, inr, eqb, Bool, true, false, cond, length, refl, sym, ap, subst, arith}
-use Rattle.std.specs.Prelude.{Contains}
-use Rattle.std.specs.List.{AllByRecursion}
-use Rattle.std.proofs.lemmas.Bool.Decides.{nat_tests}
-use Rattle.mst_key.specs.declared.format.Format.{Format}
-use Rattle.mst_node.specs.Cost.{is_subtree, top_entries, new_rows}
-use Rattle.mst_node.proofs.InTrees.{is_old}
+use Rattle.mst_path.proofs.Names.{◌≡◌, ℕ, zero, suc, ◌+◌, ◌<◌, ◌≤◌, ◌⊎◌, inl, inr, eqb, Bool, true, false, cond, length, refl, sym, ap, subst, arith, Contains, AllByRecursion, nat_tests, Format, is_subtree, top_entries, new_rows, is_old, Content, State, version, next, free_count, In, times, bit, Placed, none, head, Chain, end, cell, tree_of, rows_of, chain_rows, used, chain_used, HasRows, times-append, all-append, all-front, all-back, one_placed, placed_frame, placed_nodes, chain_nodes, chain_own, top_rows, IsAged, AreOld, OnlyFreeWritten, IsMade, IsMadeChain, IsOld, IsNew, Changes}
 use Rattle.mst_change.proofs.Cost.Fresh.{new_rows_fresh}
-use Rattle.mst_arena.specs.Content.{Content}
-use Rattle.mst_arena.specs.Lives.{State, version, next, free_count}
-use Rattle.mst_arena.specs.Lists.{In, times, bit}
-use Rattle.mst_arena.specs.Standing.{Placed, none, head, Chain, end, cell, tree_of, rows_of, chain_rows, used, chain_used, HasRows}
-use Rattle.mst_arena.proofs.ListLemmas.{times-append}
-use Rattle.mst_arena.proofs.Stands.{all-append, all-front, all-back, one_placed, placed_frame}
-use Rattle.mst_arena.specs.Ages.{placed_nodes, chain_nodes, chain_own, top_rows}
-use Rattle.mst_path.specs.Ages.{IsAged}
-use Rattle.mst_path.specs.Changing.{AreOld, OnlyFreeWritten}
-use Rattle.mst_path.specs.Made.{IsMade, IsMadeChain}
-use Rattle.mst_path.specs.Moves.{IsOld, IsNew}
-use Rattle.mst_path.specs.Reached.{Changes}
 use Rattle.mst_path.proofs.lemmas.rows.CopyRows.{at_self, all_in}
 use Rattle.mst_path.proofs.lemmas.rows.FreeCounts.{count_change}
 use Rattle.mst_path.proofs.lemmas.versions.Reached.{by_place}

@@ -1,23 +1,10 @@
 -- The node at a row, and sums over the nodes of a tree.
-use Rattle.std.proofs.Common.{◌≡◌, ℕ, ◌+◌, ◌<◌, ◌≤◌, ◌⊎◌, inl, inr, eqb, Bool, true, false, cond, List, [], ◌∷◌, ◌++◌, length, filter, Some, refl, sym, ap, arith}
-use Rattle.std.specs.Prelude.{Contains}
-use Rattle.std.specs.List.{AllByRecursion}
-use Rattle.std.proofs.lemmas.Bool.Decides.{nat_tests}
-use Rattle.std.proofs.lemmas.List.Elements.{Contains-append_left, Contains-append_right, Contains-append_cases}
-use Rattle.mst_key.specs.declared.format.Format.{Format}
-use Rattle.mst_key.proofs.SpanLaws.{contains-cases, contains-nothing, contains-first, contains-later}
-use Rattle.mst_node.specs.Tree.{Tree, entry_count}
-use Rattle.mst_node.specs.Cost.{is_subtree, top_entries}
+use Rattle.mst_path.proofs.Names.{◌≡◌, ℕ, ◌+◌, ◌<◌, ◌≤◌, ◌⊎◌, inl, inr, eqb, Bool, true, false, cond, List, [], ◌∷◌, ◌++◌, length, filter, Some, refl, sym, ap, arith, Contains, AllByRecursion, nat_tests, Contains-append_cases, Format, contains-cases, contains-nothing, Tree, entry_count, is_subtree, top_entries, Content, In, times, bit, Head, Placed, none, head, Chain, end, cell, tree_of, entries_of, link_of, rows_of, chain_rows, used, chain_used, HasRows, all-front, all-back, placed_nodes, chain_nodes, chain_own, top_rows, in_either}
+use Rattle.std.proofs.lemmas.List.Elements.{Contains-append_left, Contains-append_right}
+use Rattle.mst_key.proofs.SpanLaws.{contains-first, contains-later}
 use Rattle.mst_node.proofs.InTrees.{InTree, InEntries}
 use Rattle.mst_change.proofs.Cost.Fresh.{fresh, fresh_in}
-use Rattle.mst_arena.specs.Content.{Content}
-use Rattle.mst_arena.specs.Lists.{In, times, bit}
-use Rattle.mst_arena.specs.declared.row.Row.TheVariants.{Head}
-use Rattle.mst_arena.specs.Standing.{Placed, none, head, Chain, end, cell, tree_of, entries_of, link_of, rows_of, chain_rows, used, chain_used, HasRows}
-use Rattle.mst_arena.proofs.Stands.{all-front, all-back}
-use Rattle.mst_arena.specs.Ages.{placed_nodes, chain_nodes, chain_own, top_rows}
 use Rattle.mst_path.proofs.lemmas.rows.CopyRows.{at_self}
-use Rattle.mst_arena.proofs.ListLemmas.{in_either}
 
 module _ (format : Format) where
   -- ---- the node at a row

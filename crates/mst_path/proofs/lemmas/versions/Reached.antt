@@ -1,21 +1,12 @@
 -- Which rows a version reaches after a put or a remove, the advance after it, and a sweep.
-use Rattle.std.proofs.Common.{◌≡◌, ℕ, zero, suc, ◌+◌, ◌<◌, ◌≤◌, Bool, true, false, cond, eqb, List, [], ◌∷◌, length, map, Option, Some, None, refl, sym, ◌∙◌, ap, subst, arith}
-use Rattle.std.specs.Prelude.{◌↔◌, slice_get, ◌==◌, option_map}
-use Rattle.std.specs.List.{list_any}
-use Rattle.std.proofs.lemmas.Bool.Decides.{nat_tests}
+use Rattle.mst_path.proofs.Names.{◌≡◌, ℕ, zero, suc, ◌+◌, ◌<◌, ◌≤◌, Bool, true, false, cond, eqb, List, [], ◌∷◌, length, map, Option, Some, None, refl, sym, ◌∙◌, ap, subst, arith, ◌↔◌, slice_get, option_map, list_any, nat_tests, slice_get-map, State, version, next, reaches, reached_at, reaches_life, swept_life, Content, In, times, bit, Life, Free, Born, Dead, Takes, KeepsBut, IsKilled, Moves, AreOld, IsTaken, OnlyFreeWritten, ReachesExactly, Changes, advanced, swept_by, IsPast, IsSettled}
+use Rattle.std.specs.Prelude.{◌==◌}
 use Rattle.std.proofs.lemmas.List.{get_or-set_same}
-use Rattle.std.proofs.lemmas.Option.{slice_get-map, slice_get-get_or}
-use Rattle.mst_arena.specs.Lives.{State, version, next, reaches, reached_at, reaches_life, SameReach, swept_life}
-use Rattle.mst_arena.specs.Content.{Content}
-use Rattle.mst_arena.specs.Lists.{In, times, bit}
-use Rattle.mst_arena.specs.declared.life.Life.{Life}
-use Rattle.mst_arena.specs.declared.life.Life.TheVariants.{Free, Born, Dead}
+use Rattle.std.proofs.lemmas.Option.{slice_get-get_or}
+use Rattle.mst_arena.specs.Lives.{SameReach}
 use Rattle.mst_arena.proofs.Reach.{born_later, dies_later, died, same_sweep}
-use Rattle.mst_path.specs.Takes.{Takes, KeepsBut}
-use Rattle.mst_path.specs.Moves.{IsKilled, Moves}
-use Rattle.mst_path.specs.Changing.{AreOld, IsOnlyIn, IsTaken, OnlyFreeWritten}
+use Rattle.mst_path.specs.Changing.{IsOnlyIn}
 use Rattle.mst_path.proofs.lemmas.rows.Moving.{moves_takes, not_in, out_of_times}
-use Rattle.mst_path.specs.Reached.{ReachesExactly, Changes, advanced, swept_by, IsPast, IsSettled}
 
 -- ---- a life that is past
 

@@ -1,23 +1,7 @@
 -- A remove from a map that stands at a root: what it takes, and what stands then.
-use Rattle.mst_key.specs.declared.format.Format.{Format}
-use Rattle.std.proofs.Common.{◌≡◌, ℕ, ◌+◌, ◌≤◌, List, length, Option, Some, None, refl, sym, ◌∙◌, ap, arith}
-use Rattle.std.specs.Option.{option_map_or}
-use Rattle.mst_key.specs.Map.{Pair, map_get, remove}
+use Rattle.mst_path.proofs.Names.{Format, ◌≡◌, ℕ, ◌+◌, ◌≤◌, List, length, Option, Some, None, refl, sym, ◌∙◌, ap, arith, option_map_or, Pair, map_get, Tree, tree, cost, pairs_tree, Content, State, free_count, times, Root, tree_of, used, Stands, numbers, tree_remove, remove_rows, Grown, SearchTree, in_tree, without, without_rows, AreOld, MapStands, AfterChange}
+use Rattle.mst_key.specs.Map.{remove}
 use Rattle.mst_key.proofs.MapLaws.{remove-unchanged, IsMap-remove}
-use Rattle.mst_node.specs.Tree.{Tree, tree}
-use Rattle.mst_node.specs.Cost.{cost}
-use Rattle.mst_node.proofs.UniqueTree.{pairs_tree}
-use Rattle.mst_arena.specs.Content.{Content}
-use Rattle.mst_arena.specs.Lives.{State, free_count}
-use Rattle.mst_arena.specs.Lists.{times}
-use Rattle.mst_arena.specs.declared.row.Root.{Root}
-use Rattle.mst_arena.specs.Standing.{tree_of, used, Stands, numbers}
-use Rattle.mst_change.specs.Remove.{tree_remove}
-use Rattle.mst_change.specs.Cost.{remove_rows}
-use Rattle.mst_path.specs.Making.{Grown}
-use Rattle.mst_path.specs.RemovePath.{SearchTree, in_tree, without, without_rows}
-use Rattle.mst_path.specs.Changing.{AreOld, MapStands}
-use Rattle.mst_path.specs.AfterChange.{AfterChange}
 use Rattle.mst_path.proofs.lemmas.versions.Changes.{search_at, Changed, after_change, unchanged_map}
 use Rattle.mst_change.proofs.Cost.Remove.{cost_remove}
 use Rattle.mst_change.proofs.Remove.Trees.{removed_tree}

@@ -1,35 +1,15 @@
 -- The maps of versions, from one write to the next.
-use Rattle.mst_key.specs.declared.format.Format.{Format}
-use Rattle.std.proofs.Common.{◌≡◌, ℕ, zero, suc, ◌+◌, ◌<◌, ◌≤◌, Bool, true, false, eqb, List, [], ◌∷◌, ◌++◌, length, Some, refl, sym, ◌∙◌, ap, subst, arith, inl, inr}
-use Rattle.std.specs.Prelude.{◌↔◌, slice_get, slice_index, replicate}
-use Rattle.std.specs.List.{AllByRecursion}
-use Rattle.std.proofs.lemmas.Bool.Decides.{nat_tests}
-use Rattle.mst_key.specs.Map.{Pair}
-use Rattle.mst_node.specs.Tree.{empty}
+use Rattle.mst_path.proofs.Names.{Format, ◌≡◌, ℕ, zero, suc, ◌+◌, ◌<◌, ◌≤◌, Bool, true, false, eqb, List, [], ◌∷◌, ◌++◌, length, Some, refl, sym, ◌∙◌, ap, subst, arith, inl, inr, ◌↔◌, slice_get, AllByRecursion, nat_tests, Pair, empty, Content, State, version, next, reached_at, reaches, free_count, In, times, bit, Life, Free, Root, Placed, none, head, tree_of, used, IsDistinct, Stands, numbers, placed_frame, all-append, all-front, all-back, times-append, Takes, KeepsBut, OnlyFreeWritten, Moves, Changes, advanced, swept_by, IsPast, IsSettled, in_either, node_count, rows_needed, pairs_tree}
+use Rattle.std.specs.Prelude.{slice_index, replicate}
 use Rattle.mst_node.specs.Tree as nodes
-use Rattle.mst_arena.specs.Content.{Content}
-use Rattle.mst_arena.specs.Lives.{State, version, next, reached_at, reaches, free_count}
-use Rattle.mst_arena.specs.Lists.{In, times, bit}
-use Rattle.mst_arena.specs.declared.life.Life.{Life}
-use Rattle.mst_arena.specs.declared.life.Life.TheVariants.{Free}
-use Rattle.mst_arena.specs.declared.row.Root.{Root}
-use Rattle.mst_arena.specs.Standing.{Placed, none, head, tree_of, used, IsDistinct, Stands, numbers}
-use Rattle.mst_arena.proofs.Stands.{placed_frame, all-append, all-front, all-back}
-use Rattle.mst_arena.proofs.ListLemmas.{times-append}
-use Rattle.mst_path.specs.Takes.{Takes, KeepsBut}
-use Rattle.mst_path.specs.Changing.{OnlyFreeWritten}
-use Rattle.mst_path.specs.Moves.{Moves}
-use Rattle.mst_path.specs.Reached.{IsReached, Changes, advanced, swept_by, IsPast, IsSettled}
+use Rattle.mst_path.specs.Reached.{IsReached}
 use Rattle.mst_path.specs.Versions.{HasMap, Kept, numbers_kept, AreNumbers, HaveMaps, rows_kept, Keeps}
 use Rattle.mst_path.proofs.lemmas.rows.CopyRows.{all_in}
-use Rattle.mst_arena.proofs.ListLemmas.{in_either}
 use Rattle.mst_path.proofs.lemmas.rows.Moving.{not_in}
 use Rattle.mst_path.proofs.lemmas.versions.Reached.{older, newest, version_after, settled_after, same_swept, settled_swept, free_swept, planted, planted_written}
 use Rattle.mst_path.proofs.lemmas.versions.Migrated.{changes, moved}
 use Rattle.mst_path.proofs.lemmas.rows.FreeCounts.{count_swept, alone}
 use Rattle.mst_path.proofs.lemmas.trees.Nodes.{used_count}
-use Rattle.mst_path.specs.Planting.{node_count, rows_needed}
-use Rattle.mst_node.proofs.UniqueTree.{pairs_tree}
 
 -- ---- one version
 

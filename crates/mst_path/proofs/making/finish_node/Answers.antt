@@ -1,5 +1,4 @@
-use Rattle.std.proofs.Common.{sym, subst, arith}
-use Rattle.mst_path.specs.Making.{Finished}
+use Rattle.mst_path.proofs.Names.{sym, subst, arith, Finished}
 use Rattle.mst_path.proofs.lemmas.rows.CopyRows.{small_link}
 use Rattle.mst_path.proofs.lemmas.steps.Finishing.{at_seam, head_out}
 use Rattle.mst_path.proofs.lemmas.trees.Made.{piece_alive}

@@ -1,15 +1,4 @@
-use Rattle.std.proofs.Common.{◌≡◌, ◌-◌, ℕ, Bool, IsTrue, [], ◌∷◌, ◌++◌, length, Option, IsSome, sym, ◌∙◌, ap, subst, arith}
-use Rattle.mst_key.specs.declared.format.Format.{Format}
-use Rattle.mst_arena.specs.Content.{Content, part_at}
-use Rattle.mst_arena.specs.Row.{keyed_links}
-use Rattle.mst_arena.specs.Lists.{times}
-use Rattle.mst_arena.specs.Standing.{rows_of, HasRows}
-use Rattle.mst_path.specs.Takes.{KeepsBut}
-use Rattle.mst_path.specs.Moves.{Moves}
-use Rattle.mst_path.specs.Runs.{OldPiece}
-use Rattle.mst_path.specs.Writing.{ahead, IsWritten, IsRootOf}
-use Rattle.mst_path.specs.Copying.{Copied}
-use Rattle.mst_path.specs.Making.{Rest, Finished}
+use Rattle.mst_path.proofs.Names.{◌≡◌, ◌-◌, ℕ, Bool, IsTrue, [], ◌∷◌, ◌++◌, length, Option, IsSome, sym, ◌∙◌, ap, subst, arith, Format, Content, part_at, keyed_links, times, rows_of, HasRows, KeepsBut, Moves, OldPiece, ahead, IsWritten, IsRootOf, Copied, Rest, Finished}
 use Rattle.mst_path.proofs.lemmas.rows.CopyRows.{small_link, still_writable, old_alive, links_there, ends_are, pair_there, next_some}
 use Rattle.mst_path.proofs.lemmas.steps.Seams.{first_back, no_length, seam_out, Seamed, with_seam, back_copying, tail_stays, back_head_out, with_back}
 use Rattle.mst_path.proofs.lemmas.steps.Finishing.{none_ahead}

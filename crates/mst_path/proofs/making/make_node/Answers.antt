@@ -1,10 +1,4 @@
-use Rattle.std.proofs.Common.{◌≡◌, ◌∷◌, [], length, refl, ◌∙◌, arith}
-use Rattle.std.proofs.lemmas.List.Sums.{count_by-le-length}
-use Rattle.mst_arena.specs.Lives.{is_free}
-use Rattle.mst_path.specs.Takes.{RowsAreWritable}
-use Rattle.mst_path.specs.Writing.{ahead}
-use Rattle.mst_path.specs.Copying.{Copied}
-use Rattle.mst_path.specs.Making.{PartsStand}
+use Rattle.mst_path.proofs.Names.{◌≡◌, ◌∷◌, [], length, refl, ◌∙◌, arith, count_by-le-length, is_free, RowsAreWritable, ahead, Copied, PartsStand}
 use Rattle.mst_path.proofs.lemmas.rows.CopyRows.{still_writable}
 use Rattle.mst_path.proofs.lemmas.steps.Seams.{ahead_length, ahead_min}
 use Rattle.mst_path.proofs.lemmas.steps.Whole.{Begun, begun_by, begins_copying, front_rest, made}

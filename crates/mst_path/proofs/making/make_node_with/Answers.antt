@@ -1,14 +1,4 @@
-use Rattle.std.proofs.Common.{◌≡◌, ◌<◌, ◌≤◌, ◌+◌, ℕ, Bool, Some, ◌∷◌, [], ◌++◌, length, IfSome, IsTrue, refl, sym, ◌∙◌, subst, arith}
-use Rattle.std.proofs.lemmas.List.Sums.{count_by-le-length}
-use Rattle.mst_arena.specs.Lives.{is_free, free_count}
-use Rattle.mst_arena.specs.Lists.{times}
-use Rattle.mst_arena.specs.Standing.{Placed, used}
-use Rattle.mst_path.specs.Takes.{RowsAreWritable}
-use Rattle.mst_path.specs.Moves.{Moves}
-use Rattle.mst_path.specs.Runs.{Piece}
-use Rattle.mst_path.specs.Writing.{ahead, IsRootOf, IsWritten}
-use Rattle.mst_path.specs.Copying.{Copied}
-use Rattle.mst_path.specs.Making.{PartsStand, in_parts}
+use Rattle.mst_path.proofs.Names.{◌≡◌, ◌<◌, ◌≤◌, ◌+◌, ℕ, Bool, Some, ◌∷◌, [], ◌++◌, length, IfSome, IsTrue, refl, sym, ◌∙◌, subst, arith, count_by-le-length, is_free, free_count, times, Placed, used, RowsAreWritable, Moves, Piece, ahead, IsRootOf, IsWritten, Copied, PartsStand, in_parts}
 use Rattle.mst_path.proofs.lemmas.rows.Moving.{moves_takes}
 use Rattle.mst_path.proofs.lemmas.rows.CopyRows.{still_writable, blank_taken, blank_ahead, next_some, small_link}
 use Rattle.mst_path.proofs.lemmas.steps.Seams.{ahead_length, ahead_min}

@@ -1,17 +1,4 @@
-use Rattle.std.proofs.Common.{◌∙◌, ◌≤◌, ◌<◌, ◌+◌, ℕ, sym, ap, subst, arith, rules}
-use Rattle.mst_arena.specs.Content.{Content}
-use Rattle.mst_arena.specs.Lives.{free_count}
-use Rattle.mst_arena.specs.Lists.{times}
-use Rattle.mst_arena.specs.Standing.{tree_of, used}
-use Rattle.mst_node.specs.Tree.{node, entry, last}
-use Rattle.mst_change.specs.Split.{below, above}
-use Rattle.mst_change.specs.Cost.{split_rows}
-use Rattle.mst_path.specs.Takes.{RowsAreWritable}
-use Rattle.mst_path.specs.Making.{Grown}
-use Rattle.mst_path.specs.Frames.{Framed, in_frame, tree_round, frame_rows}
-use Rattle.mst_path.specs.Joining.{TwoTrees, in_both, height, height_at}
-use Rattle.mst_path.specs.Splitting.{ToSplit}
-use Rattle.mst_path.specs.PutPath.{RisingTree, in_rising, with_pair, pair_rows, tree_with, with_rows, IsPutStep, PutsDown, PutsBetween, PutsAnew}
+use Rattle.mst_path.proofs.Names.{◌∙◌, ◌≤◌, ◌<◌, ◌+◌, ℕ, sym, ap, subst, arith, rules, Content, free_count, times, tree_of, used, node, entry, last, below, above, split_rows, RowsAreWritable, Grown, Framed, in_frame, tree_round, frame_rows, TwoTrees, in_both, height, height_at, ToSplit, RisingTree, in_rising, with_pair, pair_rows, tree_with, with_rows, IsPutStep, PutsDown, PutsBetween, PutsAnew}
 use Rattle.mst_path.proofs.lemmas.rows.CopyRows.{still_writable}
 use Rattle.mst_path.proofs.lemmas.steps.Rounds.{regrown, frame_after, room_after, closed_round}
 use Rattle.mst_path.proofs.lemmas.steps.PutGaps.{whole_split, put_top, put_top_rows, falls_at}

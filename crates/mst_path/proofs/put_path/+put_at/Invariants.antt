@@ -1,4 +1,4 @@
-use Rattle.mst_path.specs.Joining.{height_at}
+use Rattle.mst_path.proofs.Names.{height_at}
 use Rattle.mst_path.proofs.put_path.+put_at.Given as goal
 
 abbrev pub decreases-put_at : goal.decreases-put_at

@@ -1,8 +1,4 @@
-use Rattle.std.proofs.Common.{◌+◌, refl, arith, rules}
-use Rattle.mst_arena.specs.Standing.{tree_of}
-use Rattle.mst_path.specs.Making.{Grown}
-use Rattle.mst_path.specs.Frames.{Framed, in_entries}
-use Rattle.mst_path.specs.PutPath.{TwoStand, in_two, tree_with, with_rows}
+use Rattle.mst_path.proofs.Names.{◌+◌, refl, arith, rules, tree_of, Grown, Framed, in_entries, TwoStand, in_two, tree_with, with_rows}
 use Rattle.mst_path.proofs.lemmas.steps.Framing.{spare_old, closed}
 use Rattle.mst_path.proofs.lemmas.steps.NewEntry.{grown_as}
 use Rattle.mst_path.proofs.lemmas.steps.PutFrames.{frame_parts}

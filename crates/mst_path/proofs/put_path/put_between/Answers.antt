@@ -1,7 +1,4 @@
-use Rattle.std.proofs.Common.{◌≡◌, ◌+◌, refl, ap, arith}
-use Rattle.mst_path.specs.declared.making.EntryRun.{EntryRun}
-use Rattle.mst_path.specs.Making.{PartsStand}
-use Rattle.mst_path.specs.PutPath.{TwoStand}
+use Rattle.mst_path.proofs.Names.{◌≡◌, ◌+◌, refl, ap, arith, EntryRun, PartsStand, TwoStand}
 use Rattle.mst_path.proofs.lemmas.steps.NewEntry.{bare_parts, grown_as}
 use Rattle.mst_path.proofs.put_path.put_between.Given.{Over}
 use Rattle.mst_path.proofs.put_path.put_between.Goals.{After-no_run-2}

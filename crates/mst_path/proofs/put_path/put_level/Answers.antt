@@ -1,10 +1,4 @@
-use Rattle.std.proofs.Common.{ℕ, ◌<◌, arith}
-use Rattle.mst_arena.specs.Lists.{times}
-use Rattle.mst_arena.specs.Standing.{used}
-use Rattle.mst_path.specs.Moves.{IsAlive}
-use Rattle.mst_path.specs.Frames.{Framed}
-use Rattle.mst_path.specs.Splitting.{ToSplit}
-use Rattle.mst_path.specs.PutPath.{TwoStand, in_two}
+use Rattle.mst_path.proofs.Names.{ℕ, ◌<◌, arith, times, used, IsAlive, Framed, ToSplit, TwoStand, in_two}
 use Rattle.mst_path.proofs.lemmas.rows.CopyRows.{old_alive, still_writable}
 use Rattle.mst_path.proofs.lemmas.steps.PutFrames.{two, level_frame, level_made}
 use Rattle.mst_path.proofs.put_path.put_level.Given.{Over}

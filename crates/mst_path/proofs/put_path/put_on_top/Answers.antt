@@ -1,4 +1,4 @@
-use Rattle.std.proofs.Common.{arith}
+use Rattle.mst_path.proofs.Names.{arith}
 use Rattle.mst_path.proofs.lemmas.rows.CopyRows.{old_alive, still_writable}
 use Rattle.mst_path.proofs.lemmas.steps.NewEntry.{sides_stand, on_top}
 use Rattle.mst_path.proofs.put_path.put_on_top.Goals as goal

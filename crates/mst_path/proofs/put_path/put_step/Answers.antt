@@ -1,9 +1,4 @@
-use Rattle.mst_key.specs.declared.format.Format.{Format}
-use Rattle.std.proofs.Common.{sym, ap, subst, rules}
-use Rattle.mst_arena.specs.Content.{Content}
-use Rattle.mst_arena.specs.Lives.{State}
-use Rattle.mst_path.specs.Gaps.{IsOpened, OpensGap, OpensEntry}
-use Rattle.mst_path.specs.RemovePath.{SearchTree}
+use Rattle.mst_path.proofs.Names.{Format, sym, ap, subst, rules, Content, State, IsOpened, OpensGap, OpensEntry, SearchTree}
 use Rattle.mst_path.proofs.lemmas.steps.PutGaps.{some_link, puts_down, puts_between, puts_anew}
 use Rattle.mst_path.proofs.put_path.put_step.Given.{Over}
 use Rattle.mst_path.proofs.put_path.put_step.Goals.{After-top_step, In-Down}

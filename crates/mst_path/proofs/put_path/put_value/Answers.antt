@@ -1,13 +1,4 @@
-use Rattle.mst_key.specs.declared.format.Format.{Format}
-use Rattle.std.proofs.Common.{◌≡◌, ◌+◌, ◌∙◌, sym, ap, subst}
-use Rattle.mst_arena.specs.Content.{Content}
-use Rattle.mst_arena.specs.Standing.{Placed, tree_of, link_of, rows_of, HasRows}
-use Rattle.mst_path.specs.Takes.{RowsAreWritable}
-use Rattle.mst_path.specs.Writing.{IsRootOf}
-use Rattle.mst_path.specs.Making.{Grown}
-use Rattle.mst_path.specs.Frames.{Framed, in_frame}
-use Rattle.mst_path.specs.Joining.{TwoTrees}
-use Rattle.mst_path.specs.PutPath.{TwoStand, in_two, tree_with, with_rows}
+use Rattle.mst_path.proofs.Names.{Format, ◌≡◌, ◌+◌, ◌∙◌, sym, ap, subst, Content, Placed, tree_of, link_of, rows_of, HasRows, RowsAreWritable, IsRootOf, Grown, Framed, in_frame, TwoTrees, TwoStand, in_two, tree_with, with_rows}
 use Rattle.mst_path.proofs.lemmas.steps.PutFrames.{beside}
 use Rattle.mst_path.proofs.put_path.put_value.Given.{Over}
 use Rattle.mst_path.proofs.put_path.put_value.Goals.{After-root_at-upper}

@@ -1,13 +1,4 @@
-use Rattle.std.proofs.Common.{◌≡◌, ◌∙◌, ◌≤◌, ◌<◌, ◌+◌, List, Bool, length, Some, None, sym, ap, subst, arith, rules}
-use Rattle.std.specs.Bool.{MatchBool}
-use Rattle.mst_key.specs.Map.{Pair, map_get}
-use Rattle.mst_key.specs.declared.format.Format.{Format}
-use Rattle.mst_arena.specs.Content.{Content}
-use Rattle.mst_arena.specs.Lives.{State, free_count}
-use Rattle.mst_arena.specs.Standing.{Stands, numbers}
-use Rattle.mst_path.specs.Making.{Grown}
-use Rattle.mst_path.specs.RemovePath.{SearchTree, in_tree, without, without_rows}
-use Rattle.mst_path.specs.Changing.{AreOld}
+use Rattle.mst_path.proofs.Names.{◌≡◌, ◌∙◌, ◌≤◌, ◌<◌, ◌+◌, List, Bool, length, Some, None, sym, ap, subst, arith, rules, MatchBool, Pair, map_get, Format, Content, State, free_count, Stands, numbers, Grown, SearchTree, in_tree, without, without_rows, AreOld}
 use Rattle.mst_path.proofs.lemmas.versions.Changes.{any_old, search_at, rises, says}
 use Rattle.mst_path.proofs.lemmas.versions.Removed.{least_new, cost_found, AfterRemove, after_found, after_none}
 use Rattle.mst_path.proofs.removal.remove.Given.{Over}

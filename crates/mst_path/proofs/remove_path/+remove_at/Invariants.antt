@@ -1,4 +1,4 @@
-use Rattle.mst_path.specs.Joining.{height_at}
+use Rattle.mst_path.proofs.Names.{height_at}
 use Rattle.mst_path.proofs.remove_path.+remove_at.Given as goal
 
 abbrev pub decreases-remove_at : goal.decreases-remove_at

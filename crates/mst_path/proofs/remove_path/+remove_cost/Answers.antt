@@ -1,10 +1,4 @@
-use Rattle.mst_key.specs.declared.format.Format.{Format}
-use Rattle.std.proofs.Common.{◌≡◌, ◌≤◌, ◌<◌, ℕ, sym, ap, subst, arith, rules}
-use Rattle.mst_arena.specs.Content.{Content}
-use Rattle.mst_arena.specs.Lives.{State}
-use Rattle.mst_path.specs.Joining.{TwoTrees, both_rows, height_at}
-use Rattle.mst_path.specs.RemovePath.{SearchTree, without_rows}
-use Rattle.mst_path.specs.Gaps.{IsOpened, OpensGap, OpensEntry}
+use Rattle.mst_path.proofs.Names.{Format, ◌≡◌, ◌≤◌, ◌<◌, ℕ, sym, ap, subst, arith, rules, Content, State, TwoTrees, both_rows, height_at, SearchTree, without_rows, IsOpened, OpensGap, OpensEntry}
 use Rattle.mst_path.proofs.lemmas.steps.Removals.{rows_below, rows_here}
 use Rattle.mst_path.proofs.lemmas.steps.Rounds.{lower_tree}
 use Rattle.mst_path.proofs.remove_path.+remove_cost.Given.{Over}

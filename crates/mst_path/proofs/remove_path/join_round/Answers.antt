@@ -1,4 +1,4 @@
-use Rattle.std.proofs.Common.{arith}
+use Rattle.mst_path.proofs.Names.{arith}
 use Rattle.mst_path.proofs.lemmas.steps.Rounds.{frame_after, closed_round}
 use Rattle.mst_path.proofs.remove_path.join_round.Goals as goal
 

@@ -1,12 +1,4 @@
-use Rattle.mst_key.specs.declared.format.Format.{Format}
-use Rattle.std.proofs.Common.{◌≡◌, ◌∙◌, ◌-◌, List, ◌∷◌, sym, ap, subst, rules}
-use Rattle.mst_arena.specs.Content.{Content}
-use Rattle.mst_arena.specs.Lives.{State}
-use Rattle.mst_arena.specs.Standing.{link_of, HasRows}
-use Rattle.mst_path.specs.Cutting.{EntriesLie, gap_before, CutGap, CutFound}
-use Rattle.mst_path.specs.RemovePath.{SearchTree}
-use Rattle.mst_path.specs.Runs.{own_rows}
-use Rattle.mst_path.specs.Writing.{PlacedEntry}
+use Rattle.mst_path.proofs.Names.{Format, ◌≡◌, ◌∙◌, ◌-◌, List, ◌∷◌, sym, ap, subst, rules, Content, State, link_of, HasRows, EntriesLie, gap_before, CutGap, CutFound, SearchTree, own_rows, PlacedEntry}
 use Rattle.mst_path.proofs.lemmas.trees.Lookups.{lies, cut_top}
 use Rattle.mst_path.proofs.lemmas.trees.Opening.{Opened}
 use Rattle.mst_path.proofs.lemmas.trees.Parting.{back_rows}

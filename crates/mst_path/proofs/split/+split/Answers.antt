@@ -1,22 +1,4 @@
-use Rattle.std.proofs.Common.{◌≡◌, ◌≤◌, ◌<◌, ◌-◌, ◌==◌, ◌&&◌, ℕ, List, None, true, true≢false, refl, sym, ◌∙◌, ap, subst, arith, rules}
-use Rattle.std.proofs.lemmas.Bool.{and_parts}
-use Rattle.mst_arena.specs.Content.{Content}
-use Rattle.mst_arena.specs.Lives.{free_count}
-use Rattle.mst_arena.specs.Lists.{times}
-use Rattle.mst_arena.specs.declared.row.HeadLinks.{HeadLinks}
-use Rattle.mst_arena.specs.Standing.{tree_of, used, rows_of, HasRows}
-use Rattle.mst_path.specs.declared.frames.Frame.{Frame}
-use Rattle.mst_path.specs.declared.making.EntryRun.{EntryRun}
-use Rattle.mst_change.specs.Split.{below, above}
-use Rattle.mst_change.specs.Parts.{is_empty}
-use Rattle.mst_change.specs.Cost.{split_rows}
-use Rattle.mst_path.specs.Takes.{RowsAreWritable}
-use Rattle.mst_path.specs.Making.{Split, tail_behind}
-use Rattle.mst_path.specs.Cutting.{EntriesLie}
-use Rattle.mst_path.specs.Joining.{height_at}
-use Rattle.mst_path.specs.Gaps.{OpensGap}
-use Rattle.mst_path.specs.Splitting.{ToSplit}
-use Rattle.mst_path.specs.Writing.{PlacedEntry}
+use Rattle.mst_path.proofs.Names.{◌≡◌, ◌≤◌, ◌<◌, ◌-◌, ◌==◌, ◌&&◌, ℕ, List, None, true, true≢false, refl, sym, ◌∙◌, ap, subst, arith, rules, and_parts, Content, free_count, times, HeadLinks, tree_of, used, rows_of, HasRows, Frame, EntryRun, below, above, is_empty, split_rows, RowsAreWritable, Split, tail_behind, EntriesLie, height_at, OpensGap, ToSplit, PlacedEntry}
 use Rattle.mst_path.proofs.lemmas.rows.CopyRows.{still_writable}
 use Rattle.mst_path.proofs.lemmas.trees.Lookups.{lies, cut_top}
 use Rattle.mst_path.proofs.lemmas.steps.Removals.{top, opens_gap, opens_entry}

@@ -1,4 +1,4 @@
-use Rattle.mst_path.specs.Joining.{height_at}
+use Rattle.mst_path.proofs.Names.{height_at}
 use Rattle.mst_path.proofs.split.+split.Given as goal
 
 -- layers fall

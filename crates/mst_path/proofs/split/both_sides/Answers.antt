@@ -1,6 +1,4 @@
-use Rattle.std.proofs.Common.{refl}
-use Rattle.mst_path.specs.Making.{PartsStand}
-use Rattle.mst_path.specs.Splitting.{BothStand}
+use Rattle.mst_path.proofs.Names.{refl, PartsStand, BothStand}
 use Rattle.mst_path.proofs.lemmas.rows.CopyRows.{still_writable}
 use Rattle.mst_path.proofs.lemmas.steps.Sides.{upper_stands, row_still_old, both_made}
 use Rattle.mst_path.proofs.split.both_sides.Given.{Over}

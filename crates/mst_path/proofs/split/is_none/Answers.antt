@@ -1,4 +1,4 @@
-use Rattle.std.proofs.Common.{rules}
+use Rattle.mst_path.proofs.Names.{rules}
 use Rattle.mst_path.proofs.split.is_none.Goals as goal
 
 pub returns-then-run-eq0 : goal.returns-then-run-eq0

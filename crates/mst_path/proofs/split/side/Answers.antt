@@ -1,19 +1,4 @@
-use Rattle.std.proofs.Common.{◌≡◌, ◌≢◌, ℕ, ◌+◌, ◌≤◌, false, List, [], ◌∷◌, length, refl, sym, subst, arith, rules}
-use Rattle.std.proofs.lemmas.Bool.Decides.{nat_tests}
-use Rattle.std.proofs.lemmas.List.Sums.{count_by-le-length}
-use Rattle.mst_key.specs.declared.format.Format.{Format}
-use Rattle.mst_node.specs.Tree.{Tree, node}
-use Rattle.mst_node.specs.Shape.{with_entries}
-use Rattle.mst_arena.specs.Content.{Content}
-use Rattle.mst_arena.specs.Lives.{State, is_free}
-use Rattle.mst_arena.specs.declared.row.Root.{Root}
-use Rattle.mst_arena.specs.Standing.{tree_of}
-use Rattle.mst_change.specs.Parts.{node_of, with_first}
-use Rattle.mst_change.specs.Cost.{side_rows}
-use Rattle.mst_path.specs.Writing.{PlacedEntry}
-use Rattle.mst_path.specs.Making.{PartsStand, in_parts, cells_of, entries_to, Grown}
-use Rattle.mst_path.specs.Splitting.{side_of}
-use Rattle.mst_path.specs.declared.making.NodeParts.{NodeParts}
+use Rattle.mst_path.proofs.Names.{◌≡◌, ◌≢◌, ℕ, ◌+◌, ◌≤◌, false, List, [], ◌∷◌, length, refl, sym, subst, arith, rules, nat_tests, count_by-le-length, Format, Tree, node, with_entries, Content, State, is_free, Root, tree_of, node_of, with_first, side_rows, PlacedEntry, PartsStand, in_parts, cells_of, entries_to, Grown, side_of, NodeParts}
 use Rattle.mst_path.proofs.lemmas.steps.Sides.{seam_alone}
 use Rattle.mst_path.proofs.split.side.Goals as goal
 

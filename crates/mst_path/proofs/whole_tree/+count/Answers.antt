@@ -1,11 +1,6 @@
-use Rattle.std.proofs.Common.{◌≡◌, ◌+◌, ◌<◌, ◌≤◌, ℕ, length, get_or, map, take, ap, refl, subst, arith, rules}
-use Rattle.std.proofs.lemmas.Grind.{common_steps}
-use Rattle.mst_key.specs.declared.format.Format.{Format}
-use Rattle.mst_node.specs.Shape.{tree_of, tree_of_child, tree_entry}
-use Rattle.mst_node.specs.declared.node.Entry.{out-Entry}
-use Rattle.mst_node.specs.declared.node.Entry.TheViews.{the_lemmas}
+use Rattle.mst_path.proofs.Names.{◌≡◌, ◌+◌, ◌<◌, ◌≤◌, ℕ, length, get_or, map, take, ap, refl, subst, arith, rules, common_steps, Format, tree_of_child, tree_entry, out-Entry, the_lemmas, rows_needed}
+use Rattle.mst_node.specs.Shape.{tree_of}
 use Rattle.mst_node.proofs.NodeShapes.{child-fits, tail-fits}
-use Rattle.mst_path.specs.Planting.{rows_needed}
 use Rattle.mst_path.proofs.lemmas.trees.Nodes.{items, entries_needed, needed_take, needed_more, needed_ahead, take_all, node_needed, node_child, node_last, nodes_le}
 use Rattle.mst_path.proofs.whole_tree.+count.Given.{Over}
 use Rattle.mst_path.proofs.whole_tree.+count.Goals.{rows_of_node-After-entry-item}

@@ -1,6 +1,4 @@
-use Rattle.std.proofs.Common.{◌≡◌, ◌+◌, map, take}
-use Rattle.mst_key.specs.declared.format.Format.{Format}
-use Rattle.mst_node.specs.Shape.{tree_entry}
+use Rattle.mst_path.proofs.Names.{◌≡◌, ◌+◌, map, take, Format, tree_entry}
 use Rattle.mst_path.proofs.lemmas.trees.Nodes.{items, entries_needed}
 use Rattle.mst_path.proofs.whole_tree.+count.Given as goal
 

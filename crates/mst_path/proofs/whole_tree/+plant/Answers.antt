@@ -1,16 +1,5 @@
-use Rattle.std.proofs.Common.{◌≡◌, ◌+◌, ◌<◌, ◌≤◌, [], ℕ, Bool, IsTrue, List, length, get_or, map, take, ap, refl, sym, subst, ◌∙◌, arith, rules}
-use Rattle.std.proofs.lemmas.Grind.{common_steps}
-use Rattle.std.proofs.lemmas.List.Sums.{count_by-le-length}
-use Rattle.mst_node.specs.Shape.{TreeEntry, with_entries, tree_of, tree_of_child, tree_entry}
-use Rattle.mst_node.specs.Tree.{Tree, node, last}
-use Rattle.mst_node.specs.declared.node.Node.{out-Node}
-use Rattle.mst_node.specs.declared.node.Entry.{out-Entry}
-use Rattle.mst_node.specs.declared.node.Entry.TheViews.{the_lemmas}
-use Rattle.mst_arena.specs.Lives.{is_free}
-use Rattle.mst_arena.specs.Standing.{none}
-use Rattle.mst_arena.proofs.Stands.{all-back}
-use Rattle.mst_path.specs.Writing.{ahead, entries_used}
-use Rattle.mst_path.specs.Planting.{rows_needed, Planted}
+use Rattle.mst_path.proofs.Names.{◌≡◌, ◌+◌, ◌<◌, ◌≤◌, [], ℕ, Bool, IsTrue, List, length, get_or, map, take, ap, refl, sym, subst, ◌∙◌, arith, rules, common_steps, count_by-le-length, TreeEntry, with_entries, tree_of_child, tree_entry, Tree, node, last, out-Node, out-Entry, the_lemmas, is_free, none, all-back, ahead, entries_used, rows_needed, Planted}
+use Rattle.mst_node.specs.Shape.{tree_of}
 use Rattle.mst_path.proofs.lemmas.rows.Taking.{takes_none, takes_length, taken_blank}
 use Rattle.mst_path.proofs.lemmas.rows.Moving.{moves_takes}
 use Rattle.mst_path.proofs.lemmas.rows.CopyRows.{still_writable, next_some}

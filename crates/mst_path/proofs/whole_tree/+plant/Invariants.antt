@@ -1,8 +1,4 @@
-use Rattle.std.proofs.Common.{◌≡◌, ◌+◌, length, map, take}
-use Rattle.mst_node.specs.Shape.{tree_entry}
-use Rattle.mst_node.specs.declared.node.Node.{out-Node}
-use Rattle.mst_path.specs.Takes.{StaysBeside}
-use Rattle.mst_path.specs.Writing.{IsWriter}
+use Rattle.mst_path.proofs.Names.{◌≡◌, ◌+◌, length, map, take, tree_entry, out-Node, StaysBeside, IsWriter}
 use Rattle.mst_path.proofs.lemmas.trees.Nodes.{items}
 use Rattle.mst_path.proofs.lemmas.trees.Growing.{PlantedSoFar}
 use Rattle.mst_path.proofs.whole_tree.+plant.Given as goal

@@ -1,17 +1,9 @@
-use Rattle.mst_key.specs.declared.format.Format.{Format}
-use Rattle.std.proofs.Common.{◌≡◌, ◌≤◌, ◌+◌, List, length, option_copied, refl, sym, subst, ap, ◌∙◌, arith, rules}
-use Rattle.mst_key.specs.Map.{Pair}
-use Rattle.mst_node.specs.Tree.{Tree, empty, pairs, IsMst, tree as tree_of_map}
+use Rattle.mst_path.proofs.Names.{Format, ◌≡◌, ◌≤◌, ◌+◌, List, length, refl, sym, subst, ap, ◌∙◌, arith, rules, Pair, Tree, empty, pairs, IsMst, pairs_tree, tree_mst, Content, Placed, none, used, Stands, Root, State, one_placed, Takes, KeepsBut, rows_needed, node_count, Planted}
+use Rattle.std.proofs.Common.{option_copied}
+use Rattle.mst_node.specs.Tree.{tree as tree_of_map}
 use Rattle.mst_node.specs.Shape.{tree_of}
 use Rattle.mst_node.specs.Text.{digest as digest_of}
-use Rattle.mst_node.proofs.UniqueTree.{pairs_tree, tree_mst}
-use Rattle.mst_arena.specs.Content.{Content}
-use Rattle.mst_arena.specs.Standing.{Placed, none, used, Stands}
-use Rattle.mst_arena.specs.declared.row.Root.{Root}
-use Rattle.mst_arena.specs.Lives.{State}
-use Rattle.mst_arena.proofs.Stands.{one_placed}
-use Rattle.mst_path.specs.Takes.{Takes, KeepsBut}
-use Rattle.mst_path.specs.Planting.{rows_needed, node_count, tree_at, IsTreeOf, Planted}
+use Rattle.mst_path.specs.Planting.{tree_at, IsTreeOf}
 use Rattle.mst_path.proofs.lemmas.rows.Taking.{takes_count}
 use Rattle.mst_path.proofs.lemmas.trees.Nodes.{used_count}
 use Rattle.mst_path.proofs.whole_tree.plant.Given.{Over}

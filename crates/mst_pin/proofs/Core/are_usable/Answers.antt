@@ -1,6 +1,5 @@
-use Rattle.std.proofs.Common.{ℕ, ◌<◌, ◌-◌, ◌^◌, bit_and, slice_index, sym, ap, eqb-true, eq-eqb, arith}
-use Rattle.mst_pin.specs.State.{row_set}
-use Rattle.mst_pin.specs.Core.{state, state_of}
+use Rattle.mst_pin.proofs.Names.{ℕ, ◌<◌, ◌-◌, ◌^◌, bit_and, slice_index, sym, ap, eqb-true, eq-eqb, arith, row_set, state_of}
+use Rattle.mst_pin.specs.Core.{state}
 use Rattle.mst_pin.proofs.Rows.{usable_from_none, none_from_usable}
 use Rattle.mst_pin.proofs.Core.are_usable.Goals as goal
 

@@ -1,4 +1,4 @@
-use Rattle.std.proofs.Common.{rules}
+use Rattle.mst_pin.proofs.Names.{rules}
 use Rattle.mst_pin.specs.Core.{state}
 use Rattle.mst_pin.proofs.Core.has_pass.Goals as goal
 

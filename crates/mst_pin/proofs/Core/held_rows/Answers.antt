@@ -1,8 +1,5 @@
-use Rattle.std.proofs.Common.{◌≡◌, ℕ, ⊎_elim, true, false, slice_index, sym, ap, ◌∙◌, subst, arith}
-use mathlib.Core.Logic.{dite}
-use native.Mathlib.Decide.{ℕ_discrete}
-use Rattle.mst_pin.specs.State.{row_set, IsPinned}
-use Rattle.mst_pin.specs.Core.{state, state_of}
+use Rattle.mst_pin.proofs.Names.{◌≡◌, ℕ, ⊎_elim, true, false, slice_index, sym, ap, ◌∙◌, subst, arith, dite, ℕ_discrete, row_set, IsPinned, state_of}
+use Rattle.mst_pin.specs.Core.{state}
 use Rattle.mst_pin.proofs.Cores.{pinned_in}
 use Rattle.mst_pin.proofs.Options.{from_false}
 use Rattle.mst_pin.proofs.Rows.{or_left, or_right, or_cases, zero_rows}

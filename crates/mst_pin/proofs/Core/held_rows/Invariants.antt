@@ -1,6 +1,4 @@
-use Rattle.std.proofs.Common.{◌≡◌, ◌≢◌, ℕ, ◌<◌, true}
-use Rattle.mst_pin.specs.State.{IsPinned, IsHeld, row_set}
-use Rattle.mst_pin.specs.Core.{state}
+use Rattle.mst_pin.proofs.Names.{◌≡◌, ◌≢◌, ℕ, ◌<◌, true, IsPinned, IsHeld, row_set, state}
 use Rattle.mst_pin.proofs.Core.held_rows.Given as goal
 
 abbrev pub invariant-loop-number : goal.invariant-loop-number

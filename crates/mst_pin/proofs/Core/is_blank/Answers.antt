@@ -1,7 +1,5 @@
-use Rattle.std.proofs.Common.{ℕ, bit_or, slice_index, sym, ap, eqb-true, eq-eqb}
-use Rattle.std.specs.Int.{bit_at}
-use Rattle.mst_pin.specs.State.{row_set}
-use Rattle.mst_pin.specs.Core.{state, state_of}
+use Rattle.mst_pin.proofs.Names.{ℕ, bit_or, slice_index, sym, ap, eqb-true, eq-eqb, bit_at, row_set, state_of}
+use Rattle.mst_pin.specs.Core.{state}
 use Rattle.mst_pin.proofs.Rows.{blank_from_bit, bit_from_blank}
 use Rattle.mst_pin.proofs.Core.is_blank.Goals as goal
 

@@ -1,6 +1,4 @@
-use Rattle.std.proofs.Common.{ℕ, ◌<◌, ◌+◌, eq-eqb, eqb-true, arith}
-use mathlib.Core.Logic.{dite}
-use native.Mathlib.Decide.{ℕ_discrete}
+use Rattle.mst_pin.proofs.Names.{ℕ, ◌<◌, ◌+◌, eq-eqb, eqb-true, arith, dite, ℕ_discrete}
 use Rattle.std.specs.Prelude.{slice_index}
 use Rattle.mst_pin.specs.Core.{state}
 use Rattle.mst_pin.proofs.Options.{due_none, on_false}

@@ -1,4 +1,4 @@
-use Rattle.std.proofs.Common.{rules}
+use Rattle.mst_pin.proofs.Names.{rules}
 use Rattle.mst_pin.proofs.Core.is_taken.Goals as goal
 
 pub is_blank-requires-clause-settled : goal.is_blank-requires-clause-settled

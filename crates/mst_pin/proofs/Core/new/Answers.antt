@@ -1,8 +1,5 @@
-use Rattle.std.proofs.Common.{rules}
-use Rattle.std.proofs.Common.{◌∙◌, ap, sym, subst, replicate, arith}
-use Rattle.mst_pin.specs.declared.words.Words.{Words}
-use Rattle.mst_pin.specs.Words.{IsKept}
-use Rattle.mst_pin.specs.Core.{state, state_of}
+use Rattle.mst_pin.proofs.Names.{rules, ◌∙◌, ap, sym, subst, replicate, arith, Words, IsKept, state_of}
+use Rattle.mst_pin.specs.Core.{state}
 use Rattle.mst_pin.proofs.Cores.{fresh_kept, fresh_state}
 use Rattle.mst_pin.proofs.Core.new.Goals as goal
 

@@ -1,9 +1,5 @@
-use Rattle.std.proofs.Common.{◌≡◌, ℕ, ◌∙◌, ◌-◌, ◌+◌, ap, sym, subst, arith, bit_xor}
-use Rattle.mst_pin.specs.declared.words.Words.{Words}
-use Rattle.mst_pin.specs.declared.event.Answer.TheVariants.{Record}
-use Rattle.mst_pin.specs.WordParts.{record_of}
-use Rattle.mst_pin.specs.Words.{IsKept, pinned_by, pinned_mask}
-use Rattle.mst_pin.specs.Core.{state, state_of}
+use Rattle.mst_pin.proofs.Names.{◌≡◌, ℕ, ◌∙◌, ◌-◌, ◌+◌, ap, sym, subst, arith, bit_xor, Words, Record, record_of, IsKept, pinned_by, pinned_mask, state_of}
+use Rattle.mst_pin.specs.Core.{state}
 use Rattle.mst_pin.proofs.Cores.{pin_keeps, pin_state}
 use Rattle.mst_pin.proofs.Options.{none_is}
 use Rattle.mst_pin.proofs.WordSteps.{xored_current}

@@ -1,6 +1,5 @@
-use Rattle.std.proofs.Common.{◌≡◌, ℕ, ◌+◌, ◌-◌, sym, ap, ◌∙◌, arith, below_more}
-use Rattle.std.specs.Int.{bit_at}
-use Rattle.mst_pin.specs.Words.{pinned_mask}
+use Rattle.mst_pin.proofs.Names.{◌≡◌, ℕ, ◌+◌, ◌-◌, sym, ap, ◌∙◌, arith, bit_at, pinned_mask}
+use Rattle.std.proofs.Common.{below_more}
 use Rattle.mst_pin.specs.Core.{state}
 use Rattle.mst_pin.proofs.Masks.{pinned_some, pinned_none}
 use Rattle.mst_pin.proofs.Cores.{none_above, none_at_zero}

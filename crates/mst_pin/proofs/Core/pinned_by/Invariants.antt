@@ -1,6 +1,4 @@
-use Rattle.std.proofs.Common.{◌≢◌, ℕ, ◌<◌, ◌-◌}
-use Rattle.std.specs.Int.{bit_at}
-use Rattle.mst_pin.specs.Words.{pinned_mask}
+use Rattle.mst_pin.proofs.Names.{◌≢◌, ℕ, ◌<◌, ◌-◌, bit_at, pinned_mask}
 use Rattle.mst_pin.proofs.Core.pinned_by.Given as goal
 
 abbrev pub invariant-loop-number : goal.invariant-loop-number

@@ -1,8 +1,5 @@
-use Rattle.std.proofs.Common.{◌≡◌, ◌∙◌, ◌*◌, ap, sym, subst, arith, set}
-use Rattle.mst_pin.specs.declared.words.Words.{Words}
-use Rattle.mst_pin.specs.WordParts.{mask_of, masks}
-use Rattle.mst_pin.specs.Words.{IsKept}
-use Rattle.mst_pin.specs.Core.{state, state_of}
+use Rattle.mst_pin.proofs.Names.{◌≡◌, ◌∙◌, ◌*◌, ap, sym, subst, arith, set, Words, mask_of, masks, IsKept, state_of}
+use Rattle.mst_pin.specs.Core.{state}
 use Rattle.mst_pin.proofs.Cores.{publish_kept, publish_state}
 use Rattle.mst_pin.proofs.Options.{due_none}
 use Rattle.mst_pin.proofs.WordSteps.{published_parts}

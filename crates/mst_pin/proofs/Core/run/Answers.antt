@@ -1,13 +1,8 @@
-use Rattle.std.proofs.Common.{rules}
-use Rattle.std.proofs.Common.{◌≡◌, ◌+◌, ℕ, List, [], ◌∷◌, ◌++◌, get_or, take, ap, sym, subst, ◌∙◌, add-one, cond, arith}
+use Rattle.mst_pin.proofs.Names.{rules, ◌≡◌, ◌+◌, ℕ, List, [], ◌∷◌, ◌++◌, get_or, take, ap, sym, subst, ◌∙◌, cond, arith, Event, Pin, Answer, Runs, state}
+use Rattle.std.proofs.Common.{add-one}
 use Rattle.std.proofs.lemmas.Grind.{common_steps}
 use Rattle.std.specs.Prelude.{is_ok}
 use Rattle.std.proofs.Math.Seq.{take-suc}
-use Rattle.mst_pin.specs.declared.event.Event.{Event}
-use Rattle.mst_pin.specs.declared.event.Event.TheVariants.{Pin}
-use Rattle.mst_pin.specs.declared.event.Answer.{Answer}
-use Rattle.mst_pin.specs.State.{Runs}
-use Rattle.mst_pin.specs.Core.{state}
 use Rattle.mst_pin.proofs.Runs.{runs_more}
 use Rattle.mst_pin.proofs.Core.run.Goals as goal
 

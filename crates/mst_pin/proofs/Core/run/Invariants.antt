@@ -1,6 +1,5 @@
-use Rattle.std.proofs.Common.{◌≡◌, ◌≤◌, length, take, vec_len, vec_capacity}
-use Rattle.mst_pin.specs.State.{Runs}
-use Rattle.mst_pin.specs.Core.{state}
+use Rattle.mst_pin.proofs.Names.{◌≡◌, ◌≤◌, length, take, Runs, state}
+use Rattle.std.proofs.Common.{vec_len, vec_capacity}
 use Rattle.mst_pin.proofs.Core.run.Given as goal
 
 abbrev pub invariant-loop-event : goal.invariant-loop-event

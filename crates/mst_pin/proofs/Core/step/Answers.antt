@@ -1,4 +1,4 @@
-use Rattle.std.proofs.Common.{rules}
+use Rattle.mst_pin.proofs.Names.{rules}
 use Rattle.mst_pin.proofs.Core.step.Goals as goal
 
 pub returns-then-not-is_taken-clause-step : goal.returns-then-not-is_taken-clause-step

@@ -1,7 +1,5 @@
-use Rattle.std.proofs.Common.{◌∙◌, ap, sym, subst, arith}
-use Rattle.mst_pin.specs.declared.words.Words.{Words}
-use Rattle.mst_pin.specs.Words.{IsKept}
-use Rattle.mst_pin.specs.Core.{state, state_of}
+use Rattle.mst_pin.proofs.Names.{◌∙◌, ap, sym, subst, arith, Words, IsKept, state_of}
+use Rattle.mst_pin.specs.Core.{state}
 use Rattle.mst_pin.proofs.Cores.{transfer_kept, transfer_state}
 use Rattle.mst_pin.proofs.Options.{due_is_some}
 use Rattle.mst_pin.proofs.WordSteps.{transferred_parts}

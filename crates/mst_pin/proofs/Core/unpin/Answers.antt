@@ -1,7 +1,5 @@
-use Rattle.std.proofs.Common.{◌≡◌, ℕ, ◌∙◌, ◌^◌, ◌-◌, ap, sym, subst, arith}
-use Rattle.mst_pin.specs.declared.words.Words.{Words}
-use Rattle.mst_pin.specs.Words.{IsKept}
-use Rattle.mst_pin.specs.Core.{state, state_of}
+use Rattle.mst_pin.proofs.Names.{◌≡◌, ℕ, ◌∙◌, ◌^◌, ◌-◌, ap, sym, subst, arith, Words, IsKept, state_of}
+use Rattle.mst_pin.specs.Core.{state}
 use Rattle.mst_pin.proofs.Cores.{unpin_first, unpin_last, unpin_in, unpin_keeps, unpin_state}
 use Rattle.mst_pin.proofs.WordSteps.{xored_done}
 use Rattle.mst_pin.proofs.Core.unpin.Goals as goal

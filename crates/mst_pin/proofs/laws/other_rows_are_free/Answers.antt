@@ -1,7 +1,4 @@
-use Rattle.std.proofs.Common.{◌≡◌, ℕ, ◌∙◌, ap, ⊎_elim, inl, inr, is_some}
-use Rattle.mst_pin.specs.State.{IsPinned}
-use Rattle.mst_pin.specs.declared.event.Event.TheVariants.{Write}
-use Rattle.mst_pin.specs.State.{IsTaken}
+use Rattle.mst_pin.proofs.Names.{◌≡◌, ℕ, ◌∙◌, ap, ⊎_elim, inl, inr, is_some, IsPinned, Write, IsTaken}
 use Rattle.std.specs.Prelude.{true}
 use Rattle.mst_pin.proofs.laws.other_rows_are_free.Goals as goal
 

@@ -1,4 +1,4 @@
-use Rattle.std.proofs.Common.{ap, is_some}
+use Rattle.mst_pin.proofs.Names.{ap, is_some}
 use Rattle.mst_pin.proofs.Sound.{sound_reached, free_record}
 use Rattle.mst_pin.proofs.laws.some_record_is_free.Goals as goal
 

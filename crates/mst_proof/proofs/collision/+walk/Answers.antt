@@ -1,8 +1,4 @@
-use Rattle.std.proofs.Common.{◌≡◌, ◌∙◌, sym, ap, subst, List, ℕ, ◌∷◌, length, arith, rules}
-use Rattle.std.proofs.lemmas.Grind.{common_steps}
-use Rattle.std.specs.Option.{option_copied}
-use Rattle.mst_node.specs.Shape.{tree_of}
-use Rattle.mst_proof.specs.Beside.{IsSmall}
+use Rattle.mst_proof.proofs.Names.{◌≡◌, ◌∙◌, sym, ap, subst, List, ℕ, ◌∷◌, length, arith, rules, common_steps, option_copied, tree_of, IsSmall}
 use Rattle.mst_proof.proofs.Walks.{texts_differ, texts_same, small_gap, is_node, none_here, some_here, none_below, some_below, none_further, some_further}
 use Rattle.mst_proof.proofs.collision.+walk.Goals as goal
 

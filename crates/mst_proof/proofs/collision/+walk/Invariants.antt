@@ -1,4 +1,4 @@
-use Rattle.std.proofs.Common.{length}
+use Rattle.mst_proof.proofs.Names.{length}
 use Rattle.mst_proof.proofs.collision.+walk.Given as goal
 
 abbrev pub decreases-walk : goal.decreases-walk

@@ -1,6 +1,4 @@
-use Rattle.std.proofs.Common.{◌∙◌, arith}
-use Rattle.mst_node.specs.declared.node.Node.{out-Node}
-use Rattle.mst_node.specs.Shape.{tree_of_child}
+use Rattle.mst_proof.proofs.Names.{◌∙◌, arith, out-Node, tree_of_child}
 use Rattle.mst_proof.proofs.Beside.{gap_of_node, gap_step, gap_end}
 use Rattle.mst_proof.proofs.collision.child_for.Goals as goal
 

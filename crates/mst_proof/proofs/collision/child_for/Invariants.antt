@@ -1,8 +1,4 @@
-use Rattle.std.proofs.Common.{◌≡◌, drop}
-use Rattle.mst_key.specs.declared.format.Format.{Format}
-use Rattle.mst_node.specs.declared.node.Node.{out-Node}
-use Rattle.mst_node.specs.Shape.{tree_of, tree_of_child}
-use Rattle.mst_proof.specs.Beside.{gap_tree}
+use Rattle.mst_proof.proofs.Names.{◌≡◌, drop, Format, out-Node, tree_of, tree_of_child, gap_tree}
 use Rattle.mst_proof.proofs.Beside.{gap_among}
 use Rattle.mst_proof.proofs.collision.child_for.Given as goal
 

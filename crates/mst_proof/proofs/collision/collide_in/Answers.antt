@@ -1,10 +1,5 @@
-use Rattle.std.proofs.Common.{◌≡◌, ◌≢◌, ◌∙◌, sym, ap, subst, arith, length, rules}
-use Rattle.std.specs.Option.{option_copied}
-use Rattle.std.proofs.lemmas.Bool.Decides.{nat_tests}
-use Rattle.mst_node.specs.Shape.{tree_of}
-use Rattle.mst_node.specs.Text.{text}
-use Rattle.mst_node.specs.Tree.{Tree, empty}
-use Rattle.mst_proof.specs.Beside.{top_of, IsSmall}
+use Rattle.mst_proof.proofs.Names.{◌≡◌, ◌≢◌, ◌∙◌, sym, ap, subst, arith, length, rules, option_copied, nat_tests, tree_of, text, Tree, empty, IsSmall}
+use Rattle.mst_proof.specs.Beside.{top_of}
 use Rattle.mst_proof.proofs.WholeProofs.{small_of_map, none_of_empty, some_of_empty, none_of_no_text, some_of_no_text, none_of_walk, some_of_walk, none_of_nothing}
 use Rattle.mst_proof.proofs.Walks.{is_node}
 use Rattle.mst_proof.proofs.collision.collide_in.Given.{Over}

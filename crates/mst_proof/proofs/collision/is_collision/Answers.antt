@@ -1,4 +1,4 @@
-use Rattle.std.proofs.Common.{rules}
+use Rattle.mst_proof.proofs.Names.{rules}
 use Rattle.mst_proof.proofs.collision.is_collision.Goals as goal
 
 pub eq-requires : goal.eq-requires

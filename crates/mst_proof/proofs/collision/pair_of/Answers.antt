@@ -1,4 +1,4 @@
-use Rattle.std.proofs.Common.{rules}
+use Rattle.mst_proof.proofs.Names.{rules}
 use Rattle.mst_proof.proofs.collision.pair_of.Goals as goal
 
 pub returns-then-not-is_collision-clause-none : goal.returns-then-not-is_collision-clause-none

@@ -1,6 +1,4 @@
-use Rattle.std.proofs.Common.{arith}
-use Rattle.mst_node.specs.declared.node.Node.{out-Node}
-use Rattle.mst_node.specs.Shape.{tree_of_child}
+use Rattle.mst_proof.proofs.Names.{arith, out-Node, tree_of_child}
 use Rattle.mst_proof.proofs.Beside.{held_of_node, held_step, held_end}
 use Rattle.mst_proof.proofs.collision.value_for.Goals as goal
 

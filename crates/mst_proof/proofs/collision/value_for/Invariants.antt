@@ -1,8 +1,4 @@
-use Rattle.std.proofs.Common.{◌≡◌, drop}
-use Rattle.mst_key.specs.declared.format.Format.{Format}
-use Rattle.mst_node.specs.declared.node.Node.{out-Node}
-use Rattle.mst_node.specs.Shape.{tree_of, tree_of_child}
-use Rattle.mst_proof.specs.Beside.{held_value}
+use Rattle.mst_proof.proofs.Names.{◌≡◌, drop, Format, out-Node, tree_of, tree_of_child, held_value}
 use Rattle.mst_proof.proofs.Beside.{held_among}
 use Rattle.mst_proof.proofs.collision.value_for.Given as goal
 

@@ -1,4 +1,4 @@
-use Rattle.std.proofs.Common.{rules}
+use Rattle.mst_proof.proofs.Names.{rules}
 use Rattle.mst_proof.proofs.collision.value_pair.Goals as goal
 
 pub returns-in_default : goal.returns-in_default

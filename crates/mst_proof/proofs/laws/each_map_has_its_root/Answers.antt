@@ -1,4 +1,4 @@
-use Rattle.std.proofs.Common.{refl}
+use Rattle.mst_proof.proofs.Names.{refl}
 use Rattle.mst_proof.proofs.laws.each_map_has_its_root.Goals as goal
 
 pub returns-clause-has : goal.returns-clause-has

@@ -1,5 +1,4 @@
-use Rattle.mst_node.proofs.EntryPlaces.{none-some}
-use Rattle.mst_proof.specs.Verdict.{node_in}
+use Rattle.mst_proof.proofs.Names.{none-some, node_in}
 use Rattle.mst_proof.proofs.Decisions.{node_in-spelt, node_in-read, node_in-none}
 use Rattle.mst_proof.proofs.laws.texts_by_grammar.Goals as goal
 

@@ -1,8 +1,4 @@
-use Rattle.std.proofs.Common.{None, refl, sym, subst}
-use Rattle.mst_key.specs.Map.{IsAscending}
-use Rattle.mst_node.specs.Tree.{tree}
-use Rattle.mst_node.proofs.TreeOrder.{lies_between, between_none}
-use Rattle.mst_node.proofs.UniqueTree.{pairs_tree}
+use Rattle.mst_proof.proofs.Names.{None, refl, sym, subst, IsAscending, tree, lies_between, between_none, pairs_tree}
 use Rattle.mst_proof.proofs.Around.{met_around}
 use Rattle.mst_proof.proofs.laws.trail_by_spans.Goals as goal
 

@@ -1,4 +1,4 @@
-use Rattle.mst_key.specs.declared.format.Format.TheVariants.{One, Two}
+use Rattle.mst_proof.proofs.Names.{One, Two}
 use Rattle.mst_proof.proofs.Heights.{trail_few}
 use Rattle.mst_proof.proofs.laws.trail_is_short.Goals as goal
 

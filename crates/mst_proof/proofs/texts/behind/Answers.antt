@@ -1,4 +1,4 @@
-use Rattle.std.proofs.Common.{◌-◌, ◌+◌, ◌∙◌, arith}
+use Rattle.mst_proof.proofs.Names.{◌-◌, ◌+◌, ◌∙◌, arith}
 use Rattle.mst_proof.proofs.Frames.{rest_more}
 use Rattle.mst_proof.proofs.texts.behind.Goals as goal
 

@@ -1,5 +1,4 @@
-use Rattle.std.proofs.Common.{◌≡◌, ◌-◌}
-use Rattle.mst_proof.specs.Frame.{rest_at}
+use Rattle.mst_proof.proofs.Names.{◌≡◌, ◌-◌, rest_at}
 use Rattle.mst_proof.proofs.texts.behind.Given as goal
 
 -- what lies after the texts to come lies after all

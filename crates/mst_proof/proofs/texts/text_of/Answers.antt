@@ -1,6 +1,4 @@
-use Rattle.std.proofs.Common.{sym, subst, arith}
-use Rattle.mst_key.specs.Bytes.{IsBytes}
-use Rattle.mst_node.proofs.ReadIsSpelled.{bytes-at}
+use Rattle.mst_proof.proofs.Names.{sym, subst, arith, IsBytes, bytes-at}
 use Rattle.mst_proof.proofs.Frames.{bytes_take, bytes_drop}
 use Rattle.mst_proof.proofs.texts.text_of.Goals as goal
 

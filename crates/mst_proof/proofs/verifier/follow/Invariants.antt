@@ -1,5 +1,4 @@
-use Rattle.std.proofs.Common.{◌≡◌, length}
-use Rattle.mst_proof.specs.Verdict.{judgement, followed}
+use Rattle.mst_proof.proofs.Names.{◌≡◌, length, judgement, followed}
 use Rattle.mst_proof.proofs.verifier.follow.Given as goal
 
 -- what the texts to come give is the judgement

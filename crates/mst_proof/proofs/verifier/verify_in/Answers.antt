@@ -1,6 +1,4 @@
-use Rattle.std.proofs.Common.{rules}
-use Rattle.std.proofs.Common.{◌∙◌, sym, arith}
-use Rattle.mst_node.proofs.ReadIsSpelled.{bytes-at}
+use Rattle.mst_proof.proofs.Names.{rules, ◌∙◌, sym, arith, bytes-at}
 use Rattle.mst_proof.proofs.Agreed.{accepted, accepts}
 use Rattle.mst_proof.proofs.Nodewise.{accepted_stepwise, accepted_nodewise}
 use Rattle.mst_proof.proofs.Truth.{proof_accepted, other_answer}

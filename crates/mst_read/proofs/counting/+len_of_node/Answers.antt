@@ -1,7 +1,4 @@
-use Rattle.std.proofs.Common.{◌-◌, ℕ, refl, sym, ◌∙◌, ap, subst, arith, rules}
-use Rattle.mst_node.specs.Tree.{IsMstEntries}
-use Rattle.mst_arena.specs.Standing.{entries_of}
-use Rattle.mst_arena.proofs.EntryParts.{links_at}
+use Rattle.mst_read.proofs.Names.{◌-◌, ℕ, refl, sym, ◌∙◌, ap, subst, arith, rules, IsMstEntries, entries_of, links_at}
 use Rattle.mst_read.proofs.Still.{part_still}
 use Rattle.mst_read.proofs.Descend.{depth_is, lower, reach, inside, at_nothing}
 use Rattle.mst_read.proofs.Walk.{at_cell, at_end, child_lies, tail_lies}

@@ -1,7 +1,5 @@
-use Rattle.std.proofs.Common.{◌≡◌}
+use Rattle.mst_read.proofs.Names.{◌≡◌, entries_pairs, entries_of}
 use Rattle.std.specs.Prelude.{length}
-use Rattle.mst_node.specs.Tree.{entries_pairs}
-use Rattle.mst_arena.specs.Standing.{entries_of}
 use Rattle.mst_read.proofs.Walk.{Onward}
 use Rattle.mst_read.proofs.Gathering.{SomePart}
 use Rattle.mst_read.proofs.Lengths.{Left}

@@ -1,5 +1,4 @@
-use Rattle.std.proofs.Common.{◌≡◌, List, length, refl, ap}
-use Rattle.mst_key.specs.Map.{Pair}
+use Rattle.mst_read.proofs.Names.{◌≡◌, List, length, refl, ap, Pair}
 use Rattle.mst_read.proofs.Still.{part_still}
 use Rattle.mst_read.proofs.Descend.{there_at, reached_at, inside, at_nothing}
 use Rattle.mst_read.proofs.Lengths.{node_stands, node_counts}

@@ -1,6 +1,4 @@
-use Rattle.std.proofs.Common.{◌-◌, refl, ◌∙◌, ap, arith}
-use Rattle.mst_arena.specs.Row.{keyed_links}
-use Rattle.mst_arena.proofs.EntryParts.{links_at}
+use Rattle.mst_read.proofs.Names.{◌-◌, refl, ◌∙◌, ap, arith, keyed_links, links_at}
 use Rattle.mst_read.proofs.Still.{there_still, read_before}
 use Rattle.mst_read.proofs.Stops.{all_ahead, ends_still, stop_before, ends_ahead, gap_link, above_found, none_above, found_link, found_there, found_left, behind_found, nothing_left}
 use Rattle.mst_read.proofs.following.first_above.Goals as goal

@@ -1,7 +1,4 @@
-use Rattle.std.proofs.Common.{◌≡◌, Some}
-use Rattle.mst_key.specs.declared.format.Format.{Format}
-use Rattle.mst_arena.specs.Standing.{Chain}
-use Rattle.mst_read.specs.Search.{LiesBehind}
+use Rattle.mst_read.proofs.Names.{◌≡◌, Some, Format, Chain, LiesBehind}
 use Rattle.mst_read.proofs.Walk.{Onward}
 use Rattle.mst_read.proofs.Ways.{BeginsAbove}
 use Rattle.mst_read.proofs.following.first_above.Given as goal

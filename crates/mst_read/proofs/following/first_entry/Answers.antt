@@ -1,5 +1,4 @@
-use Rattle.std.proofs.Common.{◌-◌}
-use Rattle.mst_arena.proofs.EntryParts.{links_at}
+use Rattle.mst_read.proofs.Names.{◌-◌, links_at}
 use Rattle.mst_read.proofs.Ways.{first_there, first_of_all}
 use Rattle.mst_read.proofs.following.first_entry.Goals as goal
 

@@ -1,7 +1,4 @@
-use Rattle.std.proofs.Common.{Some, ◌∙◌, sym, ap, subst, arith}
-use Rattle.std.specs.Option.{option_copied}
-use Rattle.mst_arena.specs.Row.{keyed_links, entry_pair}
-use Rattle.mst_read.specs.Search.{LinkStands}
+use Rattle.mst_read.proofs.Names.{Some, ◌∙◌, sym, ap, subst, arith, option_copied, keyed_links, entry_pair, LinkStands}
 use Rattle.mst_read.proofs.Still.{there_still, read_before}
 use Rattle.mst_read.proofs.Descend.{Ahead, there_at, reached_at, node_there, ahead_there, reach, lower, inside, at_nothing, depth_is}
 use Rattle.mst_read.proofs.Successor.{Answers, HasPair, pair_at, pair_there, at_start, in_tail, before_entry, pair_met}

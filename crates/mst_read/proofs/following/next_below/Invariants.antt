@@ -1,8 +1,4 @@
-use Rattle.std.proofs.Common.{◌≡◌}
-use Rattle.std.specs.Option.{option_copied}
-use Rattle.std.specs.Prelude.{IfSome}
-use Rattle.mst_arena.specs.Row.{IsHead}
-use Rattle.mst_read.specs.Search.{LinkStands}
+use Rattle.mst_read.proofs.Names.{◌≡◌, option_copied, IfSome, IsHead, LinkStands}
 use Rattle.mst_read.proofs.Descend.{Reached, depth}
 use Rattle.mst_read.proofs.Successor.{Answers, HasPair}
 use Rattle.mst_read.proofs.following.next_below.Given as goal

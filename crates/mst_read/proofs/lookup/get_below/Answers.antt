@@ -1,6 +1,4 @@
-use Rattle.std.proofs.Common.{refl, ◌∙◌, sym, ap, arith}
-use Rattle.mst_arena.specs.Row.{entry_value}
-use Rattle.mst_read.specs.Search.{LinkStands}
+use Rattle.mst_read.proofs.Names.{refl, ◌∙◌, sym, ap, arith, entry_value, LinkStands}
 use Rattle.mst_read.proofs.Still.{there_still, read_before}
 use Rattle.mst_read.proofs.Descend.{Ahead, there_at, reached_at, node_there, ahead_there, reach, lower, inside, at_nothing, depth_is}
 use Rattle.mst_read.proofs.Look.{Finds, in_gap, value_found, value_there}

@@ -1,5 +1,4 @@
-use Rattle.std.proofs.Common.{◌≡◌}
-use Rattle.mst_read.specs.Search.{LinkStands}
+use Rattle.mst_read.proofs.Names.{◌≡◌, LinkStands}
 use Rattle.mst_read.proofs.Descend.{Reached, depth}
 use Rattle.mst_read.proofs.Look.{Finds}
 use Rattle.mst_read.proofs.lookup.get_below.Given as goal

@@ -1,4 +1,4 @@
-use Rattle.std.proofs.Common.{◌∙◌, refl, ap, Some, arith}
+use Rattle.mst_read.proofs.Names.{◌∙◌, refl, ap, Some, arith}
 use Rattle.mst_read.proofs.Stops.{stops_there, place_found, link_some}
 use Rattle.mst_read.proofs.lookup.seek.Goals as goal
 

@@ -1,5 +1,4 @@
-use Rattle.std.proofs.Common.{◌∙◌, sym, ap}
-use Rattle.mst_read.specs.Search.{head_of, gap_placed}
+use Rattle.mst_read.proofs.Names.{◌∙◌, sym, ap, head_of, gap_placed}
 use Rattle.mst_read.proofs.Still.{lies_still}
 use Rattle.mst_read.proofs.Trails.{no_gap_where_found, gap_lies}
 use Rattle.mst_read.proofs.proving.gap_met.Goals as goal

@@ -1,15 +1,7 @@
-use Rattle.std.proofs.Common.{◌≡◌, ◌≤◌, ◌<◌, ℕ, List, [], ◌∷◌, ◌++◌, length, map, Option, refl, ◌∙◌, sym, ap, subst, arith}
+use Rattle.mst_read.proofs.Names.{◌≡◌, ◌≤◌, ◌<◌, ℕ, List, [], ◌∷◌, ◌++◌, length, map, Option, refl, ◌∙◌, sym, ap, subst, arith, IfSome, w32, to_be_bytes, Pair, map_get, Content, Tree, text, format_byte, trail, framed, entries_of, StandsBelow, head_of, gap_placed}
 use Rattle.std.proofs.lemmas.List.{length-map}
-use Rattle.std.specs.Prelude.{IfSome}
-use Rattle.std.specs.Int.{w32, to_be_bytes}
-use Rattle.mst_key.specs.Map.{Pair, map_get}
-use Rattle.mst_arena.specs.Content.{Content}
 use Rattle.mst_node.specs.Tree as tree
-use Rattle.mst_node.specs.Tree.{Tree}
-use Rattle.mst_node.specs.Text.{text, format_byte}
-use Rattle.mst_node.specs.Trail.{trail, framed, answer_text}
-use Rattle.mst_arena.specs.Standing.{entries_of}
-use Rattle.mst_read.specs.Search.{StandsBelow, head_of, gap_placed}
+use Rattle.mst_node.specs.Trail.{answer_text}
 use Rattle.mst_read.proofs.Still.{behind_still}
 use Rattle.mst_read.proofs.Descend.{depth, depth_is, depth_small}
 use Rattle.mst_read.proofs.Trails.{MetNode, framed_length, begins, opens, ends, goes_on, goes_down}

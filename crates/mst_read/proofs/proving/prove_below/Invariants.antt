@@ -1,10 +1,4 @@
-use Rattle.std.proofs.Common.{◌≡◌, ◌≤◌, ◌+◌, ◌*◌, ℕ, List, ◌∷◌, length}
-use Rattle.std.specs.Prelude.{IfSome}
-use Rattle.mst_key.specs.Map.{Pair}
-use Rattle.mst_node.specs.Text.{format_byte}
-use Rattle.mst_node.specs.Trail.{trail}
-use Rattle.mst_arena.specs.Row.{IsHead}
-use Rattle.mst_read.specs.Search.{StandsBelow}
+use Rattle.mst_read.proofs.Names.{◌≡◌, ◌≤◌, ◌+◌, ◌*◌, ℕ, List, ◌∷◌, length, IfSome, Pair, format_byte, trail, IsHead, StandsBelow}
 use Rattle.mst_read.proofs.Descend.{depth}
 use Rattle.mst_read.proofs.Trails.{Met}
 use Rattle.mst_read.proofs.proving.prove_below.Given as goal

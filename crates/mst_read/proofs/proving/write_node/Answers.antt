@@ -1,12 +1,4 @@
-use Rattle.std.proofs.Common.{◌≡◌, ◌-◌, ◌++◌, length, ℕ, List, [], Option, Some, IsSome, ◌∙◌, sym, ap, subst, refl, arith, length-append}
-use Rattle.std.specs.Prelude.{IfSome}
-use Rattle.std.proofs.lemmas.Option.{same_Some}
-use Rattle.mst_node.specs.Text.{heading, child_text, child_digest, counted, held_text, held_of}
-use Rattle.mst_arena.specs.Row.{keyed_links, entry_pair}
-use Rattle.mst_arena.specs.declared.row.KeyedLinks.{KeyedLinks}
-use Rattle.mst_arena.proofs.EntryParts.{links_at}
-use Rattle.mst_key.specs.Map.{Pair}
-use Rattle.mst_arena.specs.Standing.{tree_of}
+use Rattle.mst_read.proofs.Names.{◌≡◌, ◌-◌, ◌++◌, length, ℕ, List, [], Option, Some, IsSome, ◌∙◌, sym, ap, subst, refl, arith, length-append, IfSome, same_Some, heading, child_text, child_digest, counted, held_text, held_of, keyed_links, entry_pair, KeyedLinks, links_at, Pair, tree_of}
 use Rattle.mst_read.proofs.Still.{read_still, there_still}
 use Rattle.mst_read.proofs.Walk.{at_cell, at_end, child_lies, tail_lies}
 use Rattle.mst_read.proofs.Gathering.{cell_pair}

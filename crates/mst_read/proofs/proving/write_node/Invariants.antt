@@ -1,9 +1,4 @@
-use Rattle.std.proofs.Common.{◌≡◌, ◌≤◌, ◌+◌, ◌*◌, ℕ, List, length}
-use Rattle.std.specs.Prelude.{IfSome}
-use Rattle.mst_node.specs.Tree.{node}
-use Rattle.mst_node.specs.Text.{text}
-use Rattle.mst_arena.specs.Standing.{Chain, entries_of}
-use Rattle.mst_read.specs.Search.{LiesBehind}
+use Rattle.mst_read.proofs.Names.{◌≡◌, ◌≤◌, ◌+◌, ◌*◌, ℕ, List, length, IfSome, node, text, Chain, entries_of, LiesBehind}
 use Rattle.mst_read.proofs.Walk.{Onward}
 use Rattle.mst_read.proofs.NodeTexts.{Completes}
 use Rattle.mst_read.proofs.proving.write_node.Given as goal

@@ -1,4 +1,4 @@
-use Rattle.std.proofs.Common.{Some, ◌∙◌, ap, arith, rules}
+use Rattle.mst_read.proofs.Names.{Some, ◌∙◌, ap, arith, rules}
 use Rattle.mst_read.proofs.Gathering.{at_none, ok_same}
 use Rattle.mst_read.proofs.Parts.{gap, rest, gap_there, gap_stands, gap_falls, rest_stands, sums}
 use Rattle.mst_read.proofs.ranges.+gather_from.Goals as goal

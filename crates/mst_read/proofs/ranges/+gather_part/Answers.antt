@@ -1,13 +1,7 @@
-use Rattle.std.proofs.Common.{◌≡◌, ◌-◌, ℕ, List, inl, Option, Some, None, IsSome, Vec, refl, sym, ◌∙◌, ap, subst, arith, rules}
+use Rattle.mst_read.proofs.Names.{◌≡◌, ◌-◌, ℕ, List, inl, Option, Some, None, IsSome, refl, sym, ◌∙◌, ap, subst, arith, rules, pairs, entries_pairs, part_at, keyed_links, entry_pair, KeyedLinks, links_at, tree_of, entries_of, HeadStands, filled}
+use Rattle.std.proofs.Common.{Vec}
 use Rattle.mst_key.specs.declared.key.Key.{Key}
 use Rattle.mst_key.specs.declared.value.Value.{Value}
-use Rattle.mst_node.specs.Tree.{pairs, entries_pairs}
-use Rattle.mst_arena.specs.Content.{part_at}
-use Rattle.mst_arena.specs.Row.{keyed_links, entry_pair}
-use Rattle.mst_arena.specs.declared.row.KeyedLinks.{KeyedLinks}
-use Rattle.mst_arena.proofs.EntryParts.{links_at}
-use Rattle.mst_arena.specs.Standing.{tree_of, entries_of}
-use Rattle.mst_read.specs.Span.{HeadStands, filled}
 use Rattle.mst_read.proofs.Still.{read_still}
 use Rattle.mst_read.proofs.Descend.{depth_is}
 use Rattle.mst_read.proofs.Fillings.{own-ends, own-pushed, pushed}

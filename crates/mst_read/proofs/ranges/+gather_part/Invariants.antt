@@ -1,7 +1,4 @@
-use Rattle.std.proofs.Common.{◌≡◌, None}
-use Rattle.mst_node.specs.Tree.{entries_pairs}
-use Rattle.mst_arena.specs.Standing.{entries_of}
-use Rattle.mst_read.specs.Span.{filled}
+use Rattle.mst_read.proofs.Names.{◌≡◌, None, entries_pairs, entries_of, filled}
 use Rattle.mst_read.proofs.Walk.{Onward}
 use Rattle.mst_read.proofs.Gathering.{Rest, SomePart}
 use Rattle.mst_read.proofs.ranges.+gather_part.Given as goal

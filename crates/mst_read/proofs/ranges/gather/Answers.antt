@@ -1,5 +1,4 @@
-use Rattle.std.proofs.Common.{None, ap}
-use Rattle.mst_read.specs.Span.{filled}
+use Rattle.mst_read.proofs.Names.{None, ap, filled}
 use Rattle.mst_read.proofs.Gathering.{at_none, ok_same}
 use Rattle.mst_read.proofs.Parts.{opened}
 use Rattle.mst_read.proofs.ranges.gather.Goals as goal

@@ -1,8 +1,4 @@
-use Rattle.std.proofs.Common.{◌<◌, ◌-◌, [], Option, None, inl, IsSome, refl, ◌∙◌, sym, ap, subst, arith}
-use Rattle.mst_arena.specs.Row.{keyed_links, entry_pair}
-use Rattle.mst_arena.specs.declared.row.KeyedLinks.{KeyedLinks}
-use Rattle.mst_arena.proofs.EntryParts.{links_at}
-use Rattle.mst_read.specs.Span.{filled, past_gap}
+use Rattle.mst_read.proofs.Names.{◌<◌, ◌-◌, [], Option, None, inl, IsSome, refl, ◌∙◌, sym, ap, subst, arith, keyed_links, entry_pair, KeyedLinks, links_at, filled, past_gap}
 use Rattle.mst_read.proofs.Still.{read_still}
 use Rattle.mst_read.proofs.Fillings.{filled-full, filled-nothing, own-ends, own-pushed, pushed}
 use Rattle.mst_read.proofs.Gathering.{cell_pair, ok_same, no_entries, own, others_stand, both, ends_there}

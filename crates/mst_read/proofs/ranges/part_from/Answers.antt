@@ -1,4 +1,4 @@
-use Rattle.std.proofs.Common.{◌∙◌, ap, Some}
+use Rattle.mst_read.proofs.Names.{◌∙◌, ap, Some}
 use Rattle.mst_read.proofs.Stops.{stops_there, part_found}
 use Rattle.mst_read.proofs.ranges.part_from.Goals as goal
 

@@ -1,9 +1,4 @@
-use Rattle.std.proofs.Common.{ℕ, List, [], Option, ◌∙◌, ap}
-use Rattle.std.specs.Option.{option_copied}
-use Rattle.mst_key.specs.Map.{Pair}
-use Rattle.mst_node.specs.Tree.{pairs}
-use Rattle.mst_arena.specs.Standing.{tree_of}
-use Rattle.mst_read.specs.Span.{filled}
+use Rattle.mst_read.proofs.Names.{ℕ, List, [], Option, ◌∙◌, ap, option_copied, Pair, pairs, tree_of, filled}
 use Rattle.mst_read.proofs.Still.{stands_still}
 use Rattle.mst_read.proofs.Descend.{there_at, pairs_at, head_stands}
 use Rattle.mst_read.proofs.Fillings.{filled-span}

@@ -1,4 +1,4 @@
-use Rattle.std.proofs.Common.{rules}
+use Rattle.mst_read.proofs.Names.{rules}
 use Rattle.mst_read.proofs.roots.root.Goals as goal
 
 pub returns-clause-digest : goal.returns-clause-digest

@@ -1,14 +1,7 @@
-use Rattle.std.proofs.Common.{rules}
-use Rattle.std.proofs.Common.{◌≡◌, Option, Some, inl, sym, refl, ap, subst}
+use Rattle.mst_replay.proofs.Names.{rules, ◌≡◌, Option, Some, inl, sym, refl, ap, subst, Answer, State, Steps, Command, Take, Reply, reply_of, Obeys}
 use Rattle.mst_pin.specs.declared.event.Event.{Event}
-use Rattle.mst_pin.specs.declared.event.Answer.{Answer}
-use Rattle.mst_pin.specs.State.{State, Steps}
 use Rattle.mst_pin.specs.Core.{state}
-use Rattle.mst_replay.specs.declared.command.Command.{Command}
-use Rattle.mst_replay.specs.declared.command.Command.TheVariants.{Take}
-use Rattle.mst_replay.specs.declared.reply.Reply.{Reply}
-use Rattle.mst_replay.specs.Reply.{reply_of}
-use Rattle.mst_replay.specs.Replay.{state_in, core_state, Obeys}
+use Rattle.mst_replay.specs.Replay.{state_in, core_state}
 use Rattle.mst_replay.proofs.Replay.line.Goals as goal
 
 -- an event of a core obeys where the core steps

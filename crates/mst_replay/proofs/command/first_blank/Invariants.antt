@@ -1,4 +1,4 @@
-use Rattle.std.proofs.Common.{◌≡◌, ℕ, ◌<◌, get_or}
+use Rattle.mst_replay.proofs.Names.{◌≡◌, ℕ, ◌<◌, get_or}
 use Rattle.mst_replay.proofs.command.first_blank.Given as goal
 
 abbrev pub invariant-loop-i : goal.invariant-loop-i

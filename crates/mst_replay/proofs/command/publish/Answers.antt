@@ -1,7 +1,4 @@
-use Rattle.std.proofs.Common.{◌≡◌, ℕ, ◌<◌, List, ◌∷◌, ◌++◌, Some, None, length, ◌∙◌, sym, ap, arith}
-use Rattle.std.specs.Prelude.{codes}
-use Rattle.std.specs.Fmt.{decimal}
-use Rattle.mst_replay.specs.Line.{rows_text}
+use Rattle.mst_replay.proofs.Names.{◌≡◌, ℕ, ◌<◌, List, ◌∷◌, ◌++◌, Some, None, length, ◌∙◌, sym, ap, arith, codes, decimal, rows_text}
 use Rattle.mst_replay.proofs.Numbers.{strip_some, cancel}
 use Rattle.mst_replay.proofs.Blanks.{front_of, fields_join, publish_fields}
 use Rattle.mst_replay.proofs.command.publish.Goals as goal

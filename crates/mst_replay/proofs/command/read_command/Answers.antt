@@ -1,4 +1,4 @@
-use Rattle.std.proofs.Common.{rules}
+use Rattle.mst_replay.proofs.Names.{rules}
 use Rattle.mst_replay.proofs.command.read_command.Goals as goal
 
 pub returns-then-passes-le32-clause-some : goal.returns-then-passes-le32-clause-some

@@ -1,5 +1,4 @@
-use Rattle.std.proofs.Common.{[]}
-use Rattle.std.specs.Prelude.{codes}
+use Rattle.mst_replay.proofs.Names.{[], codes}
 use Rattle.mst_replay.proofs.WorkedLines.{fault, no_bytes, other_word, two_blanks, blank_behind, no_number, leading_zero, pass_of_256, no_passes, passes_of_33, row_of_64, rows_that_fall, before_the_first, in_new_core, opens_two}
 use Rattle.mst_replay.proofs.laws.worked_lines.Goals as goal
 

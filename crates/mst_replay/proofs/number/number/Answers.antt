@@ -1,4 +1,4 @@
-use Rattle.std.proofs.Common.{◌≡◌, Some, None, ◌∙◌, sym, true, false}
+use Rattle.mst_replay.proofs.Names.{◌≡◌, Some, None, ◌∙◌, sym, true, false}
 use Rattle.mst_replay.proofs.Numbers.{parsed, text_of_decimal, err_of, ok_of, ap_decimal}
 use Rattle.mst_replay.proofs.number.number.Goals as goal
 

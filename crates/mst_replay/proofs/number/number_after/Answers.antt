@@ -1,4 +1,4 @@
-use Rattle.std.proofs.Common.{◌∙◌, sym}
+use Rattle.mst_replay.proofs.Names.{◌∙◌, sym}
 use Rattle.mst_replay.proofs.Numbers.{cancel, strip_none, strip_some, if_some_prefixed}
 use Rattle.mst_replay.proofs.number.number_after.Goals as goal
 

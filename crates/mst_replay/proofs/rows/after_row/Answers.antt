@@ -1,6 +1,4 @@
-use Rattle.std.proofs.Common.{◌≡◌, ℕ, List, [], ◌∷◌, ◌++◌, ◌∙◌, sym, ap}
-use Rattle.std.specs.Fmt.{decimal}
-use Rattle.mst_replay.specs.Rest.{rest_text}
+use Rattle.mst_replay.proofs.Names.{◌≡◌, ℕ, List, [], ◌∷◌, ◌++◌, ◌∙◌, sym, ap, decimal, rest_text}
 use Rattle.mst_replay.proofs.Numbers.{strip_none, strip_some, if_none, tail_same, empty_of}
 use Rattle.mst_replay.proofs.rows.after_row.Goals as goal
 

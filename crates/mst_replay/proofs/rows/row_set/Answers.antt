@@ -1,8 +1,6 @@
-use Rattle.std.proofs.Common.{rules}
-use Rattle.std.proofs.Common.{◌≡◌, ◌≢◌, ℕ, ◌+◌, ◌*◌, ◌%◌, ◌<◌, ◌^◌, Option, bit_or, List, [], ◌∷◌, Some, true, false, ◌∙◌, sym, ap, subst, arith}
+use Rattle.mst_replay.proofs.Names.{rules, ◌≡◌, ◌≢◌, ℕ, ◌+◌, ◌*◌, ◌%◌, ◌<◌, ◌^◌, Option, bit_or, List, [], ◌∷◌, Some, true, false, ◌∙◌, sym, ap, subst, arith, rest_text}
 use Rattle.std.specs.Cmp.Lexicographic.{bytes_decides}
 use denote.Ref.{Bor}
-use Rattle.mst_replay.specs.Rest.{rest_text}
 use Rattle.mst_replay.proofs.RowLists.{Walked, whole_some, whole_only, minus_only, walked_has, walked_skips, rest_is_text, added_small, added_here, added_below}
 use Rattle.mst_replay.proofs.rows.row_set.Goals as goal
 use Rattle.mst_replay.proofs.rows.row_set.Goals.{in-Some, in_default}

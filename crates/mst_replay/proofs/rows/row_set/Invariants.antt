@@ -1,4 +1,4 @@
-use Rattle.mst_replay.specs.Rest.{rest_text}
+use Rattle.mst_replay.proofs.Names.{rest_text}
 use Rattle.mst_replay.proofs.RowLists.{Walked}
 use Rattle.mst_replay.proofs.rows.row_set.Given as goal
 

@@ -1,5 +1,4 @@
-use Rattle.std.proofs.Common.{arith, rules}
-use Rattle.std.proofs.lemmas.Grind.{common_steps}
+use Rattle.mst_requests.proofs.Names.{arith, rules, common_steps}
 use Rattle.mst_requests.proofs.answer.extend_pinned.Goals as goal
 
 pub extend-requires : goal.extend-requires

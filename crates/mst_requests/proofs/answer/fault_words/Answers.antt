@@ -1,4 +1,4 @@
-use Rattle.std.proofs.Common.{rules}
+use Rattle.mst_requests.proofs.Names.{rules}
 use Rattle.mst_requests.proofs.answer.fault_words.Goals as goal
 
 pub returns-in-LongLine-clause-words : goal.returns-in-LongLine-clause-words

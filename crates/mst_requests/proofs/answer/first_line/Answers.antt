@@ -1,4 +1,4 @@
-use Rattle.std.proofs.Common.{rules}
+use Rattle.mst_requests.proofs.Names.{rules}
 use Rattle.mst_requests.proofs.answer.first_line.Goals as goal
 
 pub new-text-requires : goal.new-text-requires

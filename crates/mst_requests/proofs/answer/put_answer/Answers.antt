@@ -1,9 +1,7 @@
-use Rattle.std.proofs.Common.{◌≡◌, ◌∷◌, [], ◌++◌, ℕ, List, sym, ap, ◌∙◌, subst, rules}
-use Rattle.hex.specs.Hex.{encode_lower}
-use Rattle.mst_devices.specs.Device.{Puts, Breaks}
-use Rattle.mst_requests.specs.Texts.{line_of, count_words, pair_lines}
+use Rattle.mst_requests.proofs.Names.{◌≡◌, ◌∷◌, [], ◌++◌, ℕ, List, sym, ap, ◌∙◌, subst, rules, encode_lower, Puts, Breaks, line_of, pair_lines, breaks_more, on_err, puts_then, puts_breaks}
+use Rattle.mst_requests.specs.Texts.{count_words}
 use Rattle.mst_requests.specs.Answers.{text_of}
-use Rattle.mst_devices.proofs.Putting.{breaks_more, on_err, map_ok, map_err, puts_then, puts_breaks}
+use Rattle.mst_devices.proofs.Putting.{map_ok, map_err}
 use Rattle.mst_requests.proofs.answer.put_answer.Goals as goal
 
 pub returns-in_err-put-in-Pairs-clause-err : goal.returns-in_err-put-in-Pairs-clause-err

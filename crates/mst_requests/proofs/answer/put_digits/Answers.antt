@@ -1,8 +1,5 @@
-use Rattle.std.proofs.lemmas.Grind.{common_steps}
-use Rattle.std.proofs.Common.{refl, ◌≡◌, ◌+◌, ◌++◌, ℕ, List, take, drop, sym, ap, ◌∙◌, subst, rules, arith, length}
-use Rattle.hex.specs.Hex.{encode_lower}
-use Rattle.mst_devices.specs.Device.{Puts, Breaks}
-use Rattle.mst_devices.proofs.Putting.{breaks_more, on_err, puts_none, puts_then, puts_breaks}
+use Rattle.mst_requests.proofs.Names.{common_steps, refl, ◌≡◌, ◌+◌, ◌++◌, ℕ, List, take, drop, sym, ap, ◌∙◌, subst, rules, arith, length, encode_lower, Puts, Breaks, breaks_more, on_err, puts_then, puts_breaks}
+use Rattle.mst_devices.proofs.Putting.{puts_none}
 use Rattle.mst_requests.proofs.Digits.{no_digits, digits_parted, digits_more}
 use Rattle.mst_requests.proofs.answer.put_digits.Goals as goal
 

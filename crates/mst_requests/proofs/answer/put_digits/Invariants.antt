@@ -1,6 +1,4 @@
-use Rattle.std.proofs.Common.{◌≡◌, ◌≤◌, ◌-◌, length, take}
-use Rattle.hex.specs.Hex.{encode_lower}
-use Rattle.mst_devices.specs.Device.{Puts}
+use Rattle.mst_requests.proofs.Names.{◌≡◌, ◌≤◌, ◌-◌, length, take, encode_lower, Puts}
 use Rattle.mst_requests.proofs.answer.put_digits.Given as goal
 
 -- the digits of the bytes before at were put

@@ -1,8 +1,4 @@
-use Rattle.std.proofs.lemmas.Grind.{common_steps}
-use Rattle.std.proofs.Common.{◌≡◌, ◌+◌, ◌++◌, ℕ, List, get_or, take, drop, sym, ap, ◌∙◌, subst, rules, arith}
-use Rattle.mst_devices.specs.Device.{Puts, Breaks}
-use Rattle.mst_requests.specs.Texts.{line_of, pair_words, pair_lines}
-use Rattle.mst_devices.proofs.Putting.{breaks_more, on_err, puts_then, puts_breaks}
+use Rattle.mst_requests.proofs.Names.{common_steps, ◌≡◌, ◌+◌, ◌++◌, ℕ, List, get_or, take, drop, sym, ap, ◌∙◌, subst, rules, arith, Puts, Breaks, line_of, pair_words, pair_lines, breaks_more, on_err, puts_then, puts_breaks}
 use Rattle.mst_requests.proofs.Pairs.{one_more, parted}
 use Rattle.mst_requests.proofs.answer.put_pairs.Goals as goal
 

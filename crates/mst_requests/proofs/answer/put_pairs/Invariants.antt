@@ -1,6 +1,4 @@
-use Rattle.std.proofs.Common.{◌≡◌, take}
-use Rattle.mst_devices.specs.Device.{Puts}
-use Rattle.mst_requests.specs.Texts.{pair_lines}
+use Rattle.mst_requests.proofs.Names.{◌≡◌, take, Puts, pair_lines}
 use Rattle.mst_requests.proofs.answer.put_pairs.Given as goal
 
 -- the pairs so far were put

@@ -1,6 +1,4 @@
-use Rattle.std.proofs.Common.{rules, sym, ap, ◌∙◌}
-use Rattle.mst_requests.specs.Fields.{fields_behind}
-use Rattle.mst_requests.specs.Batches.{edits_in, told}
+use Rattle.mst_requests.proofs.Names.{rules, sym, ap, ◌∙◌, fields_behind, edits_in, told}
 use Rattle.mst_requests.proofs.Batching.{comes_to, one_more}
 use Rattle.mst_requests.proofs.edits.batch_fault.Goals as goal
 

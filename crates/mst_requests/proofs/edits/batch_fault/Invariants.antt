@@ -1,8 +1,4 @@
-use Rattle.std.proofs.Common.{◌≡◌, ◌≤◌, length, IfSome}
-use Rattle.std.specs.Result.{result_err}
-use Rattle.mst_lines.specs.Lines.{longest_line}
-use Rattle.mst_requests.specs.Fields.{fields_behind}
-use Rattle.mst_requests.specs.Batches.{edits_in, edits_read}
+use Rattle.mst_requests.proofs.Names.{◌≡◌, ◌≤◌, length, IfSome, result_err, longest_line, fields_behind, edits_in, edits_read}
 use Rattle.mst_requests.proofs.Batching.{left, comes_to}
 use Rattle.mst_requests.proofs.edits.batch_fault.Given as goal
 

@@ -1,4 +1,4 @@
-use Rattle.std.proofs.Common.{rules}
+use Rattle.mst_requests.proofs.Names.{rules}
 use Rattle.mst_requests.proofs.edits.first_edit.Goals as goal
 
 pub returns-in_err-rest-clause-edits : goal.returns-in_err-rest-clause-edits

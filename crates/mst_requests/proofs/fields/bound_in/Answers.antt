@@ -1,4 +1,4 @@
-use Rattle.std.proofs.Common.{rules}
+use Rattle.mst_requests.proofs.Names.{rules}
 use Rattle.mst_requests.proofs.fields.bound_in.Goals as goal
 
 pub bytes_of-requires : goal.bytes_of-requires

@@ -1,4 +1,4 @@
-use Rattle.std.proofs.Common.{rules}
+use Rattle.mst_requests.proofs.Names.{rules}
 use Rattle.mst_requests.proofs.fields.bytes_of.Goals as goal
 
 pub as_slice-requires : goal.as_slice-requires

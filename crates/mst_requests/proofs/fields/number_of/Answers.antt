@@ -1,6 +1,4 @@
-use Rattle.std.proofs.lemmas.Grind.{common_steps}
-use Rattle.std.proofs.Common.{◌≡◌, ◌+◌, ◌-◌, ◌*◌, get_or, drop, sym, ◌∙◌, arith, true, rules}
-use Rattle.std.specs.Char.{is_ascii_digit}
+use Rattle.mst_requests.proofs.Names.{common_steps, ◌≡◌, ◌+◌, ◌-◌, ◌*◌, get_or, drop, sym, ◌∙◌, arith, true, rules, is_ascii_digit}
 use Rattle.mst_requests.proofs.Numbers.{too_much, one_digit}
 use Rattle.mst_requests.proofs.fields.number_of.Goals as goal
 

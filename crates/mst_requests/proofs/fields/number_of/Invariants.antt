@@ -1,5 +1,4 @@
-use Rattle.std.proofs.Common.{◌≡◌, ◌≤◌, drop}
-use Rattle.mst_requests.specs.Fields.{number_up_to}
+use Rattle.mst_requests.proofs.Names.{◌≡◌, ◌≤◌, drop, number_up_to}
 use Rattle.mst_requests.proofs.fields.number_of.Given as goal
 
 -- what is left decides

@@ -1,5 +1,4 @@
-use Rattle.std.proofs.Common.{refl, arith, ap, length}
-use Rattle.mst_requests.specs.Fields.{fields_behind}
+use Rattle.mst_requests.proofs.Names.{refl, arith, ap, length, fields_behind}
 use Rattle.mst_requests.proofs.Blanks.{some_field}
 use Rattle.mst_requests.proofs.fields.one_field.Goals as goal
 

@@ -1,4 +1,4 @@
-use Rattle.std.proofs.Common.{rules}
+use Rattle.mst_requests.proofs.Names.{rules}
 use Rattle.mst_requests.proofs.fields.pass_of.Goals as goal
 
 pub bounds-field-0 : goal.bounds-field-0

@@ -1,4 +1,4 @@
-use Rattle.std.proofs.Common.{rules}
+use Rattle.mst_requests.proofs.Names.{rules}
 use Rattle.mst_requests.proofs.parse.get_command.Goals as goal
 
 pub key_alone-requires : goal.key_alone-requires

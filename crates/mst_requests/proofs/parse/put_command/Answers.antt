@@ -1,4 +1,4 @@
-use Rattle.std.proofs.Common.{rules}
+use Rattle.mst_requests.proofs.Names.{rules}
 use Rattle.mst_requests.proofs.parse.put_command.Goals as goal
 
 pub two_fields-requires : goal.two_fields-requires

@@ -1,4 +1,4 @@
-use Rattle.std.proofs.Common.{rules}
+use Rattle.mst_requests.proofs.Names.{rules}
 use Rattle.mst_requests.proofs.parse.range_command.Goals as goal
 
 pub three_fields-requires : goal.three_fields-requires

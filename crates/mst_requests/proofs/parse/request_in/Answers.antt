@@ -1,8 +1,5 @@
-use Rattle.std.proofs.Common.{Some, subst, sym}
-use Rattle.std.specs.Prelude.{Result, IfOk}
+use Rattle.mst_requests.proofs.Names.{Some, subst, sym, Result, IfOk, Fault, IsDealt}
 use Rattle.mst_requests.specs.declared.request.Request.{Request}
-use Rattle.mst_requests.specs.declared.request.Fault.{Fault}
-use Rattle.mst_requests.specs.Grammar.{IsDealt}
 use Rattle.mst_requests.proofs.Dealing.{asked_dealt}
 use Rattle.mst_requests.proofs.parse.request_in.Goals as goal
 

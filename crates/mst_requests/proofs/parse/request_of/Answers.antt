@@ -1,4 +1,4 @@
-use Rattle.std.proofs.Common.{rules}
+use Rattle.mst_requests.proofs.Names.{rules}
 use Rattle.mst_requests.proofs.parse.request_of.Goals as goal
 
 pub returns-in_default : goal.returns-in_default

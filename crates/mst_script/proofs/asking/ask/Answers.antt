@@ -1,18 +1,12 @@
-use Rattle.std.proofs.Common.{◌≡◌, [], rules, refl, sym, ap, ◌∙◌}
-use Rattle.std.specs.Option.{option_copied}
+use Rattle.mst_script.proofs.Names.{◌≡◌, [], rules, refl, sym, ap, ◌∙◌, option_copied, Put, Remove, Migrate, Get, Next, Root, Unpin, Rows, map_get, Format, line_of, fault_words, value_words, text_of, false≢true, is_pin}
 use Rattle.mst_key.specs.declared.history.Change.TheVariants as change
-use Rattle.mst_requests.specs.declared.request.Command.TheVariants.{Put, Remove, Migrate, Get, Next, Root, Unpin, Rows}
 use Rattle.mst_requests.specs.declared.request.Command.TheVariants as ask
 use Rattle.mst_requests.specs.declared.request.Fault.TheVariants.{Pinning}
-use Rattle.mst_key.specs.Map.{map_get, map_next}
-use Rattle.mst_key.specs.declared.format.Format.{Format}
+use Rattle.mst_key.specs.Map.{map_next}
 use Rattle.mst_node.specs.Text.{root}
 use Rattle.mst_key.specs.Digits.{digits_of}
-use Rattle.mst_requests.specs.Texts.{line_of, fault_words, value_words, found_words, format_words}
-use Rattle.mst_requests.specs.Answers.{text_of}
+use Rattle.mst_requests.specs.Texts.{found_words, format_words}
 use Rattle.mst_script.proofs.Calling.{asked, unmoved, written, migrated, read_found, counted}
-use Rattle.std.proofs.lemmas.Bool.{false≢true}
-use Rattle.mst_script.specs.Serving.{is_pin}
 use Rattle.mst_script.proofs.asking.ask.Goals as goal
 
 pub returns-in-Put : goal.returns-in-Put

@@ -1,8 +1,4 @@
-use Rattle.std.proofs.Common.{◌≡◌, [], rules, refl, sym, ap, inr}
-use Rattle.std.specs.Prelude.{codes}
-use Rattle.mst_requests.specs.declared.request.Command.TheVariants.{Batch}
-use Rattle.mst_requests.specs.Answers.{text_of}
-use Rattle.mst_requests.specs.Texts.{line_of}
+use Rattle.mst_script.proofs.Names.{◌≡◌, [], rules, refl, sym, ap, inr, codes, Batch, text_of, line_of}
 use Rattle.mst_script.proofs.Calling.{applied, asked, unmoved}
 use Rattle.mst_script.proofs.asking.ask_batch.Goals as goal
 

@@ -1,13 +1,4 @@
-use Rattle.std.proofs.Common.{rules}
-use Rattle.std.proofs.Common.{◌≡◌, refl, ◌∙◌}
-use Rattle.mst_node.specs.Tree.{tree}
-use Rattle.mst_requests.specs.declared.request.Command.TheVariants.{Node}
-use Rattle.std.specs.Prelude.{codes}
-use Rattle.mst_requests.specs.Texts.{line_of}
-use Rattle.mst_script.specs.Machine.{top_words}
-use Rattle.mst_key.specs.History.{after}
-use Rattle.mst_store.specs.Passes.{format_seen}
-use Rattle.mst_requests.specs.Answers.{text_of}
+use Rattle.mst_script.proofs.Names.{rules, ◌≡◌, refl, ◌∙◌, tree, Node, codes, line_of, top_words, after, format_seen, text_of}
 use Rattle.mst_script.proofs.Calling.{asked, collected, missed}
 use Rattle.mst_script.proofs.asking.ask_node.Goals as goal
 

@@ -1,10 +1,5 @@
-use Rattle.std.proofs.Common.{rules}
-use Rattle.std.proofs.Common.{refl}
-use Rattle.hex.specs.Hex.{encode_lower}
+use Rattle.mst_script.proofs.Names.{rules, refl, encode_lower, Prove, codes, line_of}
 use Rattle.mst_node.specs.Trail.{proof_text}
-use Rattle.mst_requests.specs.declared.request.Command.TheVariants.{Prove}
-use Rattle.std.specs.Prelude.{codes}
-use Rattle.mst_requests.specs.Texts.{line_of}
 use Rattle.mst_script.proofs.Calling.{asked, missed}
 use Rattle.mst_script.proofs.asking.ask_proof.Goals as goal
 

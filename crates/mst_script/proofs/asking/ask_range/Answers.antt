@@ -1,10 +1,6 @@
-use Rattle.std.proofs.Common.{rules}
-use Rattle.std.proofs.Common.{◌++◌, List, refl}
-use Rattle.std.specs.Option.{option_copied}
-use Rattle.mst_key.specs.Map.{Pair, map_range}
-use Rattle.mst_requests.specs.declared.request.Command.TheVariants.{Range}
-use Rattle.std.specs.Prelude.{codes}
-use Rattle.mst_requests.specs.Texts.{line_of, count_words, pair_lines}
+use Rattle.mst_script.proofs.Names.{rules, ◌++◌, List, refl, option_copied, Pair, Range, codes, line_of}
+use Rattle.mst_key.specs.Map.{map_range}
+use Rattle.mst_requests.specs.Texts.{count_words, pair_lines}
 use Rattle.mst_script.proofs.Calling.{asked, missed}
 use Rattle.mst_script.proofs.asking.ask_range.Goals as goal
 

@@ -1,4 +1,4 @@
-use Rattle.std.proofs.Common.{rules}
+use Rattle.mst_script.proofs.Names.{rules}
 use Rattle.mst_script.proofs.asking.rows_answer_of.Goals as goal
 
 pub returns-in-Ok : goal.returns-in-Ok

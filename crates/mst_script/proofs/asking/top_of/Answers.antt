@@ -1,9 +1,5 @@
-use Rattle.std.proofs.Common.{◌≡◌, ◌∙◌, ◌<◌, ◌^◌, length, sym, ap, inl, rules}
-use Rattle.mst_key.specs.Map.{map_get}
+use Rattle.mst_script.proofs.Names.{◌≡◌, ◌∙◌, ◌<◌, ◌^◌, length, sym, ap, inl, rules, map_get, tree, encode_lower, line_of}
 use Rattle.mst_node.specs.Trail.{answer_text}
-use Rattle.mst_node.specs.Tree.{tree}
-use Rattle.hex.specs.Hex.{encode_lower}
-use Rattle.mst_requests.specs.Texts.{line_of}
 use Rattle.mst_script.proofs.ProofTops.{no_top, some_top}
 use Rattle.mst_script.proofs.asking.top_of.Goals as goal
 

@@ -1,4 +1,4 @@
-use Rattle.std.proofs.Common.{rules}
+use Rattle.mst_script.proofs.Names.{rules}
 use Rattle.mst_script.proofs.recalling.recall.Goals as goal
 
 pub returns-in-Get-clause-found : goal.returns-in-Get-clause-found

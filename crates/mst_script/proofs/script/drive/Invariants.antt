@@ -1,6 +1,5 @@
-use Rattle.std.proofs.Common.{◌≡◌, ◌+◌, length}
+use Rattle.mst_script.proofs.Names.{◌≡◌, ◌+◌, length, AreAllOf, everyone, Serves}
 use Rattle.mst_lines.specs.Driving.{Reached}
-use Rattle.mst_script.specs.Serving.{AreAllOf, everyone, Serves}
 use Rattle.mst_script.proofs.script.drive.Given as goal
 
 -- the lines so far are answered

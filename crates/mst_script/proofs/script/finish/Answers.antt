@@ -1,6 +1,4 @@
-use Rattle.std.proofs.Common.{rules}
-use Rattle.mst_script.specs.Serving.{Serves}
-use Rattle.mst_devices.proofs.Putting.{map_ok, map_err}
+use Rattle.mst_script.proofs.Names.{rules, Serves, map_ok, map_err}
 use Rattle.mst_lines.proofs.Driving.{not_both, nothing_closed, answered_not_closed}
 use Rattle.mst_script.proofs.script.finish.Goals as goal
 

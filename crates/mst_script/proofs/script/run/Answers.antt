@@ -1,7 +1,5 @@
-use Rattle.std.proofs.Common.{List, vec_items, rules, subst, sym}
-use Rattle.mst_store.specs.Passes.{Known}
-use Rattle.mst_script.specs.Serving.{AreAllOf}
-use Rattle.mst_script.specs.Scripts.{RanScript, StoppedScript}
+use Rattle.mst_script.proofs.Names.{List, rules, subst, sym, Known, AreAllOf, RanScript, StoppedScript}
+use Rattle.std.proofs.Common.{vec_items}
 use Rattle.mst_script.proofs.script.run.Goals as goal
 
 pub returns-in-Err-clause-whole : goal.returns-in-Err-clause-whole

@@ -1,5 +1,4 @@
-use Rattle.std.proofs.Common.{rules}
-use Rattle.mst_devices.proofs.Putting.{map_ok, map_err}
+use Rattle.mst_script.proofs.Names.{rules, map_ok, map_err}
 use Rattle.mst_script.proofs.AllOf.{all_passes, all_settled, all_free_again}
 use Rattle.mst_script.proofs.Ends.{all_released}
 use Rattle.mst_script.proofs.Scripts.{ran_script, stopped_script}

@@ -1,8 +1,4 @@
-use Rattle.std.proofs.Common.{rules}
-use Rattle.std.proofs.Common.{sym, refl, ◌∙◌, subst}
-use Rattle.std.specs.Prelude.{codes}
-use Rattle.mst_requests.specs.Answers.{text_of}
-use Rattle.mst_requests.specs.Texts.{line_of, pinned_words}
+use Rattle.mst_script.proofs.Names.{rules, sym, refl, ◌∙◌, subst, codes, text_of, line_of, pinned_words}
 use Rattle.mst_script.specs.Serving.{IsFound}
 use Rattle.mst_script.proofs.Serving.{all_asked, does_ask, all_recalled, does_recall, all_pinned, does_pin, all_unpinned, does_unpin}
 use Rattle.mst_script.proofs.serve.answer.Goals as goal

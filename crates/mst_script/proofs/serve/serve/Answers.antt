@@ -1,4 +1,4 @@
-use Rattle.std.proofs.Common.{rules}
+use Rattle.mst_script.proofs.Names.{rules}
 use Rattle.mst_script.proofs.AllOf.{all_passes, all_settled}
 use Rattle.mst_script.proofs.Serving.{line_served}
 use Rattle.mst_script.proofs.serve.serve.Goals as goal

@@ -1,4 +1,4 @@
-use Rattle.std.proofs.Common.{◌∙◌, sym}
+use Rattle.mst_sharded_proof.proofs.Names.{◌∙◌, sym}
 use Rattle.mst_sharded_proof.proofs.Audited.{audited, directory_audited}
 use Rattle.mst_sharded_proof.proofs.Auditing.{fails_audit, audit_faulty}
 use Rattle.mst_sharded_proof.proofs.audit.audit_directory.Goals as goal

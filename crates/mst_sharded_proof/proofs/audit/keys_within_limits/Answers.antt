@@ -1,9 +1,6 @@
-use Rattle.std.proofs.Common.{◌≡◌, ◌∙◌, ◌+◌, ◌∷◌, ◌++◌, [], ℕ, take, length, sym, ap, subst, arith}
+use Rattle.mst_sharded_proof.proofs.Names.{◌≡◌, ◌∙◌, ◌+◌, ◌∷◌, ◌++◌, [], ℕ, take, length, sym, ap, subst, arith, AllByRecursion, IsKey, Pair}
 use Rattle.std.proofs.Math.Seq.{take-length}
 use Rattle.std.proofs.lemmas.List.{take_more}
-use Rattle.std.specs.List.{AllByRecursion}
-use Rattle.mst_key.specs.Bytes.{IsKey}
-use Rattle.mst_key.specs.Map.{Pair}
 use Rattle.mst_key.proofs.Alls.{alls-append}
 use Rattle.mst_sharded_proof.proofs.audit.keys_within_limits.Goals as goal
 

@@ -1,6 +1,4 @@
-use Rattle.std.proofs.Common.{take}
-use Rattle.std.specs.List.{AllByRecursion}
-use Rattle.mst_key.specs.Bytes.{IsKey}
+use Rattle.mst_sharded_proof.proofs.Names.{take, AllByRecursion, IsKey}
 use Rattle.mst_sharded_proof.proofs.audit.keys_within_limits.Given as goal
 
 -- the keys so far are within their limits

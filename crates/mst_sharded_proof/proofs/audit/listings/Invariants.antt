@@ -1,5 +1,4 @@
-use Rattle.std.proofs.Common.{◌≡◌, drop}
-use Rattle.mst_sharded_proof.specs.Auditing.{listings_from}
+use Rattle.mst_sharded_proof.proofs.Names.{◌≡◌, drop, listings_from}
 use Rattle.mst_sharded_proof.proofs.audit.listings.Given as goal
 
 -- the listings that are left decide

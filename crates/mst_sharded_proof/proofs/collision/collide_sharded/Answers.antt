@@ -1,8 +1,7 @@
-use Rattle.std.proofs.Common.{subst, IfSome, IfNone}
+use Rattle.mst_sharded_proof.proofs.Names.{subst, ShowsNoOther, CollidesWith, shard_of, part_of, directory}
+use Rattle.std.proofs.Common.{IfSome, IfNone}
 use Rattle.std.specs.Option.{option_copied}
-use Rattle.mst_proof.specs.Beside.{top_of, ShowsNoOther}
-use Rattle.mst_proof.specs.Theorem.{CollidesWith}
-use Rattle.mst_sharded_proof.specs.Shards.{shard_of, part_of, directory}
+use Rattle.mst_proof.specs.Beside.{top_of}
 use Rattle.mst_sharded_proof.proofs.Collide.{of_directory, of_shard, none_of_both, some_over, some_under, if_none, if_some}
 use Rattle.mst_sharded_proof.proofs.collision.collide_sharded.Goals as goal
 

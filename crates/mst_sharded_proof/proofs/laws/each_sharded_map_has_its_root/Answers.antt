@@ -1,4 +1,4 @@
-use Rattle.std.proofs.Common.{refl}
+use Rattle.mst_sharded_proof.proofs.Names.{refl}
 use Rattle.mst_sharded_proof.proofs.laws.each_sharded_map_has_its_root.Goals as goal
 
 pub returns-clause-has : goal.returns-clause-has

@@ -1,9 +1,4 @@
-use Rattle.std.proofs.Common.{List, ℕ, [], arith}
-use Rattle.mst_key.specs.Bytes.{IsKey}
-use Rattle.mst_key.specs.Map.{Pair}
-use Rattle.mst_key.specs.declared.format.Format.{Format}
-use Rattle.mst_key.specs.declared.format.Format.TheVariants.{One}
-use Rattle.mst_sharded_proof.specs.Shards.{least, AreSplits, shard_of}
+use Rattle.mst_sharded_proof.proofs.Names.{List, ℕ, [], arith, IsKey, Pair, Format, One, least, AreSplits, shard_of}
 use Rattle.mst_sharded_proof.proofs.Shards.{part_get, directory_map}
 use Rattle.mst_sharded_proof.proofs.Complete.{Listed, listed_of, least_first}
 use Rattle.mst_sharded_proof.proofs.laws.shards_of_keys.Goals as goal

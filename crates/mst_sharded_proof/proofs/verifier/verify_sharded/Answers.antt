@@ -1,5 +1,5 @@
+use Rattle.mst_sharded_proof.proofs.Names.{◌∙◌, sym, arith}
 use Rattle.std.proofs.Common.{rules}
-use Rattle.std.proofs.Common.{◌∙◌, sym, arith}
 use Rattle.mst_node.proofs.ReadIsSpelled.{bytes-at}
 use Rattle.mst_sharded_proof.proofs.Agreed.{sharded_accepted, sharded_accepts}
 use Rattle.mst_sharded_proof.proofs.Complete.{sharded_complete}

@@ -1,4 +1,4 @@
-use Rattle.std.proofs.Common.{refl}
+use Rattle.mst_sharded_script.proofs.Names.{refl}
 use Rattle.mst_sharded_script.proofs.asking.get.Goals as goal
 
 pub returns : goal.returns

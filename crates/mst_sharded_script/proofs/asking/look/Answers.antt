@@ -1,5 +1,4 @@
-use Rattle.std.proofs.Common.{◌∙◌}
-use Rattle.mst_sharded_script.specs.Answers.{text_of}
+use Rattle.mst_sharded_script.proofs.Names.{◌∙◌, text_of}
 use Rattle.mst_sharded_script.proofs.Stepping.{looks_on, looked}
 use Rattle.mst_sharded_script.proofs.asking.look.Goals as goal
 

@@ -1,7 +1,4 @@
-use Rattle.std.proofs.Common.{◌≡◌, true, refl}
-use Rattle.mst_requests.specs.declared.request.Command.TheVariants.{Get, Pin, Node, Rows, Unpin}
-use Rattle.mst_sharded_script.specs.Answers.{text_of}
-use Rattle.mst_sharded_script.specs.Serving.{is_look}
+use Rattle.mst_sharded_script.proofs.Names.{◌≡◌, true, refl, Get, Pin, Node, Rows, Unpin, text_of, is_look}
 use Rattle.mst_sharded_script.proofs.Stepping.{other_looks, acts_as, acts_look}
 use Rattle.mst_sharded_script.proofs.asking.read.Goals as goal
 

@@ -1,4 +1,4 @@
-use Rattle.mst_shards.specs.Sharding.{map_of}
+use Rattle.mst_sharded_script.proofs.Names.{map_of}
 use Rattle.mst_sharded_script.proofs.Loading.{if_all}
 use Rattle.mst_sharded_script.proofs.moving.all_pairs.Goals as goal
 

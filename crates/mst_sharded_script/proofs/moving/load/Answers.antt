@@ -1,8 +1,5 @@
-use Rattle.std.proofs.Common.{◌≡◌, ◌∙◌, rules, vec_items}
-use Rattle.mst_shards.specs.BlockHistory.{Whole}
-use Rattle.mst_shards.specs.Sharding.{map_of}
-use Rattle.mst_sharded_script.specs.Answers.{text_of}
-use Rattle.mst_sharded_script.specs.Serving.{puts_of, Loads, LacksMap}
+use Rattle.mst_sharded_script.proofs.Names.{◌≡◌, ◌∙◌, rules, vec_items, Whole, map_of, text_of, puts_of}
+use Rattle.mst_sharded_script.specs.Serving.{Loads, LacksMap}
 use Rattle.mst_sharded_script.proofs.Loading.{each_ok, each_err}
 use Rattle.mst_sharded_script.proofs.moving.load.Goals as goal
 

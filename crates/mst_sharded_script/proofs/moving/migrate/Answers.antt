@@ -1,6 +1,5 @@
-use Rattle.std.proofs.Common.{inl, inr, refl, ap, ◌∙◌}
-use Rattle.mst_sharded_script.specs.Answers.{text_of}
-use Rattle.mst_sharded_script.specs.States.{Free}
+use Rattle.mst_sharded_script.proofs.Names.{refl, ap, ◌∙◌, text_of, Free}
+use Rattle.std.proofs.Common.{inl, inr}
 use Rattle.mst_sharded_script.proofs.Stepping.{moved_on}
 use Rattle.mst_sharded_script.proofs.moving.migrate.Goals as goal
 

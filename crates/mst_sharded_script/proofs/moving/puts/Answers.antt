@@ -1,11 +1,5 @@
-use Rattle.std.proofs.Common.{◌∷◌, ◌++◌, [], List, vec_items, rules, sym, ap, ◌∙◌}
-use Rattle.std.proofs.lemmas.List.{map-append}
-use Rattle.std.specs.Vec.Iter.{into_iter_items}
-use Rattle.mst_key.specs.declared.history.Edit.{Edit}
+use Rattle.mst_sharded_script.proofs.Names.{◌∷◌, ◌++◌, [], List, vec_items, rules, sym, ap, ◌∙◌, map-append, into_iter_items, Edit, Pair, goes_on, all_gone, puts_of}
 use Rattle.mst_key.specs.declared.history.Edit.TheVariants.{Put}
-use Rattle.mst_key.specs.Map.{Pair}
-use Rattle.mst_shards.proofs.HandingOut.{goes_on, all_gone}
-use Rattle.mst_sharded_script.specs.Serving.{puts_of}
 use Rattle.mst_sharded_script.proofs.moving.puts.Goals as goal
 
 pub loop-pair-init : goal.loop-pair-init

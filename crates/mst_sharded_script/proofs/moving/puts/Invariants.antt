@@ -1,7 +1,5 @@
+use Rattle.mst_sharded_script.proofs.Names.{into_iter_items, Pair, puts_of}
 use Rattle.std.specs.Prelude.{◌≡◌, ◌++◌, List, vec_items}
-use Rattle.std.specs.Vec.Iter.{into_iter_items}
-use Rattle.mst_key.specs.Map.{Pair}
-use Rattle.mst_sharded_script.specs.Serving.{puts_of}
 use Rattle.mst_sharded_script.proofs.moving.puts.Given as goal
 
 -- the pairs so far are put, and the others are still to come

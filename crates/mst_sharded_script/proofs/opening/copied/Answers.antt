@@ -1,4 +1,4 @@
-use Rattle.std.proofs.Common.{◌∙◌, ◌∷◌, ◌++◌, [], ℕ, List, take, sym, ap, arith}
+use Rattle.mst_sharded_script.proofs.Names.{◌∙◌, ◌∷◌, ◌++◌, [], ℕ, List, take, sym, ap, arith}
 use Rattle.std.proofs.lemmas.List.{take_more}
 use Rattle.mst_sharded_script.proofs.opening.copied.Goals as goal
 

@@ -1,4 +1,5 @@
-use Rattle.std.specs.Prelude.{◌≡◌, ◌≤◌, take, length, vec_len, vec_capacity, vec_items}
+use Rattle.mst_sharded_script.proofs.Names.{◌≤◌}
+use Rattle.std.specs.Prelude.{◌≡◌, take, length, vec_len, vec_capacity, vec_items}
 use Rattle.mst_sharded_script.proofs.opening.copied.Given as goal
 
 abbrev pub invariant-loop-split : goal.invariant-loop-split

@@ -1,8 +1,4 @@
-use Rattle.std.proofs.Common.{◌≡◌, IfSome, rules, vec_items, subst}
-use Rattle.std.specs.Prelude.{IfOk}
-use Rattle.std.specs.Arc.{arc_value}
-use Rattle.mst_shards.specs.Opening.{Shards}
-use Rattle.mst_sharded_script.specs.Opening.{AreNewOf}
+use Rattle.mst_sharded_script.proofs.Names.{◌≡◌, IfSome, rules, vec_items, subst, IfOk, arc_value, Shards, AreNewOf}
 use Rattle.mst_sharded_script.proofs.opening.deal_map.Goals as goal
 
 pub returns : goal.returns

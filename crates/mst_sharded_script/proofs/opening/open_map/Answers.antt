@@ -1,5 +1,4 @@
-use Rattle.std.proofs.Common.{vec_items}
-use Rattle.mst_sharded_script.specs.Opening.{Opens}
+use Rattle.mst_sharded_script.proofs.Names.{vec_items, Opens}
 use Rattle.mst_sharded_script.proofs.Opened.{count_readers, if_is}
 use Rattle.mst_sharded_script.proofs.opening.open_map.Goals as goal
 

@@ -1,12 +1,4 @@
-use Rattle.std.proofs.Common.{◌∷◌, ◌++◌, [], List, map, vec_items, rules, sym, ap, subst, ◌∙◌}
-use Rattle.std.proofs.lemmas.List.{map-append}
-use Rattle.std.specs.Arc.{arc_value}
-use Rattle.std.specs.List.{AllByRecursion}
-use Rattle.std.specs.Vec.Iter.{into_iter_items}
-use Rattle.mst_shards.specs.BlockHistory.{Whole}
-use Rattle.mst_shards.specs.Opening.{Shards, Dealt, IsLot}
-use Rattle.mst_shards.proofs.HandingOut.{goes_on, all_gone}
-use Rattle.mst_sharded_script.specs.Opening.{reader_of}
+use Rattle.mst_sharded_script.proofs.Names.{◌∷◌, ◌++◌, [], List, map, vec_items, rules, sym, ap, subst, ◌∙◌, map-append, arc_value, AllByRecursion, into_iter_items, Whole, Shards, Dealt, IsLot, goes_on, all_gone, reader_of}
 use Rattle.mst_sharded_script.proofs.opening.readers_of.Goals as goal
 
 pub loop-lot-init : goal.loop-lot-init

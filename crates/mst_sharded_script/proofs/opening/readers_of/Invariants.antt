@@ -1,9 +1,5 @@
+use Rattle.mst_sharded_script.proofs.Names.{arc_value, AllByRecursion, into_iter_items, Dealt, IsLot, reader_of}
 use Rattle.std.specs.Prelude.{◌≡◌, ◌++◌, List, map, vec_items}
-use Rattle.std.specs.Arc.{arc_value}
-use Rattle.std.specs.List.{AllByRecursion}
-use Rattle.std.specs.Vec.Iter.{into_iter_items}
-use Rattle.mst_shards.specs.Opening.{Dealt, IsLot}
-use Rattle.mst_sharded_script.specs.Opening.{reader_of}
 use Rattle.mst_sharded_script.proofs.opening.readers_of.Given as goal
 
 -- the lots so far have their readers, and the others are still to come

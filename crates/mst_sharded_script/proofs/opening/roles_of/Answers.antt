@@ -1,8 +1,4 @@
-use Rattle.std.proofs.Common.{◌≡◌, ◌-◌, [], rules, vec_items, subst}
-use Rattle.std.specs.Arc.{arc_value}
-use Rattle.mst_shards.specs.BlockHistory.{Whole}
-use Rattle.mst_shards.specs.Opening.{Shards, first_lots}
-use Rattle.mst_blocks.specs.Writing.{IsWriterOf, HasMade}
+use Rattle.mst_sharded_script.proofs.Names.{◌≡◌, ◌-◌, [], rules, vec_items, subst, arc_value, Whole, Shards, first_lots, IsWriterOf, HasMade}
 use Rattle.mst_sharded_script.proofs.Opened.{if_is, new_of}
 use Rattle.mst_sharded_script.proofs.opening.roles_of.Goals as goal
 

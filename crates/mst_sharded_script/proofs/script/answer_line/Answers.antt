@@ -1,5 +1,4 @@
-use Rattle.mst_devices.proofs.Putting.{on_err}
-use Rattle.mst_sharded_script.specs.Answers.{text_of}
+use Rattle.mst_sharded_script.proofs.Names.{on_err, text_of}
 use Rattle.mst_sharded_script.proofs.script.answer_line.Goals as goal
 
 pub returns-in_err-put_sharded-clause-err : goal.returns-in_err-put_sharded-clause-err

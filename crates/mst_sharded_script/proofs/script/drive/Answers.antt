@@ -1,7 +1,5 @@
-use Rattle.std.proofs.Common.{rules}
-use Rattle.std.proofs.Common.{refl, ◌∙◌}
-use Rattle.mst_sharded_script.specs.Serving.{Serves}
-use Rattle.mst_devices.proofs.Putting.{on_err, map_ok, map_both_err}
+use Rattle.mst_sharded_script.proofs.Names.{rules, refl, ◌∙◌, Serves, on_err, map_ok}
+use Rattle.mst_devices.proofs.Putting.{map_both_err}
 use Rattle.mst_lines.proofs.Driving.{reached_none, reached_line, lost_stopped, fails_stopped, closed_ran, closed_stopped}
 use Rattle.mst_sharded_script.proofs.script.drive.Goals as goal
 

@@ -1,6 +1,5 @@
-use Rattle.std.proofs.Common.{◌≡◌, ◌+◌, length}
+use Rattle.mst_sharded_script.proofs.Names.{◌≡◌, ◌+◌, length, Serves}
 use Rattle.mst_lines.specs.Driving.{Reached}
-use Rattle.mst_sharded_script.specs.Serving.{Serves}
 use Rattle.mst_sharded_script.proofs.script.drive.Given as goal
 
 -- the lines so far are answered

@@ -1,6 +1,5 @@
-use Rattle.std.proofs.Common.{ℕ, List, [], refl, sym, subst}
-use Rattle.mst_sharded_script.specs.Serving.{Serves}
-use Rattle.mst_devices.proofs.Putting.{map_ok, map_err}
+use Rattle.mst_sharded_script.proofs.Names.{ℕ, List, [], refl, sym, subst, Serves, map_ok}
+use Rattle.mst_devices.proofs.Putting.{map_err}
 use Rattle.mst_lines.proofs.Driving.{not_both, nothing_closed, answered_not_closed}
 use Rattle.mst_sharded_script.proofs.script.finish.Goals as goal
 

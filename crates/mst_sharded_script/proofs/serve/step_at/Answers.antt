@@ -1,7 +1,4 @@
-use Rattle.std.proofs.Common.{◌≡◌, ◌<◌, ℕ, List, length, vec_items, vec_len, sym, ap, subst, arith}
-use Rattle.mst_sharded_script.specs.Answers.{text_of}
-use Rattle.mst_sharded_script.specs.States.{PassState, ScriptState}
-use Rattle.mst_sharded_script.specs.Serving.{StepsAt, stepped}
+use Rattle.mst_sharded_script.proofs.Names.{◌≡◌, ◌<◌, ℕ, List, length, vec_items, vec_len, sym, ap, subst, arith, text_of, PassState, ScriptState, StepsAt, stepped}
 use Rattle.mst_sharded_script.proofs.Stepping.{back_again, steps_at, over_new, over_none}
 use Rattle.mst_sharded_script.proofs.serve.step_at.Given.{Over}
 use Rattle.mst_sharded_script.proofs.serve.step_at.Goals.{After-put_back}

@@ -1,6 +1,4 @@
-use Rattle.std.proofs.Common.{ℕ, sym, subst, ◌∙◌}
-use Rattle.mst_sharded_script.specs.Answers.{text_of}
-use Rattle.mst_sharded_script.specs.Serving.{Acts}
+use Rattle.mst_sharded_script.proofs.Names.{ℕ, sym, subst, ◌∙◌, text_of, Acts}
 use Rattle.mst_sharded_script.proofs.Stepping.{migration_step, acts_step}
 use Rattle.mst_sharded_script.proofs.serve.step_free.Goals as goal
 

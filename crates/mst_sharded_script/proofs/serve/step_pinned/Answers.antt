@@ -1,6 +1,4 @@
-use Rattle.std.proofs.Common.{sym, ap, ◌∙◌}
-use Rattle.mst_sharded_script.specs.States.{Free, Pinned}
-use Rattle.mst_sharded_script.specs.Answers.{text_of}
+use Rattle.mst_sharded_script.proofs.Names.{sym, ap, ◌∙◌, Free, Pinned, text_of}
 use Rattle.mst_sharded_script.proofs.Stepping.{unpin_step, pinned_step}
 use Rattle.mst_sharded_script.proofs.serve.step_pinned.Goals as goal
 

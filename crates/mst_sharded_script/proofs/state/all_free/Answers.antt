@@ -1,9 +1,4 @@
-use Rattle.std.proofs.Common.{◌∷◌, ◌++◌, [], List, vec_items, rules, sym, ap, ◌∙◌}
-use Rattle.std.proofs.lemmas.List.{map-append}
-use Rattle.std.specs.Vec.Iter.{into_iter_items}
-use Rattle.mst_shards.specs.BlockHistory.{Whole}
-use Rattle.mst_shards.proofs.HandingOut.{goes_on, all_gone}
-use Rattle.mst_sharded_script.specs.States.{PassState, Free, are_free}
+use Rattle.mst_sharded_script.proofs.Names.{◌∷◌, ◌++◌, [], List, vec_items, rules, sym, ap, ◌∙◌, map-append, into_iter_items, Whole, goes_on, all_gone, PassState, Free, are_free}
 use Rattle.mst_sharded_script.proofs.state.all_free.Goals as goal
 
 pub loop-reader-init : goal.loop-reader-init

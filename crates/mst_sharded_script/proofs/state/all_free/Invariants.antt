@@ -1,7 +1,5 @@
+use Rattle.mst_sharded_script.proofs.Names.{into_iter_items, Whole, are_free}
 use Rattle.std.specs.Prelude.{◌≡◌, ◌++◌, List, vec_items}
-use Rattle.std.specs.Vec.Iter.{into_iter_items}
-use Rattle.mst_shards.specs.BlockHistory.{Whole}
-use Rattle.mst_sharded_script.specs.States.{are_free}
 use Rattle.mst_sharded_script.proofs.state.all_free.Given as goal
 
 -- the readers so far are passes, and the others are still to come

@@ -1,9 +1,5 @@
-use Rattle.std.proofs.Common.{◌≡◌, ◌∷◌, ◌++◌, [], ◌<◌, List, length, vec_items, vec_len, rules, refl, sym, ap, ◌∙◌, arith, append-nil, length-append}
-use Rattle.std.specs.Vec.Iter.{into_iter_items, into_iter_len}
-use Rattle.std.specs.VecDeque.{deque_items}
-use Rattle.mst_shards.specs.BlockHistory.{Whole}
-use Rattle.mst_shards.proofs.HandingOut.{goes_on, all_gone}
-use Rattle.mst_sharded_script.specs.States.{PassState, with_readers}
+use Rattle.mst_sharded_script.proofs.Names.{◌≡◌, ◌∷◌, ◌++◌, [], ◌<◌, List, length, vec_items, vec_len, rules, refl, sym, ap, ◌∙◌, arith, append-nil, into_iter_items, into_iter_len, deque_items, Whole, goes_on, all_gone, PassState, with_readers}
+use Rattle.std.proofs.Common.{length-append}
 use Rattle.mst_sharded_script.proofs.Giving.{gives_more, all_given}
 use Rattle.mst_sharded_script.proofs.state.give_readers.Goals as goal
 

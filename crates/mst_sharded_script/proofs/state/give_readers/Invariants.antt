@@ -1,8 +1,6 @@
-use Rattle.std.specs.Prelude.{◌≡◌, ◌≤◌, ◌+◌, ◌++◌, List, length, vec_items, vec_len}
-use Rattle.std.specs.Vec.Iter.{into_iter_items, into_iter_len}
-use Rattle.std.specs.VecDeque.{deque_items, deque_len, deque_capacity}
-use Rattle.mst_shards.specs.BlockHistory.{Whole}
-use Rattle.mst_sharded_script.specs.States.{PassState, with_readers}
+use Rattle.mst_sharded_script.proofs.Names.{◌≤◌, into_iter_items, into_iter_len, deque_items, Whole, PassState, with_readers}
+use Rattle.std.specs.Prelude.{◌≡◌, ◌+◌, ◌++◌, List, length, vec_items, vec_len}
+use Rattle.std.specs.VecDeque.{deque_len, deque_capacity}
 use Rattle.mst_sharded_script.proofs.state.give_readers.Given as goal
 
 -- the passes that are still to come stand in front of those that have their readers

@@ -1,7 +1,6 @@
-use Rattle.std.proofs.Common.{◌∷◌, ◌++◌, [], ◌∙◌, ℕ, List, length, drop, vec_items, vec_len, sym, ap, subst}
-use Rattle.std.specs.List.{SwappedAt}
+use Rattle.mst_sharded_script.proofs.Names.{◌∷◌, ◌++◌, [], ◌∙◌, ℕ, List, length, vec_items, vec_len, sym, ap, subst, SwappedAt, PassState}
+use Rattle.std.proofs.Common.{drop}
 use Rattle.mst_shards.proofs.Moved.{written_whole}
-use Rattle.mst_sharded_script.specs.States.{PassState}
 use Rattle.mst_sharded_script.proofs.state.put_back.Goals as goal
 
 pub returns-clause-back : goal.returns-clause-back

@@ -1,7 +1,4 @@
-use Rattle.std.proofs.Common.{◌≡◌, ◌∷◌, ◌++◌, [], List, length, vec_items, rules, arith, refl, sym, ap, ◌∙◌, length-append}
-use Rattle.std.specs.Vec.Iter.{into_iter_items, into_iter_len}
-use Rattle.mst_store.specs.Passes.{StoreId}
-use Rattle.mst_shards.specs.Opening.{Dealt, first_lots}
+use Rattle.mst_shards.proofs.Names.{◌≡◌, ◌∷◌, ◌++◌, [], List, length, vec_items, rules, arith, refl, sym, ap, ◌∙◌, length-append, into_iter_items, into_iter_len, StoreId, Dealt, first_lots}
 use Rattle.mst_shards.proofs.HandingOut.{goes_on, own_next, holds_own, taken}
 use Rattle.mst_shards.proofs.Dealing.{lots_grow, length-first_lots}
 use Rattle.mst_shards.proofs.deal.all_lots.Goals as goal

@@ -1,7 +1,5 @@
+use Rattle.mst_shards.proofs.Names.{into_iter_items, into_iter_len, StoreId, first_lots}
 use Rattle.std.specs.Prelude.{◌≡◌, ◌+◌, ◌++◌, List, length, vec_items}
-use Rattle.std.specs.Vec.Iter.{into_iter_items, into_iter_len}
-use Rattle.mst_store.specs.Passes.{StoreId}
-use Rattle.mst_shards.specs.Opening.{first_lots}
 use Rattle.mst_shards.proofs.deal.all_lots.Given as goal
 
 abbrev pub invariant-loop-seats_here : goal.invariant-loop-seats_here

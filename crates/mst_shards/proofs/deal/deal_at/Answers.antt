@@ -1,6 +1,5 @@
-use Rattle.std.proofs.Common.{◌≡◌, sym, ap, ◌∙◌}
+use Rattle.mst_shards.proofs.Names.{◌≡◌, sym, ap, ◌∙◌, StoreId, new_passes}
 use Rattle.std.proofs.lemmas.List.{get_or_default}
-use Rattle.mst_store.specs.Passes.{StoreId, new_passes}
 use Rattle.mst_shards.proofs.deal.deal_at.Goals as goal
 
 pub deal-requires : goal.deal-requires

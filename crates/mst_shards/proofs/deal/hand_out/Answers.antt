@@ -1,7 +1,4 @@
-use Rattle.std.proofs.Common.{◌≡◌, ℕ, ◌<◌, ◌∷◌, ◌++◌, [], List, length, vec_items, rules, arith, ap, ◌∙◌, length-append, length-set}
-use Rattle.std.specs.Vec.Iter.{into_iter_items}
-use Rattle.mst_store.specs.Passes.{Known}
-use Rattle.mst_shards.specs.Opening.{Dealt, dealt_more}
+use Rattle.mst_shards.proofs.Names.{◌≡◌, ℕ, ◌<◌, ◌∷◌, ◌++◌, [], List, length, vec_items, rules, arith, ap, ◌∙◌, length-append, length-set, into_iter_items, Known, Dealt, dealt_more}
 use Rattle.mst_shards.proofs.HandingOut.{goes_on, next_at}
 use Rattle.mst_shards.proofs.Dealing.{lot_more, lots_done, lots_left}
 use Rattle.mst_shards.proofs.deal.hand_out.Goals as goal

@@ -1,7 +1,5 @@
+use Rattle.mst_shards.proofs.Names.{into_iter_items, into_iter_len, Known, Dealt, dealt_more}
 use Rattle.std.specs.Prelude.{◌≡◌, ℕ, ◌+◌, ◌<◌, ◌≤◌, ◌++◌, List, length, get_or, vec_items}
-use Rattle.std.specs.Vec.Iter.{into_iter_items, into_iter_len}
-use Rattle.mst_store.specs.Passes.{Known}
-use Rattle.mst_shards.specs.Opening.{Dealt, dealt_more}
 use Rattle.mst_shards.proofs.deal.hand_out.Given as goal
 
 abbrev pub invariant-loop-pass : goal.invariant-loop-pass

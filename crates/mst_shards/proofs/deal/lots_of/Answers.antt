@@ -1,7 +1,5 @@
-use Rattle.std.proofs.Common.{◌≡◌, ◌∙◌, [], List, map, ap}
+use Rattle.mst_shards.proofs.Names.{◌≡◌, ◌∙◌, [], List, map, ap, Known, first_lots}
 use Rattle.std.proofs.lemmas.Result.{IfOk-weaker}
-use Rattle.mst_store.specs.Passes.{Known}
-use Rattle.mst_shards.specs.Opening.{first_lots}
 use Rattle.mst_shards.proofs.Dealing.{lot_with, lots_begin}
 use Rattle.mst_shards.proofs.deal.lots_of.Goals as goal
 

@@ -1,8 +1,4 @@
-use Rattle.std.proofs.Common.{◌≡◌, ◌∷◌, ◌++◌, [], List, map, vec_items, rules, sym, ap, ◌∙◌}
-use Rattle.std.proofs.lemmas.List.{map-append}
-use Rattle.std.specs.Vec.Iter.{into_iter_items}
-use Rattle.mst_store.specs.Passes.{Known}
-use Rattle.mst_shards.specs.Opening.{Dealt}
+use Rattle.mst_shards.proofs.Names.{◌≡◌, ◌∷◌, ◌++◌, [], List, map, vec_items, rules, sym, ap, ◌∙◌, map-append, into_iter_items, Known, Dealt}
 use Rattle.mst_shards.proofs.Dealing.{lot_with}
 use Rattle.mst_shards.proofs.HandingOut.{goes_on, all_gone}
 use Rattle.mst_shards.proofs.deal.lots_with.Goals as goal

@@ -1,6 +1,5 @@
+use Rattle.mst_shards.proofs.Names.{into_iter_items, Known}
 use Rattle.std.specs.Prelude.{◌≡◌, ◌++◌, List, map, vec_items}
-use Rattle.std.specs.Vec.Iter.{into_iter_items}
-use Rattle.mst_store.specs.Passes.{Known}
 use Rattle.mst_shards.proofs.Dealing.{lot_with}
 use Rattle.mst_shards.proofs.deal.lots_with.Given as goal
 

@@ -1,8 +1,6 @@
-use Rattle.std.proofs.Common.{◌∙◌, ◌≤◌, ◌∷◌, ◌++◌, [], ℕ, List, length, map, take, take_all, sym, ap, arith}
+use Rattle.mst_shards.proofs.Names.{◌∙◌, ◌≤◌, ◌∷◌, ◌++◌, [], ℕ, List, length, map, take, sym, ap, arith, key_of, Edit, place}
+use Rattle.std.proofs.Common.{take_all}
 use Rattle.std.proofs.lemmas.List.{map_more}
-use Rattle.mst_key.specs.History.{key_of}
-use Rattle.mst_key.specs.declared.history.Edit.{Edit}
-use Rattle.mst_shards.specs.Sharding.{place}
 use Rattle.mst_shards.proofs.edits.places_of.Goals as goal
 
 pub loop-edit-preserved : goal.loop-edit-preserved

@@ -1,6 +1,5 @@
+use Rattle.mst_shards.proofs.Names.{key_of, place}
 use Rattle.std.specs.Prelude.{◌≡◌, ◌≤◌, map, take, length, vec_len, vec_capacity, vec_items}
-use Rattle.mst_key.specs.History.{key_of}
-use Rattle.mst_shards.specs.Sharding.{place}
 use Rattle.mst_shards.proofs.edits.places_of.Given as goal
 
 abbrev pub invariant-loop-edit : goal.invariant-loop-edit

@@ -1,6 +1,4 @@
-use Rattle.std.proofs.Common.{◌∷◌, ◌++◌, [], ◌∙◌, ℕ, List, length, drop, vec_items, vec_len, sym, ap, subst}
-use Rattle.std.specs.List.{SwappedAt}
-use Rattle.mst_store.specs.Passes.{Known}
+use Rattle.mst_shards.proofs.Names.{◌∷◌, ◌++◌, [], ◌∙◌, ℕ, List, length, drop, vec_items, vec_len, sym, ap, subst, SwappedAt, Known}
 use Rattle.mst_shards.proofs.Moved.{written_whole}
 use Rattle.mst_shards.proofs.moving.lay_at.Goals as goal
 

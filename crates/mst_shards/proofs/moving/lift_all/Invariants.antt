@@ -1,5 +1,4 @@
-use Rattle.std.proofs.Common.{◌≡◌, ◌+◌, ◌≤◌, ◌++◌, vec_len, vec_capacity, vec_items}
-use Rattle.std.specs.VecDeque.{deque_items, deque_len, deque_capacity}
+use Rattle.mst_shards.proofs.Names.{◌≡◌, ◌+◌, ◌≤◌, ◌++◌, vec_len, vec_capacity, vec_items, deque_items, deque_len, deque_capacity}
 use Rattle.mst_shards.proofs.moving.lift_all.Given as goal
 
 -- the first passes are lifted

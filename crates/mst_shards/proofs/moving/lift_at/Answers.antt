@@ -1,4 +1,4 @@
-use Rattle.std.proofs.Common.{vec_items, rules, arith}
+use Rattle.mst_shards.proofs.Names.{vec_items, rules, arith}
 use Rattle.mst_shards.proofs.Owned.{as_many, own_at}
 use Rattle.mst_shards.proofs.moving.lift_at.Goals as goal
 

@@ -1,5 +1,4 @@
-use Rattle.std.proofs.Common.{◌∙◌, vec_items, arith, sym}
-use Rattle.std.specs.VecDeque.{deque_items}
+use Rattle.mst_shards.proofs.Names.{◌∙◌, vec_items, arith, sym, deque_items}
 use Rattle.mst_shards.proofs.HandingOut.{goes_same, all_gone}
 use Rattle.mst_shards.proofs.Owned.{next_low, next_own}
 use Rattle.mst_shards.proofs.moving.unpin_laid.Goals as goal

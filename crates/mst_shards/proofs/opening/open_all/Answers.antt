@@ -1,7 +1,4 @@
-use Rattle.std.proofs.Common.{◌∙◌, ◌∷◌, ◌++◌, [], List, length, vec_items, sym, ap, subst, arith, length-append}
-use Rattle.std.specs.List.{AllByRecursion}
-use Rattle.mst_key.proofs.Alls.{alls-append}
-use Rattle.mst_store.specs.Passes.{StoreId, HasShape}
+use Rattle.mst_shards.proofs.Names.{◌∙◌, ◌∷◌, ◌++◌, [], List, length, vec_items, sym, ap, subst, arith, length-append, AllByRecursion, alls-append, StoreId, HasShape}
 use Rattle.mst_shards.proofs.opening.open_all.Goals as goal
 
 pub loop-preserved : goal.loop-preserved

@@ -1,6 +1,5 @@
+use Rattle.mst_shards.proofs.Names.{AllByRecursion, HasShape}
 use Rattle.std.specs.Prelude.{◌≡◌, length, vec_items}
-use Rattle.std.specs.List.{AllByRecursion}
-use Rattle.mst_store.specs.Passes.{HasShape}
 use Rattle.mst_shards.proofs.opening.open_all.Given as goal
 
 abbrev pub invariant-loop : goal.invariant-loop

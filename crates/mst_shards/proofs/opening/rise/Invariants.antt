@@ -1,5 +1,5 @@
-use Rattle.std.proofs.Common.{◌↔◌, drop}
-use Rattle.mst_sharded_proof.specs.Shards.{AreSplits}
+use Rattle.mst_shards.proofs.Names.{drop, AreSplits}
+use Rattle.std.proofs.Common.{◌↔◌}
 use Rattle.mst_shards.proofs.opening.rise.Given as goal
 
 -- the splits that are left decide

@@ -1,5 +1,4 @@
-use Rattle.std.proofs.Common.{◌≤◌, ◌-◌, length}
-use Rattle.mst_shards.specs.Sharding.{place}
+use Rattle.mst_shards.proofs.Names.{◌≤◌, ◌-◌, length, place}
 use Rattle.mst_shards.proofs.place.place_of.Given as goal
 
 -- the place is between these

@@ -1,4 +1,4 @@
-use Rattle.std.specs.Option.{option_copied}
+use Rattle.mst_snapshots.proofs.Names.{option_copied}
 use Rattle.mst_shards.proofs.Spans.{cut_from}
 use Rattle.mst_snapshots.proofs.bounds.first_within.Goals as goal
 

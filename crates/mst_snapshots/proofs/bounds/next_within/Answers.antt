@@ -1,4 +1,4 @@
-use Rattle.std.specs.Option.{option_copied}
+use Rattle.mst_snapshots.proofs.Names.{option_copied}
 use Rattle.mst_shards.proofs.Spans.{cut_above}
 use Rattle.mst_snapshots.proofs.bounds.next_within.Goals as goal
 

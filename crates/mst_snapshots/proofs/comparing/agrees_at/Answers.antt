@@ -1,7 +1,4 @@
-use Rattle.std.proofs.Common.{◌≡◌, ◌+◌, ◌<◌, true, false, Some, length, slice_get, subst, sym, arith, vec_items, vec_len}
-use Rattle.mst_shards.specs.Entries.{shard_at, KeepsTo}
-use Rattle.mst_snapshots.specs.Agreeing.{Agrees}
-use Rattle.mst_store.specs.Passes.{Known}
+use Rattle.mst_snapshots.proofs.Names.{◌≡◌, ◌+◌, ◌<◌, true, false, Some, length, slice_get, subst, sym, arith, vec_items, vec_len, shard_at, KeepsTo, Agrees, Known}
 use Rattle.mst_snapshots.proofs.Staying.{pin_back, lifted_at}
 use Rattle.mst_snapshots.proofs.comparing.agrees_at.Goals as goal
 

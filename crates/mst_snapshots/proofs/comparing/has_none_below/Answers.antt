@@ -1,6 +1,4 @@
-use Rattle.std.proofs.Common.{sym, ◌∙◌}
-use Rattle.mst_key.specs.History.{after}
-use Rattle.mst_key.proofs.Ascending.{IsAscending-after}
+use Rattle.mst_snapshots.proofs.Names.{sym, ◌∙◌, after, IsAscending-after}
 use Rattle.mst_shards.proofs.Unions.{not_false}
 use Rattle.mst_snapshots.proofs.Clean.{none_first, first_from_on, first_below, not_true}
 use Rattle.mst_snapshots.proofs.comparing.has_none_below.Goals as goal

@@ -1,6 +1,4 @@
-use Rattle.std.proofs.Common.{rules, ◌≡◌, Option, Some, None, ℕ, List, sym, subst, ◌∙◌}
-use Rattle.std.specs.Option.{option_copied}
-use Rattle.mst_key.specs.History.{after}
+use Rattle.mst_snapshots.proofs.Names.{rules, ◌≡◌, Option, Some, None, ℕ, List, sym, subst, ◌∙◌, option_copied, after}
 use Rattle.mst_snapshots.proofs.Clean.{AllBelowBound, none_from_on, some_from_on, none_unbound}
 use Rattle.mst_snapshots.proofs.comparing.has_none_from.Goals as goal
 

@@ -1,8 +1,4 @@
-use Rattle.std.proofs.Common.{slice_get, sym, ◌∙◌}
-use Rattle.std.specs.Option.{option_copied}
-use Rattle.mst_key.specs.History.{after}
-use Rattle.mst_store.specs.Passes.{format_seen}
-use Rattle.mst_shards.specs.Entries.{shard_at}
+use Rattle.mst_snapshots.proofs.Names.{slice_get, sym, ◌∙◌, option_copied, after, format_seen, shard_at}
 use Rattle.mst_snapshots.proofs.Matching.{held_is, entry_yes, entry_other, entry_holds}
 use Rattle.mst_snapshots.proofs.comparing.is_entry.Goals as goal
 

@@ -1,7 +1,4 @@
-use Rattle.std.proofs.Common.{subst, sym}
-use Rattle.std.specs.Option.{option_copied}
-use Rattle.mst_key.specs.History.{after}
-use Rattle.mst_store.specs.Passes.{Known}
+use Rattle.mst_snapshots.proofs.Names.{subst, sym, option_copied, after, Known}
 use Rattle.mst_snapshots.proofs.Clean.{AllBelowBound, keeps_yes, keeps_not_low, keeps_not_high}
 use Rattle.mst_snapshots.proofs.comparing.keeps_to.Goals as goal
 

@@ -1,11 +1,4 @@
-use Rattle.std.proofs.Common.{◌≡◌, ◌+◌, ◌<◌, ◌≤◌, ℕ, List, length, vec_items, rules, arith, refl, sym, ◌∙◌, subst}
-use Rattle.mst_key.specs.History.{after}
-use Rattle.mst_key.specs.Map.{map_next}
-use Rattle.mst_store.specs.Passes.{Known}
-use Rattle.mst_shards.specs.Entries.{shard_at}
-use Rattle.mst_shards.specs.Sharding.{sharding, IsSharding}
-use Rattle.mst_snapshots.specs.Agreeing.{Agrees, AreClean, low_before}
-use Rattle.mst_snapshots.specs.Reading.{pass_at}
+use Rattle.mst_snapshots.proofs.Names.{◌≡◌, ◌+◌, ◌<◌, ◌≤◌, ℕ, List, length, vec_items, rules, arith, refl, sym, ◌∙◌, subst, after, map_next, Known, shard_at, sharding, IsSharding, Agrees, AreClean, low_before, pass_at}
 use Rattle.mst_snapshots.proofs.Matching.{agree_next, all_agree, one_differs, one_more}
 use Rattle.mst_snapshots.proofs.Staying.{there_is, own_still}
 use Rattle.mst_snapshots.proofs.comparing.lists_all.Goals as goal

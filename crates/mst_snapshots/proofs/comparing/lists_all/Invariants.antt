@@ -1,6 +1,4 @@
-use Rattle.std.proofs.Common.{◌≡◌, ◌+◌, ◌-◌, ◌≤◌, length, vec_items}
-use Rattle.mst_key.specs.History.{after}
-use Rattle.mst_snapshots.specs.Agreeing.{AgreeTo}
+use Rattle.mst_snapshots.proofs.Names.{◌≡◌, ◌+◌, ◌-◌, ◌≤◌, length, vec_items, after, AgreeTo}
 use Rattle.mst_snapshots.proofs.comparing.lists_all.Given as goal
 
 -- all is as it was, and the shards before this one agree

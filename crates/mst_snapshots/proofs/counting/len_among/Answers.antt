@@ -1,5 +1,4 @@
-use Rattle.std.proofs.Common.{◌≡◌, List, vec_items, vec_len, ◌∙◌, arith}
-use Rattle.mst_store.specs.Passes.{Known}
+use Rattle.mst_snapshots.proofs.Names.{◌≡◌, List, vec_items, vec_len, ◌∙◌, arith, Known}
 use Rattle.mst_snapshots.proofs.Lengths.{counts_on, counts_few, all_counted}
 use Rattle.mst_snapshots.proofs.counting.len_among.Goals as goal
 

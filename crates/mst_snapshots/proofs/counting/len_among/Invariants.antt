@@ -1,4 +1,4 @@
-use Rattle.std.proofs.Common.{◌≡◌, sum_by, take, vec_items}
+use Rattle.mst_snapshots.proofs.Names.{◌≡◌, sum_by, take, vec_items}
 use Rattle.mst_snapshots.proofs.Lengths.{pairs_in}
 use Rattle.mst_snapshots.proofs.counting.len_among.Given as goal
 

@@ -1,6 +1,4 @@
-use Rattle.std.proofs.Common.{◌≡◌, length, subst, vec_items, vec_len}
-use Rattle.mst_key.specs.History.{after}
-use Rattle.mst_store.specs.Passes.{Known}
+use Rattle.mst_snapshots.proofs.Names.{◌≡◌, length, subst, vec_items, vec_len, after, Known}
 use Rattle.mst_snapshots.proofs.Staying.{pin_back, lifted_at}
 use Rattle.mst_snapshots.proofs.counting.len_at.Goals as goal
 

@@ -1,7 +1,4 @@
-use Rattle.std.proofs.Common.{Option, ap, sym, ◌∙◌}
-use Rattle.std.specs.Prelude.{unwrap_or}
-use Rattle.mst_store.specs.Passes.{Known}
-use Rattle.mst_snapshots.specs.Reading.{no_pass}
+use Rattle.mst_snapshots.proofs.Names.{Option, ap, sym, ◌∙◌, unwrap_or, Known, no_pass}
 use Rattle.mst_snapshots.proofs.directory_pin.lifted.Goals as goal
 
 pub lift_pinned-requires : goal.lift_pinned-requires

@@ -1,6 +1,4 @@
-use Rattle.std.proofs.Common.{length, ◌∙◌, sym, ap, subst}
-use Rattle.mst_store.specs.Passes.{Known}
-use Rattle.mst_shards.specs.Sharding.{PinsNow}
+use Rattle.mst_snapshots.proofs.Names.{length, ◌∙◌, sym, ap, subst, Known, PinsNow}
 use Rattle.mst_snapshots.proofs.pinning.pin_directory.Goals as goal
 
 pub returns-clause-pin : goal.returns-clause-pin

@@ -1,16 +1,9 @@
-use Rattle.std.proofs.Common.{◌≡◌, ◌≤◌, ℕ, List, [], ◌∷◌, ◌++◌, length, length-append, vec_items, ◌∙◌, sym, ap, subst, arith}
-use Rattle.std.specs.List.{AllByRecursion}
-use Rattle.std.specs.VecDeque.{deque_items}
+use Rattle.mst_snapshots.proofs.Names.{◌≡◌, ◌≤◌, ℕ, List, [], ◌∷◌, ◌++◌, length, length-append, vec_items, ◌∙◌, sym, ap, subst, arith, AllByRecursion, deque_items, after, IsMap, Known, most_rows, AllStep, PinsNow, HaveFewPairs, versions_of}
 use Rattle.std.proofs.lemmas.List.{map-append}
-use Rattle.mst_key.specs.History.{after}
-use Rattle.mst_key.specs.Map.{IsMap}
 use Rattle.mst_key.proofs.Alls.{alls-append}
-use Rattle.mst_store.specs.Passes.{Known, most_rows}
-use Rattle.mst_shards.specs.Sharding.{AllStep, PinsNow, HaveFewPairs}
 use Rattle.mst_shards.proofs.HandingOut.{goes_on, all_gone}
 use Rattle.mst_shards.proofs.PinningAll.{all_step_more}
 use Rattle.mst_shards.proofs.Owned.{next_low, next_own}
-use Rattle.mst_snapshots.specs.Reading.{versions_of}
 use Rattle.mst_snapshots.proofs.pinning.pin_shards.Goals as goal
 
 pub lift-pass-requires : goal.lift-pass-requires

@@ -1,11 +1,5 @@
-use Rattle.std.proofs.Common.{◌≡◌, ◌+◌, ◌≤◌, List, ◌++◌, length, vec_len, vec_capacity, vec_items}
-use Rattle.std.specs.VecDeque.{deque_items, deque_len, deque_capacity}
-use Rattle.std.specs.List.{AllByRecursion}
-use Rattle.mst_key.specs.History.{after}
-use Rattle.mst_key.specs.Map.{IsMap}
-use Rattle.mst_store.specs.Passes.{Known}
-use Rattle.mst_shards.specs.Sharding.{AllStep, PinsNow, HaveFewPairs}
-use Rattle.mst_snapshots.specs.Reading.{versions_of}
+use Rattle.mst_snapshots.proofs.Names.{◌≡◌, ◌+◌, ◌≤◌, List, ◌++◌, length, vec_len, vec_capacity, vec_items, deque_items, AllByRecursion, after, IsMap, Known, AllStep, PinsNow, HaveFewPairs, versions_of}
+use Rattle.std.specs.VecDeque.{deque_len, deque_capacity}
 use Rattle.mst_snapshots.proofs.pinning.pin_shards.Given as goal
 
 -- the first passes are pinned, and the numbers of their versions noted

@@ -1,9 +1,4 @@
-use Rattle.std.proofs.Common.{◌≡◌, subst, vec_items, vec_len}
-use Rattle.std.specs.Prelude.{IfOk}
-use Rattle.mst_key.specs.History.{after}
-use Rattle.mst_node.specs.Trail.{proof_text}
-use Rattle.mst_store.specs.Passes.{format_seen}
-use Rattle.mst_store.specs.Passes.{Known}
+use Rattle.mst_snapshots.proofs.Names.{◌≡◌, subst, vec_items, vec_len, IfOk, after, proof_text, format_seen, Known}
 use Rattle.mst_snapshots.proofs.Staying.{pin_back, lifted_at}
 use Rattle.mst_snapshots.proofs.proving.prove_at.Goals as goal
 

@@ -1,11 +1,4 @@
-use Rattle.std.proofs.Common.{◌≡◌, ℕ, vec_items, rules, subst}
-use Rattle.std.proofs.lemmas.Result.{IfOk-weaker}
-use Rattle.mst_key.specs.History.{after}
-use Rattle.mst_node.specs.Trail.{proof_text}
-use Rattle.mst_sharded_proof.specs.Frame.{sharded_proof}
-use Rattle.mst_store.specs.Passes.{Known, format_seen}
-use Rattle.mst_shards.specs.Directory.{OfClean}
-use Rattle.mst_shards.specs.Sharding.{sharding}
+use Rattle.mst_snapshots.proofs.Names.{◌≡◌, ℕ, vec_items, rules, subst, IfOk-weaker, after, proof_text, sharded_proof, Known, format_seen, OfClean, sharding}
 use Rattle.mst_snapshots.proofs.Shown.{proof_shown}
 use Rattle.mst_snapshots.proofs.proving.prove_in.Goals as goal
 

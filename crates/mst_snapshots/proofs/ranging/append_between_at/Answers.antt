@@ -1,9 +1,5 @@
-use Rattle.std.proofs.Common.{◌≡◌, subst, vec_items, vec_len, ◌++◌, ◌-◌, length}
+use Rattle.mst_snapshots.proofs.Names.{◌≡◌, subst, vec_items, vec_len, ◌++◌, ◌-◌, length, option_copied, after, map_range, Known}
 use Rattle.std.specs.Prelude.{OnOk}
-use Rattle.std.specs.Option.{option_copied}
-use Rattle.mst_key.specs.History.{after}
-use Rattle.mst_key.specs.Map.{map_range}
-use Rattle.mst_store.specs.Passes.{Known}
 use Rattle.mst_snapshots.proofs.Staying.{pin_back, lifted_at}
 use Rattle.mst_snapshots.proofs.ranging.append_between_at.Goals as goal
 

@@ -1,11 +1,5 @@
-use Rattle.std.proofs.Common.{◌≡◌, ◌+◌, ◌≤◌, ◌&&◌, ℕ, List, Some, find, length, slice_get, vec_items, rules, arith, ◌∙◌, subst}
-use Rattle.std.specs.Option.{option_copied}
-use Rattle.mst_key.specs.History.{after}
-use Rattle.mst_key.specs.Map.{Pair, from_on, below}
-use Rattle.mst_store.specs.Passes.{Known}
-use Rattle.mst_shards.specs.Ranging.{union_from}
+use Rattle.mst_snapshots.proofs.Names.{◌≡◌, ◌+◌, ◌≤◌, ◌&&◌, ℕ, List, Some, find, length, slice_get, vec_items, rules, arith, ◌∙◌, subst, option_copied, after, Pair, from_on, below, Known, union_from, pass_at}
 use Rattle.mst_shards.proofs.Steps.{first_some, first_none, first_end}
-use Rattle.mst_snapshots.specs.Reading.{pass_at}
 use Rattle.mst_snapshots.proofs.Staying.{read_at, low_at_place, there_is, own_still}
 use Rattle.mst_snapshots.proofs.ranging.first_behind.Goals as goal
 

@@ -1,5 +1,4 @@
-use Rattle.std.proofs.Common.{◌≡◌, ◌+◌, ◌-◌, ◌<◌, length, slice_get, vec_items}
-use Rattle.mst_shards.specs.Ranging.{union_from}
+use Rattle.mst_snapshots.proofs.Names.{◌≡◌, ◌+◌, ◌-◌, ◌<◌, length, slice_get, vec_items, union_from}
 use Rattle.mst_snapshots.proofs.ranging.first_behind.Given as goal
 
 -- the pins are as they were, and the shards before this one have no pair

@@ -1,8 +1,4 @@
-use Rattle.std.proofs.Common.{◌≡◌, subst, vec_items, vec_len, ◌&&◌, Some, find}
-use Rattle.std.specs.Option.{option_copied}
-use Rattle.mst_key.specs.History.{after}
-use Rattle.mst_key.specs.Map.{Pair, from_on, below}
-use Rattle.mst_store.specs.Passes.{Known}
+use Rattle.mst_snapshots.proofs.Names.{◌≡◌, subst, vec_items, vec_len, ◌&&◌, Some, find, option_copied, after, Pair, from_on, below, Known}
 use Rattle.mst_snapshots.proofs.Staying.{pin_back, lifted_at}
 use Rattle.mst_snapshots.proofs.ranging.first_within_at.Goals as goal
 

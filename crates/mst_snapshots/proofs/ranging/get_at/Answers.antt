@@ -1,7 +1,4 @@
-use Rattle.std.proofs.Common.{◌≡◌, subst, vec_items, vec_len}
-use Rattle.mst_key.specs.History.{after}
-use Rattle.mst_key.specs.Map.{map_get}
-use Rattle.mst_store.specs.Passes.{Known}
+use Rattle.mst_snapshots.proofs.Names.{◌≡◌, subst, vec_items, vec_len, after, map_get, Known}
 use Rattle.mst_snapshots.proofs.Staying.{pin_back, lifted_at}
 use Rattle.mst_snapshots.proofs.ranging.get_at.Goals as goal
 

@@ -1,10 +1,5 @@
-use Rattle.std.proofs.Common.{◌+◌, ℕ, List, slice_get, vec_items, ap, sym, subst, refl, ◌∙◌}
-use Rattle.std.specs.Option.{option_copied}
-use Rattle.mst_store.specs.Passes.{Known}
-use Rattle.mst_shards.specs.Ranging.{union_from}
-use Rattle.mst_shards.specs.Sharding.{sharding, IsSharding}
+use Rattle.mst_snapshots.proofs.Names.{◌+◌, ℕ, List, slice_get, vec_items, ap, sym, subst, refl, ◌∙◌, option_copied, Known, union_from, sharding, IsSharding, pass_at}
 use Rattle.mst_shards.proofs.Steps.{next_some, next_none}
-use Rattle.mst_snapshots.specs.Reading.{pass_at}
 use Rattle.mst_snapshots.proofs.Staying.{read_at, low_at_place, there_is, own_still}
 use Rattle.mst_snapshots.proofs.ranging.next_among.Goals as goal
 

@@ -1,8 +1,4 @@
-use Rattle.std.proofs.Common.{◌≡◌, subst, vec_items, vec_len, ◌&&◌, find}
-use Rattle.std.specs.Option.{option_copied}
-use Rattle.mst_key.specs.History.{after}
-use Rattle.mst_key.specs.Map.{Pair, above, below}
-use Rattle.mst_store.specs.Passes.{Known}
+use Rattle.mst_snapshots.proofs.Names.{◌≡◌, subst, vec_items, vec_len, ◌&&◌, find, option_copied, after, Pair, above, below, Known}
 use Rattle.mst_snapshots.proofs.Staying.{pin_back, lifted_at}
 use Rattle.mst_snapshots.proofs.ranging.next_within_at.Goals as goal
 

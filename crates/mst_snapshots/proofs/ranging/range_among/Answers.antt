@@ -1,10 +1,5 @@
-use Rattle.std.proofs.Common.{◌≡◌, ◌-◌, ◌<◌, ◌≤◌, ◌++◌, ℕ, List, length, vec_items, rules, arith, refl, ◌∙◌, subst}
-use Rattle.std.specs.Option.{option_copied}
-use Rattle.mst_key.specs.History.{after}
-use Rattle.mst_key.specs.Map.{map_range}
-use Rattle.mst_store.specs.Passes.{Known}
+use Rattle.mst_snapshots.proofs.Names.{◌≡◌, ◌-◌, ◌<◌, ◌≤◌, ◌++◌, ℕ, List, length, vec_items, rules, arith, refl, ◌∙◌, subst, option_copied, after, map_range, Known, pass_at}
 use Rattle.mst_shards.proofs.Steps.{ranged_none, ranged_more, ranged_done}
-use Rattle.mst_snapshots.specs.Reading.{pass_at}
 use Rattle.mst_snapshots.proofs.Staying.{read_at, low_at_place, there_is, own_still}
 use Rattle.mst_snapshots.proofs.ranging.range_among.Goals as goal
 

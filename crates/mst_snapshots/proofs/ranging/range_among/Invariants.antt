@@ -1,5 +1,4 @@
-use Rattle.std.proofs.Common.{◌≡◌, ◌+◌, ◌-◌, vec_items}
-use Rattle.std.specs.Option.{option_copied}
+use Rattle.mst_snapshots.proofs.Names.{◌≡◌, ◌+◌, ◌-◌, vec_items, option_copied}
 use Rattle.mst_shards.proofs.Steps.{RangedTo}
 use Rattle.mst_snapshots.proofs.ranging.range_among.Given as goal
 

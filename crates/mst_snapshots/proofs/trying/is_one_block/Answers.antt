@@ -1,9 +1,4 @@
-use Rattle.std.proofs.Common.{List, ℕ, vec_items, rules, sym, subst, ◌∙◌}
-use Rattle.mst_store.specs.Passes.{Known, StoreId}
-use Rattle.mst_shards.specs.BlockHistory.{whole, IsOneBlock}
-use Rattle.mst_shards.specs.Laid.{AreOf}
-use Rattle.mst_shards.specs.Sharding.{sharding, IsSharding}
-use Rattle.mst_snapshots.specs.Agreeing.{AreClean}
+use Rattle.mst_snapshots.proofs.Names.{List, ℕ, vec_items, rules, sym, subst, ◌∙◌, Known, StoreId, whole, IsOneBlock, AreOf, sharding, IsSharding, AreClean}
 use Rattle.mst_snapshots.proofs.Kept.{seen_again, reader_clean}
 use Rattle.mst_snapshots.proofs.trying.is_one_block.Goals as goal
 

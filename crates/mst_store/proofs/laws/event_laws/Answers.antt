@@ -1,5 +1,5 @@
-use Rattle.std.proofs.Common.{[], arith}
-use Rattle.std.proofs.lemmas.List.Elements.{All-head, All-cons}
+use Rattle.mst_store.proofs.Names.{[], arith, All-head}
+use Rattle.std.proofs.lemmas.List.Elements.{All-cons}
 use Rattle.mst_store.proofs.Lawful.{IsOf, own_all}
 use Rattle.mst_store.proofs.laws.event_laws.Goals as goal
 

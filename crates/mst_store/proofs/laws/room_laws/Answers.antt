@@ -1,5 +1,5 @@
-use Rattle.std.proofs.Common.{ap, arith}
-use Rattle.mst_node.specs.Tree.{Tree, empty, tree_within, tree}
+use Rattle.mst_store.proofs.Names.{ap, arith, empty}
+use Rattle.mst_node.specs.Tree.{Tree, tree_within, tree}
 use Rattle.mst_node.specs.Cost.{new_rows}
 use Rattle.mst_store.proofs.Lawful.{lone_tree, no_edits, one_edit}
 use Rattle.mst_store.proofs.laws.room_laws.Goals as goal

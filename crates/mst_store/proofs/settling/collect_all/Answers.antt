@@ -1,9 +1,4 @@
-use Rattle.std.proofs.Common.{ℕ, List, get_or, set, ap, ◌∙◌, subst}
-use Rattle.std.proofs.lemmas.List.{set-get_or}
-use Rattle.mst_key.specs.History.{IsPrefix}
-use Rattle.mst_key.proofs.HistoryLaws.{IsPrefix-chain}
-use Rattle.mst_store.specs.Passes.{Known}
-use Rattle.mst_versions.specs.Turns.{SeatState}
+use Rattle.mst_store.proofs.Names.{ℕ, List, get_or, set, ap, ◌∙◌, subst, set-get_or, IsPrefix, IsPrefix-chain, Known, SeatState}
 use Rattle.mst_store.proofs.Courier.{one_more, goes_on}
 use Rattle.mst_store.proofs.settling.collect_all.Goals as goal
 

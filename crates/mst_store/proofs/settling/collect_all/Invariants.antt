@@ -1,7 +1,4 @@
-use Rattle.std.proofs.Common.{◌≡◌, ℕ, ◌<◌, get_or}
-use Rattle.mst_key.specs.History.{IsPrefix}
-use Rattle.mst_store.specs.Passes.{Known}
-use Rattle.mst_store.specs.Settling.{GoesOn}
+use Rattle.mst_store.proofs.Names.{◌≡◌, ℕ, ◌<◌, get_or, IsPrefix, Known, GoesOn}
 use Rattle.mst_store.proofs.settling.collect_all.Given as goal
 
 abbrev pub invariant-loop-pass : goal.invariant-loop-pass

@@ -1,8 +1,4 @@
-use Rattle.std.proofs.Common.{◌≡◌, ℕ, List, get_or, set, ap, ◌∙◌, subst}
-use Rattle.mst_key.specs.History.{IsPrefix}
-use Rattle.mst_key.proofs.HistoryLaws.{IsPrefix-chain}
-use Rattle.mst_store.specs.Passes.{Known, having_asked}
-use Rattle.mst_versions.specs.Turns.{SeatState}
+use Rattle.mst_store.proofs.Names.{◌≡◌, ℕ, List, get_or, set, ap, ◌∙◌, subst, IsPrefix, IsPrefix-chain, Known, having_asked, SeatState}
 use Rattle.mst_store.proofs.Courier.{one_more, goes_on, changed_at, changed_next}
 use Rattle.mst_store.proofs.settling.collect_held.Goals as goal
 

@@ -1,7 +1,4 @@
-use Rattle.std.proofs.Common.{◌≡◌, ℕ, ◌<◌, ◌++◌, get_or, take, drop, map}
-use Rattle.mst_key.specs.History.{IsPrefix}
-use Rattle.mst_store.specs.Passes.{Known, having_asked}
-use Rattle.mst_store.specs.Settling.{GoesOn}
+use Rattle.mst_store.proofs.Names.{◌≡◌, ℕ, ◌<◌, ◌++◌, get_or, take, drop, map, IsPrefix, Known, having_asked, GoesOn}
 use Rattle.mst_store.proofs.settling.collect_held.Given as goal
 
 abbrev pub invariant-loop-pinned : goal.invariant-loop-pinned

@@ -1,8 +1,4 @@
-use Rattle.std.proofs.Common.{◌≡◌, ◌+◌, ap, ◌∙◌, sym, subst}
-use Rattle.mst_key.specs.History.{History, IsPrefix}
-use Rattle.mst_key.proofs.HistoryLaws.{IsPrefix-chain}
-use Rattle.mst_store.specs.Passes.{Known}
-use Rattle.mst_versions.specs.Turns.{SeatState}
+use Rattle.mst_store.proofs.Names.{◌≡◌, ◌+◌, ap, ◌∙◌, sym, subst, History, IsPrefix, IsPrefix-chain, Known, SeatState}
 use Rattle.mst_store.proofs.Courier.{pinned_still}
 use Rattle.mst_store.proofs.settling.collect_pinned.Goals as goal
 

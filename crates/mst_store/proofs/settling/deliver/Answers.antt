@@ -1,8 +1,4 @@
-use Rattle.std.proofs.Common.{◌≡◌, ℕ, ◌+◌, sym, ap, ◌∙◌, subst}
-use Rattle.mst_key.specs.History.{History, events_of, IsPrefix}
-use Rattle.mst_words.specs.declared.view.View.{View}
-use Rattle.mst_store.specs.Passes.{Known}
-use Rattle.mst_versions.specs.Turns.{SeatState}
+use Rattle.mst_store.proofs.Names.{◌≡◌, ℕ, ◌+◌, sym, ap, ◌∙◌, subst, History, events_of, IsPrefix, View, Known, SeatState}
 use Rattle.mst_store.proofs.Courier.{told_own}
 use Rattle.mst_store.proofs.settling.deliver.Goals as goal
 

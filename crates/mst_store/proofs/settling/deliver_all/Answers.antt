@@ -1,8 +1,4 @@
-use Rattle.std.proofs.Common.{◌≡◌, ℕ, List, get_or, set, ap, ◌∙◌, sym, subst}
-use Rattle.mst_key.specs.History.{History, events_of, IsPrefix}
-use Rattle.mst_store.specs.Passes.{Known}
-use Rattle.mst_versions.specs.Turns.{SeatState}
-use Rattle.mst_store.specs.Settling.{having_seen}
+use Rattle.mst_store.proofs.Names.{◌≡◌, ℕ, List, get_or, set, ap, ◌∙◌, sym, subst, History, events_of, IsPrefix, Known, SeatState, having_seen}
 use Rattle.mst_store.proofs.Courier.{one_more, changed_at, changed_next}
 use Rattle.mst_store.proofs.settling.deliver_all.Goals as goal
 

@@ -1,7 +1,4 @@
-use Rattle.std.proofs.Common.{◌≡◌, ℕ, ◌<◌, ◌++◌, get_or, take, drop, map}
-use Rattle.mst_key.specs.History.{events_of}
-use Rattle.mst_store.specs.Passes.{Known}
-use Rattle.mst_store.specs.Settling.{having_seen}
+use Rattle.mst_store.proofs.Names.{◌≡◌, ℕ, ◌<◌, ◌++◌, get_or, take, drop, map, events_of, Known, having_seen}
 use Rattle.mst_store.proofs.settling.deliver_all.Given as goal
 
 abbrev pub invariant-loop-pass : goal.invariant-loop-pass

@@ -1,6 +1,4 @@
-use Rattle.std.proofs.Common.{◌≡◌, ℕ, ◌<◌, ◌++◌, get_or, take, drop, map}
-use Rattle.mst_key.specs.History.{events_of}
-use Rattle.mst_store.specs.Passes.{Known, having_asked}
+use Rattle.mst_store.proofs.Names.{◌≡◌, ℕ, ◌<◌, ◌++◌, get_or, take, drop, map, events_of, Known, having_asked}
 use Rattle.mst_store.proofs.settling.deliver_held.Given as goal
 
 abbrev pub invariant-loop-pinned : goal.invariant-loop-pinned

@@ -1,8 +1,4 @@
-use Rattle.std.proofs.Common.{◌≡◌, ℕ, ◌+◌, ap, ◌∙◌, sym, subst}
-use Rattle.mst_key.specs.History.{History, events_of, IsPrefix}
-use Rattle.mst_key.proofs.HistoryLaws.{events_of-between}
-use Rattle.mst_store.specs.Passes.{Known}
-use Rattle.mst_versions.specs.Turns.{SeatState}
+use Rattle.mst_store.proofs.Names.{◌≡◌, ℕ, ◌+◌, ap, ◌∙◌, sym, subst, History, events_of, IsPrefix, events_of-between, Known, SeatState}
 use Rattle.mst_store.proofs.Courier.{pinned_still}
 use Rattle.mst_store.proofs.settling.deliver_pinned.Goals as goal
 

@@ -1,6 +1,4 @@
-use Rattle.std.proofs.Common.{length-append, set, refl, ap, ◌∙◌, arith}
-use Rattle.std.proofs.lemmas.List.{set-get_or}
-use Rattle.mst_store.specs.Passes.{Known}
+use Rattle.mst_store.proofs.Names.{length-append, set, refl, ap, ◌∙◌, arith, set-get_or, Known}
 use Rattle.mst_store.proofs.Courier.{beside_front, beside_back, some_in}
 use Rattle.mst_store.proofs.settling.first_courier.Goals as goal
 

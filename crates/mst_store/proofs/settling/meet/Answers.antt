@@ -1,10 +1,5 @@
-use Rattle.std.proofs.Common.{◌≡◌, ℕ, ap, sym, subst, ◌∙◌, rules}
-use Rattle.mst_key.specs.History.{History, events_of, IsPrefix}
-use Rattle.mst_key.proofs.HistoryLaws.{IsPrefix-chain}
-use Rattle.mst_words.specs.Notes.{IsOfPasses}
-use Rattle.mst_versions.specs.Turns.{SeatState}
+use Rattle.mst_store.proofs.Names.{◌≡◌, ℕ, ap, sym, subst, ◌∙◌, rules, History, events_of, IsPrefix, IsPrefix-chain, IsOfPasses, SeatState, having_seen}
 use Rattle.mst_versions.specs.Known.{Known}
-use Rattle.mst_store.specs.Settling.{having_seen}
 use Rattle.mst_store.proofs.settling.meet.Goals as goal
 
 pub collect-requires-clause-own : goal.collect-requires-clause-own

@@ -1,10 +1,4 @@
-use Rattle.std.proofs.Common.{◌≡◌, ◌++◌, List, map, sym, ap, ◌∙◌, subst, rules}
-use Rattle.std.specs.List.{All}
-use Rattle.std.proofs.lemmas.List.Elements.{All-append, All-map}
-use Rattle.mst_key.specs.History.{History, events_of, IsPrefix}
-use Rattle.mst_store.specs.Passes.{StoreId, Known, new_pass, having_asked}
-use Rattle.mst_versions.specs.Turns.{SeatState}
-use Rattle.mst_store.specs.Settling.{having_seen, IsBeside}
+use Rattle.mst_store.proofs.Names.{◌≡◌, ◌++◌, List, map, sym, ap, ◌∙◌, subst, rules, All, All-append, All-map, History, events_of, IsPrefix, StoreId, Known, new_pass, having_asked, SeatState, having_seen, IsBeside}
 use Rattle.mst_store.proofs.AllPasses.{all_of_front, all_of_back}
 use Rattle.mst_store.proofs.Courier.{beside_on, later_on, asked_beside, asked_thrice, all_before, all_alone}
 use Rattle.mst_store.proofs.settling.settle.Goals as goal

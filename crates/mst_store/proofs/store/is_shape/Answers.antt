@@ -1,4 +1,4 @@
-use Rattle.std.proofs.Common.{rules}
+use Rattle.mst_store.proofs.Names.{rules}
 use Rattle.mst_store.proofs.store.is_shape.Goals as goal
 
 pub returns-then-contains : goal.returns-then-contains

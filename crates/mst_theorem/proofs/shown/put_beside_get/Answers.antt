@@ -1,8 +1,4 @@
-use Rattle.std.proofs.Common.{IfOk, IfErr, subst}
-use Rattle.mst_key.specs.declared.history.Change.TheVariants.{Put}
-use Rattle.mst_key.specs.Map.{map_get}
-use Rattle.mst_key.specs.History.{had}
-use Rattle.mst_store.specs.Passes.{Known, Answers, Wrote, Refuses, made_by}
+use Rattle.mst_theorem.proofs.Names.{IfOk, IfErr, subst, Put, map_get, had, Known, Answers, Wrote, Refuses, made_by}
 use Rattle.mst_theorem.proofs.TwoCalls.{two_calls}
 use Rattle.mst_theorem.proofs.shown.put_beside_get.Goals as goal
 

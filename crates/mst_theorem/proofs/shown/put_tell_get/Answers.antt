@@ -1,7 +1,4 @@
-use Rattle.std.proofs.Common.{IfOk, subst}
-use Rattle.mst_key.specs.declared.history.Change.TheVariants.{Put}
-use Rattle.mst_key.specs.History.{had}
-use Rattle.mst_store.specs.Passes.{Known, Looks, Wrote, made_by}
+use Rattle.mst_theorem.proofs.Names.{IfOk, subst, Put, had, Known, Looks, Wrote, made_by}
 use Rattle.mst_theorem.proofs.ToldCalls.{told_read}
 use Rattle.mst_theorem.proofs.shown.put_tell_get.Goals as goal
 

@@ -1,5 +1,4 @@
-use Rattle.std.proofs.Common.{rules}
-use Rattle.mst_words.specs.Access.{IsSameSeat}
+use Rattle.mst_versions.proofs.Names.{rules, IsSameSeat}
 use Rattle.mst_versions.proofs.Counted.{counted_free}
 use Rattle.mst_versions.proofs.counting.free_rows.Goals as goal
 

@@ -1,5 +1,4 @@
-use Rattle.std.proofs.Common.{◌-◌, sym, rules}
-use Rattle.mst_words.specs.Access.{IsSameSeat}
+use Rattle.mst_versions.proofs.Names.{◌-◌, sym, rules, IsSameSeat}
 use Rattle.mst_versions.proofs.Counted.{still_holds, counted, all_rows}
 use Rattle.mst_versions.proofs.counting.rows.Goals as goal
 

@@ -1,9 +1,4 @@
-use Rattle.std.proofs.Common.{◌≡◌, Option, Some, [], ◌∷◌, rules, sym, ap, subst, ◌∙◌}
-use Rattle.mst_arena.specs.Lives.{State}
-use Rattle.mst_words.specs.declared.view.DeskState.{DeskState}
-use Rattle.mst_words.specs.Steps.{IsGiving}
-use Rattle.mst_words.specs.Stored.{stored}
-use Rattle.mst_versions.specs.Turns.{SeatState}
+use Rattle.mst_versions.proofs.Names.{◌≡◌, Option, Some, [], ◌∷◌, rules, sym, ap, subst, ◌∙◌, State, DeskState, IsGiving, stored, SeatState}
 use Rattle.mst_versions.specs.Revealing.{closing}
 use Rattle.mst_versions.proofs.finishing.close.Goals as goal
 

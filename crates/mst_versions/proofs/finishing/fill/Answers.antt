@@ -1,6 +1,4 @@
-use Rattle.std.proofs.Common.{rules, sym, ap, subst, ◌∙◌, ℕ, ◌+◌}
-use Rattle.mst_words.specs.Access.{Seated}
-use Rattle.mst_versions.specs.Turns.{HasMade}
+use Rattle.mst_versions.proofs.Names.{rules, sym, ap, subst, ◌∙◌, ℕ, ◌+◌, Seated, HasMade}
 use Rattle.mst_versions.proofs.Ready.{still_made}
 use Rattle.mst_versions.proofs.finishing.fill.Goals as goal
 

@@ -1,5 +1,4 @@
-use Rattle.std.proofs.Common.{rules, sym, subst}
-use Rattle.mst_versions.specs.Turns.{SeatState, Added}
+use Rattle.mst_versions.proofs.Names.{rules, sym, subst, SeatState, Added}
 use Rattle.mst_versions.proofs.finishing.finish.Goals as goal
 
 pub reveal-revealed-requires : goal.reveal-revealed-requires

@@ -1,4 +1,4 @@
-use Rattle.std.proofs.Common.{rules}
+use Rattle.mst_versions.proofs.Names.{rules}
 use Rattle.mst_versions.proofs.finishing.publish.Goals as goal
 
 pub fill-requires-clause-holds : goal.fill-requires-clause-holds

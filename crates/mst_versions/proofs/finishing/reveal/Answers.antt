@@ -1,7 +1,5 @@
-use Rattle.std.proofs.Common.{rules, arith, None, [], ◌∷◌, Some, ap}
+use Rattle.mst_versions.proofs.Names.{rules, arith, None, [], ◌∷◌, Some, ap, State, SeatState}
 use Rattle.std.proofs.lemmas.Grind.{elements}
-use Rattle.mst_arena.specs.Lives.{State}
-use Rattle.mst_versions.specs.Turns.{SeatState}
 use Rattle.mst_versions.proofs.Ready.{readying, giving}
 use Rattle.mst_versions.proofs.finishing.reveal.Goals as goal
 

@@ -1,4 +1,4 @@
-use Rattle.mst_words.specs.Stored.{desk_state}
+use Rattle.mst_versions.proofs.Names.{desk_state}
 use Rattle.mst_versions.proofs.finishing.reveal.Given as goal
 
 -- the event that is added, and what the desk then knows

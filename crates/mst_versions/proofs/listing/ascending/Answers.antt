@@ -1,5 +1,4 @@
-use Rattle.std.proofs.Common.{◌≡◌, ◌+◌, ◌<◌, ℕ, List, length, get_or, sym, subst, rules, arith}
-use Rattle.mst_versions.specs.Listing.{added}
+use Rattle.mst_versions.proofs.Names.{◌≡◌, ◌+◌, ◌<◌, ℕ, List, length, get_or, sym, subst, rules, arith, added}
 use Rattle.mst_versions.proofs.Listed.{ListsFirst, lists_none, lists_more, lists_all}
 use Rattle.mst_versions.proofs.listing.ascending.Goals as goal
 

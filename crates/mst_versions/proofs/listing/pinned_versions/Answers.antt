@@ -1,6 +1,4 @@
-use Rattle.std.proofs.Common.{List, ℕ, ◌∙◌, rules, subst}
-use Rattle.mst_words.specs.Access.{IsSameSeat}
-use Rattle.mst_versions.specs.Listing.{IsListing}
+use Rattle.mst_versions.proofs.Names.{List, ℕ, ◌∙◌, rules, subst, IsSameSeat, IsListing}
 use Rattle.mst_versions.proofs.Listed.{keeps_pass, is_free, finds_pinned}
 use Rattle.mst_versions.proofs.listing.pinned_versions.Goals as goal
 

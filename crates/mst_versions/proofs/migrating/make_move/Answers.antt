@@ -1,6 +1,4 @@
-use Rattle.std.proofs.Common.{◌≡◌, sym, subst, rules}
-use Rattle.mst_words.specs.Access.{Seated}
-use Rattle.mst_versions.specs.Turns.{HasTurn}
+use Rattle.mst_versions.proofs.Names.{◌≡◌, sym, subst, rules, Seated, HasTurn}
 use Rattle.mst_versions.proofs.Migrated.{stays_made}
 use Rattle.mst_versions.proofs.migrating.make_move.Goals as goal
 

@@ -1,7 +1,4 @@
-use Rattle.std.proofs.Common.{◌≡◌, ap, subst, rules}
-use Rattle.mst_key.specs.declared.history.Change.TheVariants.{Migrate}
-use Rattle.mst_key.specs.History.{was}
-use Rattle.mst_words.specs.Access.{Seated, IsSameSeat}
+use Rattle.mst_versions.proofs.Names.{◌≡◌, ap, subst, rules, Migrate, was, Seated, IsSameSeat}
 use Rattle.mst_versions.specs.declared.migrating.TreeFault.{TreeFault}
 use Rattle.mst_versions.specs.declared.migrating.TreeFault.TheVariants.{NoRoom}
 use Rattle.mst_versions.specs.Migrating.{LacksTree}

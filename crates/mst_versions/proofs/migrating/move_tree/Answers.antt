@@ -1,8 +1,4 @@
-use Rattle.std.proofs.Common.{sym, subst}
-use Rattle.mst_key.specs.declared.history.Change.TheVariants.{Migrate}
-use Rattle.mst_key.specs.History.{after, was}
-use Rattle.mst_words.specs.Access.{Seated}
-use Rattle.mst_versions.specs.Writes.{Made}
+use Rattle.mst_versions.proofs.Names.{sym, subst, Migrate, after, was, Seated, Made}
 use Rattle.mst_versions.proofs.Migrated.{lacks_rows, may_fall, moved_made}
 use Rattle.mst_versions.proofs.migrating.move_tree.Goals as goal
 

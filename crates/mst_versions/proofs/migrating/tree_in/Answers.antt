@@ -1,9 +1,6 @@
-use Rattle.std.proofs.Common.{◌≡◌, None, subst, ◌∙◌, rules}
+use Rattle.mst_versions.proofs.Names.{◌≡◌, None, subst, ◌∙◌, rules, map_range, after, tree}
 use Rattle.std.specs.Prelude.{IfOk}
-use Rattle.mst_key.specs.Map.{map_range}
-use Rattle.mst_key.specs.History.{after}
 use Rattle.mst_node.specs.Shape.{tree_of_child}
-use Rattle.mst_node.specs.Tree.{tree}
 use Rattle.mst_versions.proofs.Migrated.{few_pairs, whole_range}
 use Rattle.mst_versions.proofs.migrating.tree_in.Goals as goal
 

@@ -1,4 +1,4 @@
-use Rattle.std.proofs.Common.{rules}
+use Rattle.mst_versions.proofs.Names.{rules}
 use Rattle.mst_versions.proofs.reading.get.Goals as goal
 
 pub get_below-requires : goal.get_below-requires

@@ -1,7 +1,4 @@
-use Rattle.std.proofs.Common.{rules}
-use Rattle.std.proofs.Common.{ℕ, ◌≤◌, sym, subst}
-use Rattle.mst_words.specs.Access.{Seated}
-use Rattle.mst_versions.specs.Pinned.{PinsVersion}
+use Rattle.mst_versions.proofs.Names.{rules, ℕ, ◌≤◌, sym, subst, Seated, PinsVersion}
 use Rattle.mst_versions.proofs.Pinning.{pinned_link, pinned_root}
 use Rattle.mst_versions.proofs.reading.pin.Goals as goal
 

@@ -1,5 +1,4 @@
-use Rattle.std.proofs.Common.{ℕ, sym, subst}
-use Rattle.mst_words.specs.Steps.{IsReadable}
+use Rattle.mst_versions.proofs.Names.{ℕ, sym, subst, IsReadable}
 use Rattle.mst_versions.proofs.roots.field.Goals as goal
 
 pub load-requires-clause-readable : goal.load-requires-clause-readable

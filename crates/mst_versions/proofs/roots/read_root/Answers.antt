@@ -1,4 +1,4 @@
-use Rattle.std.proofs.Common.{◌∙◌}
+use Rattle.mst_versions.proofs.Names.{◌∙◌}
 use Rattle.mst_versions.proofs.Fields.{still_readable}
 use Rattle.mst_versions.proofs.roots.read_root.Goals as goal
 

@@ -1,9 +1,4 @@
-use Rattle.std.proofs.Common.{ℕ, ◌+◌, List, inr, set, get_or, arith, sym, refl, ap, ◌∙◌, subst}
-use Rattle.mst_arena.specs.Lists.{In}
-use Rattle.mst_words.specs.Layout.{record_word}
-use Rattle.mst_words.specs.Access.{Seated}
-use Rattle.mst_words.specs.Steps.{IsHolder}
-use Rattle.mst_versions.specs.Filing.{IsFiled}
+use Rattle.mst_versions.proofs.Names.{ℕ, ◌+◌, List, inr, set, get_or, arith, sym, refl, ap, ◌∙◌, subst, In, record_word, Seated, IsHolder, IsFiled}
 use Rattle.mst_versions.proofs.Filing.{filed_more}
 use Rattle.mst_versions.proofs.roots.store_all.Goals as goal
 

@@ -1,5 +1,4 @@
-use Rattle.std.proofs.Common.{◌≡◌}
-use Rattle.mst_versions.specs.Filing.{IsFiled}
+use Rattle.mst_versions.proofs.Names.{◌≡◌, IsFiled}
 use Rattle.mst_versions.proofs.roots.store_all.Given as goal
 
 abbrev pub invariant-loop-k : goal.invariant-loop-k

@@ -1,4 +1,4 @@
-use Rattle.std.proofs.Common.{arith}
+use Rattle.mst_versions.proofs.Names.{arith}
 use Rattle.std.proofs.lemmas.Grind.{moves}
 use Rattle.mst_versions.proofs.roots.write_root.Goals as goal
 

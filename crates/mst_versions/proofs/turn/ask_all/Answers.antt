@@ -1,4 +1,4 @@
-use Rattle.std.proofs.Common.{ap}
+use Rattle.mst_versions.proofs.Names.{ap}
 use Rattle.mst_versions.proofs.Asking.{knows}
 use Rattle.mst_versions.proofs.Listed.{out_still, gives, told, asks_all}
 use Rattle.mst_versions.proofs.turn.ask_all.Goals as goal

@@ -1,4 +1,4 @@
-use Rattle.std.proofs.Common.{rules}
+use Rattle.mst_versions.proofs.Names.{rules}
 use Rattle.mst_versions.proofs.turn.ask_others.Goals as goal
 
 pub new-live-requires : goal.new-live-requires

@@ -1,5 +1,4 @@
-use Rattle.mst_words.specs.Access.{IsSameSeat}
-use Rattle.mst_versions.specs.Asking.{HasAsked, AsksOnly, AsksEach}
+use Rattle.mst_versions.proofs.Names.{IsSameSeat, HasAsked, AsksOnly, AsksEach}
 use Rattle.mst_versions.proofs.turn.ask_others.Given as goal
 
 abbrev pub invariant-loop-which : goal.invariant-loop-which

@@ -1,4 +1,4 @@
-use Rattle.std.proofs.Common.{◌∷◌, [], Some, refl}
+use Rattle.mst_versions.proofs.Names.{◌∷◌, [], Some, refl}
 use Rattle.mst_versions.proofs.Slots.{giving}
 use Rattle.mst_versions.proofs.turn.give_back.Goals as goal
 

@@ -1,8 +1,4 @@
-use Rattle.std.proofs.Common.{rules}
-use Rattle.std.proofs.Common.{Some, sym, subst}
-use Rattle.mst_words.specs.Steps.{IsGiving}
-use Rattle.mst_words.specs.Stored.{stored, desk_state}
-use Rattle.mst_versions.specs.Turns.{SeatState}
+use Rattle.mst_versions.proofs.Names.{rules, Some, sym, subst, IsGiving, stored, desk_state, SeatState}
 use Rattle.mst_versions.proofs.turn.lay_back.Goals as goal
 
 pub give_turn-requires : goal.give_turn-requires

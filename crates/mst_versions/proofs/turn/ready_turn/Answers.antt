@@ -1,7 +1,4 @@
-use Rattle.std.proofs.Common.{rules, ◌≤◌, sym, ap, subst, ◌∙◌}
-use Rattle.mst_words.specs.Access.{Seated}
-use Rattle.mst_words.specs.Records.{field}
-use Rattle.mst_versions.specs.Turns.{SeatState, HasTurn}
+use Rattle.mst_versions.proofs.Names.{rules, ◌≤◌, sym, ap, subst, ◌∙◌, Seated, field, SeatState, HasTurn}
 use Rattle.mst_versions.proofs.Asking.{only_asked, all_asked, knows, none_drained, none_blocked}
 use Rattle.mst_versions.proofs.Beginning.{link_there, number_there, format_there, of_turn, ready}
 use Rattle.mst_versions.proofs.turn.ready_turn.Goals as goal

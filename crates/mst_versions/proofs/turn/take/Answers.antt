@@ -1,4 +1,4 @@
-use Rattle.mst_words.specs.Stored.{state_of}
+use Rattle.mst_versions.proofs.Names.{state_of}
 use Rattle.mst_versions.proofs.Slots.{slot_there}
 use Rattle.mst_versions.proofs.turn.take.Goals as goal
 

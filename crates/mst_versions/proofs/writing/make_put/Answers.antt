@@ -1,8 +1,5 @@
-use Rattle.std.proofs.Common.{ℕ, List, Option, ap}
-use Rattle.mst_key.specs.declared.history.Change.{Change}
+use Rattle.mst_versions.proofs.Names.{ℕ, List, Option, ap, Change, after, changed, had, content_of}
 use Rattle.mst_key.specs.declared.history.Change.TheVariants.{Put}
-use Rattle.mst_key.specs.History.{after, changed, had}
-use Rattle.mst_words.specs.Access.{content_of}
 use Rattle.mst_versions.proofs.Made.{map_stands, same_seat, key_aged, change_made}
 use Rattle.mst_versions.proofs.writing.make_put.Goals as goal
 

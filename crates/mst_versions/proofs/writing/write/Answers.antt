@@ -1,15 +1,5 @@
-use Rattle.std.proofs.Common.{rules}
-use Rattle.std.proofs.Common.{ℕ, sym, ap, subst, ◌∙◌}
-use Rattle.mst_key.specs.declared.format.Format.{Format}
-use Rattle.mst_key.specs.declared.history.Event.{Event}
-use Rattle.mst_key.specs.History.{had}
+use Rattle.mst_versions.proofs.Names.{rules, ℕ, sym, ap, subst, ◌∙◌, Format, Event, had, IsSettled, View, Seated, IsSameSeat, Turn, HoldsDesk, HasMade, Added, made_at_seat}
 use Rattle.mst_key.proofs.HistoryLaws.{format_kept}
-use Rattle.mst_arena.specs.Lives.{IsSettled}
-use Rattle.mst_words.specs.declared.view.View.{View}
-use Rattle.mst_words.specs.Access.{Seated, IsSameSeat}
-use Rattle.mst_versions.specs.declared.turn.Turn.{Turn}
-use Rattle.mst_versions.specs.Turns.{HoldsDesk, HasMade, Added}
-use Rattle.mst_versions.specs.Writes.{made_at_seat}
 use Rattle.mst_versions.proofs.Shown.{busy_at, spent_at}
 use Rattle.mst_versions.proofs.Written.{own_event, refused, wrote}
 use Rattle.mst_versions.proofs.writing.write.Goals as goal

@@ -1,4 +1,4 @@
-use Rattle.std.proofs.Common.{rules}
+use Rattle.mst_words.proofs.Names.{rules}
 use Rattle.mst_words.proofs.board.one_slot.Goals as goal
 
 pub returns-in_err-slots : goal.returns-in_err-slots

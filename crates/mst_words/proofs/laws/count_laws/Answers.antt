@@ -1,4 +1,4 @@
-use Rattle.std.proofs.Common.{refl, ap}
+use Rattle.mst_words.proofs.Names.{refl, ap}
 use Rattle.mst_words.proofs.CountLaws.{Mine, deed_counts}
 use Rattle.mst_words.proofs.laws.count_laws.Goals as goal
 

@@ -1,6 +1,6 @@
 use Rattle.mst_words.proofs.Ruling.{one_history, same_events, same_length}
 use Rattle.mst_words.proofs.Deeds.{live_stays, row_unreached, publication_grows, other_keeps, words_tell}
-use Rattle.mst_words.specs.Stored.{stored}
+use Rattle.mst_words.proofs.Names.{stored}
 use Rattle.mst_words.proofs.laws.rule_laws.Goals as goal
 
 pub returns-clause-one : goal.returns-clause-one

@@ -1,4 +1,4 @@
-use Rattle.std.proofs.Common.{rules}
+use Rattle.mst_words.proofs.Names.{rules}
 use Rattle.mst_words.proofs.layout.record_word.Goals as goal
 
 pub overflow_mul-result : goal.overflow_mul-result

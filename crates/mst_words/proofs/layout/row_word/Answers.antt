@@ -1,4 +1,4 @@
-use Rattle.std.proofs.Common.{arith}
+use Rattle.mst_words.proofs.Names.{arith}
 use Rattle.mst_words.proofs.Places.{by_lane}
 use Rattle.mst_words.proofs.layout.row_word.Goals as goal
 

@@ -1,4 +1,4 @@
-use Rattle.std.proofs.Common.{rules}
+use Rattle.mst_words.proofs.Names.{rules}
 use Rattle.mst_words.proofs.pins.bit_of.Goals as goal
 
 pub overflow_sub-result : goal.overflow_sub-result

@@ -1,9 +1,4 @@
-use Rattle.std.proofs.Common.{rules}
-use Rattle.std.proofs.lemmas.Grind.{common_steps, elements}
-use Rattle.std.proofs.Common.{◌≡◌, List, ℕ, length, ap, ◌∙◌, set, get_or, length-set, get_or-set_same, arith}
-use Rattle.std.proofs.lemmas.List.{length-replicate}
-use Rattle.mst_arena.specs.Words.{bytes_in}
-use Rattle.mst_words.specs.Layout.{table_words}
+use Rattle.mst_words.proofs.Names.{rules, common_steps, elements, ◌≡◌, List, ℕ, length, ap, ◌∙◌, set, get_or, length-set, get_or-set_same, arith, length-replicate, bytes_in, table_words}
 use Rattle.mst_words.proofs.Fresh.{four_set, four_of, behind_four}
 use Rattle.mst_words.proofs.words.first_words.Goals as goal
 

@@ -1,4 +1,4 @@
-use Rattle.std.proofs.Common.{ℕ, ◌+◌, List, [], ◌∷◌, ◌++◌, ◌∙◌, ap}
+use Rattle.mst_words.proofs.Names.{ℕ, ◌+◌, List, [], ◌∷◌, ◌++◌, ◌∙◌, ap}
 use Rattle.std.proofs.lemmas.List.{replicate_more}
 use Rattle.mst_words.proofs.words.zeros.Goals as goal
 

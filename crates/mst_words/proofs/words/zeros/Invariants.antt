@@ -1,4 +1,5 @@
-use Rattle.std.proofs.Common.{◌≡◌, replicate, vec_capacity, vec_len}
+use Rattle.mst_words.proofs.Names.{◌≡◌, replicate}
+use Rattle.std.proofs.Common.{vec_capacity, vec_len}
 use Rattle.mst_words.proofs.words.zeros.Given as goal
 
 abbrev pub invariant-loop : goal.invariant-loop

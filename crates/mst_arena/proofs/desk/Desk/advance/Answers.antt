@@ -1,5 +1,4 @@
-use Rattle.std.proofs.Common.{arith, rules}
-use Rattle.std.proofs.lemmas.Grind.{common_steps}
+use Rattle.mst_arena.proofs.Names.{arith, rules, common_steps}
 use Rattle.mst_arena.proofs.desk.Desk.advance.Goals as goal
 
 pub index-requires : goal.index-requires

@@ -1,8 +1,4 @@
-use Rattle.std.proofs.Common.{◌≡◌, ◌∙◌, ap, refl, true, Some, arith, rules}
-use Rattle.std.proofs.lemmas.Grind.{elements}
-use Rattle.std.specs.Prelude.{slice_get}
-use Rattle.mst_arena.specs.declared.life.Life.TheVariants.{Free, Born}
-use Rattle.mst_arena.specs.Lives.{State, next}
+use Rattle.mst_arena.proofs.Names.{◌≡◌, ◌∙◌, ap, refl, true, Some, arith, rules, elements, slice_get, Free, Born, State, next}
 use Rattle.mst_arena.proofs.DeskLemmas.{desk_life}
 use Rattle.mst_arena.proofs.desk.Desk.give_back.Goals as goal
 

@@ -1,9 +1,5 @@
-use Rattle.std.proofs.Common.{◌≡◌, ◌+◌, ◌∙◌, ap, sym, arith, ℕ, Some, Option, rules}
-use Rattle.std.proofs.lemmas.Grind.{common_steps, elements}
-use Rattle.std.specs.Prelude.{slice_get}
-use Rattle.mst_arena.specs.declared.life.Life.{Life}
-use Rattle.mst_arena.specs.declared.life.Life.TheVariants.{Born, Dead}
-use Rattle.mst_arena.specs.Lives.{State, next, version, ended_life, with_life}
+use Rattle.mst_arena.proofs.Names.{◌≡◌, ◌+◌, ◌∙◌, ap, sym, arith, ℕ, Some, Option, rules, common_steps, elements, slice_get, Life, Born, Dead, State, next, version, with_life}
+use Rattle.mst_arena.specs.Lives.{ended_life}
 use Rattle.mst_arena.proofs.DeskLemmas.{desk_kill, kill_room, read_is, read_index}
 use Rattle.mst_arena.proofs.desk.Desk.kill.Goals as goal
 

@@ -1,4 +1,4 @@
-use Rattle.std.proofs.Common.{rules, arith}
+use Rattle.mst_arena.proofs.Names.{rules, arith}
 use Rattle.mst_arena.proofs.DeskLemmas.{desk_new}
 use Rattle.mst_arena.proofs.desk.Desk.new.Goals as goal
 

@@ -1,8 +1,5 @@
-use Rattle.std.proofs.Common.{◌≡◌, ◌∙◌, ap, sym, subst, arith, List, length, inl, inr}
+use Rattle.mst_arena.proofs.Names.{◌≡◌, ◌∙◌, ap, sym, subst, arith, List, length, inl, inr, Life, swept_life, StayBut, AllOlder}
 use Rattle.std.specs.Prelude.{map, vec_capacity}
-use Rattle.mst_arena.specs.declared.life.Life.{Life}
-use Rattle.mst_arena.specs.Lives.{swept_life}
-use Rattle.mst_arena.specs.Lists.{StayBut, AllOlder}
 use Rattle.mst_arena.proofs.SetLemmas.{written}
 use Rattle.mst_arena.proofs.DeskLemmas.{move_room, stay_but, held_older, desk_swept, desk_forgot, length_mapped}
 use Rattle.mst_arena.proofs.desk.Desk.sweep.Goals as goal

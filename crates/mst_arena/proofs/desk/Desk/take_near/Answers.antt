@@ -1,8 +1,4 @@
-use Rattle.std.proofs.Common.{◌≡◌, ◌+◌, ◌∙◌, ap, sym, refl, ℕ, false, arith, rules}
-use Rattle.std.proofs.lemmas.Grind.{common_steps, elements}
-use Rattle.std.specs.Prelude.{slice_get}
-use Rattle.mst_arena.specs.declared.life.Life.TheVariants.{Free, Born}
-use Rattle.mst_arena.specs.Lives.{State, with_life, version}
+use Rattle.mst_arena.proofs.Names.{◌≡◌, ◌+◌, ◌∙◌, ap, sym, refl, ℕ, false, arith, rules, common_steps, elements, slice_get, Free, Born, State, with_life, version}
 use Rattle.mst_arena.proofs.DeskLemmas.{desk_life, free_flag, free_life, read_index}
 use Rattle.mst_arena.proofs.desk.Desk.take_near.Goals as goal
 

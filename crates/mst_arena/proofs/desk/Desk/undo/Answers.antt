@@ -1,6 +1,5 @@
-use Rattle.std.proofs.Common.{◌+◌, ◌∙◌, ap, map, length, rules, arith}
+use Rattle.mst_arena.proofs.Names.{◌+◌, ◌∙◌, ap, map, length, rules, arith, undone_life}
 use Rattle.std.proofs.lemmas.List.{length-map}
-use Rattle.mst_arena.specs.Undone.{undone_life}
 use Rattle.mst_arena.proofs.DeskLemmas.{read_index}
 use Rattle.mst_arena.proofs.SetLemmas.{written}
 use Rattle.mst_arena.proofs.UndoLemmas.{desk_undone}

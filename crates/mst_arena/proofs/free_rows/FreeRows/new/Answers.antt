@@ -1,8 +1,4 @@
-use Rattle.std.proofs.Common.{◌≡◌, ◌≢◌, ◌<◌, ◌+◌, ◌∙◌, ap, arith, ℕ, List, Bool, true, false, length, Some, replicate, inl, inr, ◌⊎◌}
-use Rattle.std.specs.Prelude.{slice_get, slice_set}
-use Rattle.std.proofs.Math.ListN.{length-set}
-use Rattle.std.proofs.lemmas.Bool.{cases_eq}
-use Rattle.mst_arena.specs.Bits.{flags}
+use Rattle.mst_arena.proofs.Names.{◌≡◌, ◌≢◌, ◌<◌, ◌+◌, ◌∙◌, ap, arith, ℕ, List, Bool, true, false, length, Some, replicate, inl, inr, ◌⊎◌, slice_get, slice_set, length-set, cases_eq, flags}
 use Rattle.mst_arena.proofs.FlagLemmas.{length-flags}
 use Rattle.mst_arena.proofs.SetLemmas.{empty_set, no_flag, get_set_same, get_set_other, all_true}
 use Rattle.mst_arena.proofs.free_rows.FreeRows.new.Goals as goal

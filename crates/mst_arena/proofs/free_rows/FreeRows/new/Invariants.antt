@@ -1,5 +1,4 @@
-use Rattle.std.proofs.Common.{◌≡◌, ℕ, ◌<◌, ◌≤◌, true, false, length, Some}
-use Rattle.std.specs.Prelude.{slice_get}
+use Rattle.mst_arena.proofs.Names.{◌≡◌, ℕ, ◌<◌, ◌≤◌, true, false, length, Some, slice_get}
 use Rattle.mst_arena.proofs.free_rows.FreeRows.new.Given as goal
 
 abbrev pub invariant-loop-row : goal.invariant-loop-row

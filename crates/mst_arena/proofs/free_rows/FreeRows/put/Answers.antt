@@ -1,6 +1,4 @@
-use Rattle.std.proofs.Common.{◌≡◌, ◌∙◌, ap, subst, arith, List, ℕ, Bool, true, false, length, Some}
-use Rattle.std.specs.Prelude.{slice_get, slice_set}
-use Rattle.mst_arena.specs.Bits.{flags, BitWritten}
+use Rattle.mst_arena.proofs.Names.{◌≡◌, ◌∙◌, ap, subst, arith, List, ℕ, Bool, true, false, length, Some, slice_get, slice_set, flags, BitWritten}
 use Rattle.mst_arena.proofs.FlagLemmas.{flag_within}
 use Rattle.mst_arena.proofs.SetLemmas.{put_flags, put_room, set_put, written}
 use Rattle.mst_arena.proofs.free_rows.FreeRows.put.Goals as goal

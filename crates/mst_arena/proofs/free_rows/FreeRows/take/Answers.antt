@@ -1,6 +1,5 @@
-use Rattle.std.proofs.Common.{◌≡◌, ◌∙◌, ◌<◌, ap, sym, arith, List, ℕ, Bool, true, false, length, Some, None, refl, Option}
-use Rattle.std.specs.Prelude.{slice_get, slice_set, slice_index, IfNone}
-use Rattle.mst_arena.specs.Bits.{bit, count_true}
+use Rattle.mst_arena.proofs.Names.{◌≡◌, ◌∙◌, ◌<◌, ap, sym, arith, List, ℕ, Bool, true, false, length, Some, None, refl, Option, slice_get, slice_set, slice_index, bit, count_true}
+use Rattle.std.specs.Prelude.{IfNone}
 use Rattle.mst_arena.proofs.FlagLemmas.{length-flags}
 use Rattle.mst_arena.proofs.SetLemmas.{bit_there, set_none, set_bit_flag}
 use Rattle.mst_arena.proofs.free_rows.FreeRows.take.Goals as goal

@@ -1,6 +1,4 @@
-use Rattle.std.proofs.Common.{◌≡◌, ◌∙◌, ◌<◌, ap, subst, arith, List, ℕ, Bool, true, false, length, Some}
-use Rattle.std.specs.Prelude.{slice_get, slice_set}
-use Rattle.mst_arena.specs.Bits.{flags, bit, BitWritten}
+use Rattle.mst_arena.proofs.Names.{◌≡◌, ◌∙◌, ◌<◌, ap, subst, arith, List, ℕ, Bool, true, false, length, Some, slice_get, slice_set, flags, bit, BitWritten}
 use Rattle.mst_arena.proofs.FlagLemmas.{flag_within, length-flags, bit_of_flag}
 use Rattle.mst_arena.proofs.SetLemmas.{take_flags, take_some, set_take, written}
 use Rattle.mst_arena.proofs.free_rows.FreeRows.take_at.Goals as goal

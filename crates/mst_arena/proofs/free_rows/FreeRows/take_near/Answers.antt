@@ -1,6 +1,4 @@
-use Rattle.std.proofs.Common.{◌≡◌, ◌∙◌, ap, sym, arith, rules, List, ℕ, Bool, true, false, length, Option, Some, None}
-use Rattle.std.specs.Prelude.{slice_get, slice_set, IfSome}
-use Rattle.mst_arena.specs.Bits.{bit, flags}
+use Rattle.mst_arena.proofs.Names.{◌≡◌, ◌∙◌, ap, sym, arith, rules, List, ℕ, Bool, true, false, length, Option, Some, None, slice_get, slice_set, IfSome, bit, flags}
 use Rattle.mst_arena.proofs.FlagLemmas.{bit_of_flag, length-flags}
 use Rattle.mst_arena.proofs.SetLemmas.{set_bit_flag}
 use Rattle.mst_arena.proofs.free_rows.FreeRows.take_near.Goals as goal

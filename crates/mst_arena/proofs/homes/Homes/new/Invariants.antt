@@ -1,5 +1,4 @@
-use Rattle.std.proofs.Common.{◌≡◌, vec_capacity, vec_len}
-use Rattle.std.specs.List.{range_with_len}
+use Rattle.mst_arena.proofs.Names.{◌≡◌, vec_capacity, vec_len, range_with_len}
 use Rattle.mst_arena.proofs.homes.Homes.new.Given as goal
 
 abbrev pub invariant-loop-row : goal.invariant-loop-row

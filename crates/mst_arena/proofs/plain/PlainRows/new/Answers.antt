@@ -1,5 +1,4 @@
-use Rattle.std.proofs.Common.{arith, rules}
-use Rattle.std.proofs.lemmas.Grind.{common_steps}
+use Rattle.mst_arena.proofs.Names.{arith, rules, common_steps}
 use Rattle.mst_arena.proofs.plain.PlainRows.new.Goals as goal
 
 pub returns-in_err-places : goal.returns-in_err-places

@@ -1,4 +1,4 @@
-use Rattle.std.proofs.Common.{◌≡◌, replicate, None, vec_capacity, vec_len}
+use Rattle.mst_arena.proofs.Names.{◌≡◌, replicate, None, vec_capacity, vec_len}
 use Rattle.mst_arena.proofs.plain.PlainRows.new.Given as goal
 
 abbrev pub invariant-loop : goal.invariant-loop

@@ -1,5 +1,4 @@
-use Rattle.std.proofs.Common.{arith}
-use Rattle.std.proofs.lemmas.Grind.{elements}
+use Rattle.mst_arena.proofs.Names.{arith, elements}
 use Rattle.mst_arena.proofs.plain.PlainRowsRows.way.Goals as goal
 
 pub index-requires : goal.index-requires

@@ -1,5 +1,4 @@
-use Rattle.std.proofs.Common.{arith, rules}
-use Rattle.std.proofs.lemmas.Grind.{elements}
+use Rattle.mst_arena.proofs.Names.{arith, rules, elements}
 use Rattle.mst_arena.proofs.plain.PlainRowsRows.write.Goals as goal
 
 pub index_mut-requires : goal.index_mut-requires

@@ -1,4 +1,4 @@
-use Rattle.std.proofs.Common.{rules}
+use Rattle.mst_arena.proofs.Names.{rules}
 use Rattle.mst_arena.proofs.Readers.{head_links_of}
 use Rattle.mst_arena.proofs.row.HeadLinks.read.Goals as goal
 

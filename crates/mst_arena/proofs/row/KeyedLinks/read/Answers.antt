@@ -1,4 +1,4 @@
-use Rattle.std.proofs.Common.{rules}
+use Rattle.mst_arena.proofs.Names.{rules}
 use Rattle.mst_arena.proofs.Readers.{key_bytes, keyed_links_of}
 use Rattle.mst_arena.proofs.row.KeyedLinks.read.Goals as goal
 

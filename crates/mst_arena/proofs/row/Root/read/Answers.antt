@@ -1,4 +1,4 @@
-use Rattle.std.proofs.Common.{rules}
+use Rattle.mst_arena.proofs.Names.{rules}
 use Rattle.mst_arena.proofs.row.Root.read.Goals as goal
 
 pub bounds-words-0 : goal.bounds-words-0

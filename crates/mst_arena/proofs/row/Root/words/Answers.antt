@@ -1,4 +1,4 @@
-use Rattle.std.proofs.Common.{rules}
+use Rattle.mst_arena.proofs.Names.{rules}
 use Rattle.mst_arena.proofs.row.Root.words.Goals as goal
 
 pub bounds-digest_words-0 : goal.bounds-digest_words-0

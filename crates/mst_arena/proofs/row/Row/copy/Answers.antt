@@ -1,4 +1,4 @@
-use Rattle.std.proofs.Common.{rules}
+use Rattle.mst_arena.proofs.Names.{rules}
 use Rattle.mst_arena.proofs.row.Row.copy.Goals as goal
 
 pub returns-in-Entry : goal.returns-in-Entry

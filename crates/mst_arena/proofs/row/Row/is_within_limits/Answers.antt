@@ -1,4 +1,4 @@
-use Rattle.std.proofs.Common.{rules}
+use Rattle.mst_arena.proofs.Names.{rules}
 use Rattle.mst_arena.proofs.row.Row.is_within_limits.Goals as goal
 
 pub returns-then-child-le-HIGHEST_LINK : goal.returns-then-child-le-HIGHEST_LINK

@@ -1,6 +1,5 @@
-use Rattle.std.proofs.Common.{◌≡◌, rules}
+use Rattle.mst_arena.proofs.Names.{◌≡◌, rules, row_in}
 use Rattle.std.specs.Prelude.{None}
-use Rattle.mst_arena.specs.Words.{row_in}
 use Rattle.mst_arena.proofs.Spelling.{none_found, no_row}
 use Rattle.mst_arena.proofs.row.Row.read.Goals as goal
 use Rattle.mst_arena.proofs.row.Row.read.Goals.{else-is_within_limits-via-then-is_within_limits+else-eq, else-is_within_limits-via-else-is_within_limits}

@@ -1,4 +1,4 @@
-use Rattle.std.proofs.Common.{rules}
+use Rattle.mst_arena.proofs.Names.{rules}
 use Rattle.mst_arena.proofs.Readers.{four_bytes, head_digest_of}
 use Rattle.mst_arena.proofs.row.Row.read_digest.Goals as goal
 

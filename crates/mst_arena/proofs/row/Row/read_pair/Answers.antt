@@ -1,4 +1,4 @@
-use Rattle.std.proofs.Common.{rules}
+use Rattle.mst_arena.proofs.Names.{rules}
 use Rattle.mst_arena.proofs.Readers.{entry_pair_of}
 use Rattle.mst_arena.proofs.row.Row.read_pair.Goals as goal
 

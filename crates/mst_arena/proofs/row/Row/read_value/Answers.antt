@@ -1,5 +1,4 @@
-use Rattle.std.proofs.Common.{◌≡◌, ℕ, ◌/◌, List, take, subst, rules}
-use Rattle.std.specs.Prelude.{IfSome}
+use Rattle.mst_arena.proofs.Names.{◌≡◌, ℕ, ◌/◌, List, take, subst, rules, IfSome}
 use Rattle.mst_arena.proofs.Readers.{eight_bytes, entry_value_of}
 use Rattle.mst_arena.proofs.row.Row.read_value.Goals as goal
 

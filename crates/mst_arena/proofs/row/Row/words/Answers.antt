@@ -1,5 +1,4 @@
-use Rattle.std.proofs.Common.{sym, subst, rules}
-use Rattle.mst_arena.specs.Row.{HasBytes}
+use Rattle.mst_arena.proofs.Names.{sym, subst, rules, HasBytes}
 use Rattle.mst_arena.proofs.Spelling.{row_with_words}
 use Rattle.mst_arena.proofs.row.Row.words.Goals as goal
 

@@ -1,4 +1,4 @@
-use Rattle.std.proofs.Common.{rules}
+use Rattle.mst_arena.proofs.Names.{rules}
 use Rattle.mst_arena.proofs.rows.Rows.entry.Goals as goal
 
 pub read-requires : goal.read-requires

@@ -1,6 +1,4 @@
-use Rattle.std.proofs.Common.{IsSome, sym, ◌∙◌, ap, subst}
-use Rattle.mst_arena.specs.Content.{Content, part_at}
-use Rattle.mst_arena.specs.Row.{entry_value}
+use Rattle.mst_arena.proofs.Names.{IsSome, sym, ◌∙◌, ap, subst, Content, part_at, entry_value}
 use Rattle.mst_arena.proofs.EntryParts.{pair_of, value_there}
 use Rattle.mst_arena.proofs.rows.Rows.pair.Goals as goal
 

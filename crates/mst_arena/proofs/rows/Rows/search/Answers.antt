@@ -1,7 +1,4 @@
-use Rattle.std.proofs.Common.{◌-◌, IsSome, refl, sym, ◌∙◌, ap, subst, arith}
-use Rattle.mst_arena.specs.Content.{Content, part_at}
-use Rattle.mst_arena.specs.Row.{keyed_links}
-use Rattle.mst_arena.specs.Ways.{entry_way}
+use Rattle.mst_arena.proofs.Names.{◌-◌, IsSome, refl, sym, ◌∙◌, ap, subst, arith, Content, part_at, keyed_links, entry_way}
 use Rattle.mst_arena.proofs.StopLemmas.{from_first, entry_met, in_gap, at_key, past_entry, behind_all}
 use Rattle.mst_arena.proofs.rows.Rows.search.Goals as goal
 

@@ -1,4 +1,4 @@
-use Rattle.std.proofs.Common.{◌≡◌}
+use Rattle.mst_arena.proofs.Names.{◌≡◌}
 use Rattle.mst_arena.proofs.StopLemmas.{Goes}
 use Rattle.mst_arena.proofs.rows.Rows.search.Given as goal
 

@@ -1,4 +1,4 @@
-use Rattle.std.proofs.Common.{rules}
+use Rattle.mst_arena.proofs.Names.{rules}
 use Rattle.mst_arena.proofs.rows.Rows.way.Goals as goal
 
 pub entry-entry-requires : goal.entry-entry-requires

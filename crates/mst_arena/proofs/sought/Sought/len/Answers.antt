@@ -1,4 +1,4 @@
-use Rattle.std.proofs.Common.{rules}
+use Rattle.mst_arena.proofs.Names.{rules}
 use Rattle.mst_arena.proofs.sought.Sought.len.Goals as goal
 
 pub returns-clause-count : goal.returns-clause-count

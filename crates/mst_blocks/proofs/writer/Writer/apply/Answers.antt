@@ -1,8 +1,4 @@
-use Rattle.std.proofs.Common.{vec_items, rules, subst}
-use Rattle.std.specs.Arc.{arc_value}
-use Rattle.mst_shards.specs.BlockHistory.{Whole, whole}
-use Rattle.mst_blocks.specs.Writing.{RefusesBlock}
-use Rattle.mst_blocks.specs.declared.faults.BlockFault.{BlockFault}
+use Rattle.mst_blocks.proofs.Names.{vec_items, rules, subst, arc_value, Whole, whole, RefusesBlock, BlockFault}
 use Rattle.mst_blocks.specs.declared.faults.BlockFault.TheVariants as variant
 use Rattle.mst_blocks.proofs.Blocked.{refused_before, from_ok, from_err_of}
 use Rattle.mst_blocks.proofs.Kept.{made_laid, left_laid, last_rooted, writer_of}

@@ -1,11 +1,5 @@
-use Rattle.std.proofs.Common.{◌≡◌, ℕ, List, vec_items, rules, sym, ap, subst, ◌∙◌}
-use Rattle.std.specs.Arc.{arc_value}
-use Rattle.mst_store.specs.Passes.{Known, StoreId}
-use Rattle.mst_shards.specs.BlockHistory.{Whole}
+use Rattle.mst_blocks.proofs.Names.{◌≡◌, ℕ, List, vec_items, rules, sym, ap, subst, ◌∙◌, arc_value, Known, StoreId, Whole, LeavesAll, Counts, block_map, HasMade}
 use Rattle.mst_shards.specs.Sharding.{Sharding}
-use Rattle.mst_blocks.specs.Blocks.{LeavesAll}
-use Rattle.mst_blocks.specs.Counting.{Counts}
-use Rattle.mst_blocks.specs.Writing.{block_map, HasMade}
 use Rattle.mst_blocks.proofs.Blocked.{writes_still, map_still, made_no_block}
 use Rattle.mst_blocks.proofs.RowsCounted.{left_by_listing, store_still, root_still}
 use Rattle.mst_blocks.proofs.writer.Writer.directory_free_rows.Given.{Over}

@@ -1,12 +1,4 @@
-use Rattle.std.proofs.Common.{◌≡◌, ◌<◌, ◌≤◌, ℕ, List, length, set, vec_items, vec_len, rules, sym, ap, subst, ◌∙◌, arith}
-use Rattle.std.specs.Arc.{arc_value}
-use Rattle.mst_store.specs.Passes.{Known, StoreId}
-use Rattle.mst_shards.specs.BlockHistory.{Whole}
-use Rattle.mst_shards.specs.Laid.{AreOf}
-use Rattle.mst_shards.specs.Sharding.{sharding}
-use Rattle.mst_blocks.specs.Blocks.{LeavesAll}
-use Rattle.mst_blocks.specs.Counting.{CountsAt}
-use Rattle.mst_blocks.specs.Writing.{block_map, HasMade}
+use Rattle.mst_blocks.proofs.Names.{◌≡◌, ◌<◌, ◌≤◌, ℕ, List, length, set, vec_items, vec_len, rules, sym, ap, subst, ◌∙◌, arith, arc_value, Known, StoreId, Whole, AreOf, sharding, LeavesAll, CountsAt, block_map, HasMade}
 use Rattle.mst_blocks.proofs.Blocked.{writer_count, writes_still, map_still, made_no_block}
 use Rattle.mst_blocks.proofs.Reading.{writer_sharding, set_back}
 use Rattle.mst_blocks.proofs.RowsCounted.{counted_at, left_by_count, own_still}

@@ -1,13 +1,4 @@
-use Rattle.std.proofs.Common.{◌≡◌, ◌≢◌, ◌≤◌, ◌+◌, ℕ, List, length, set, vec_items, vec_len, rules, sym, ap, subst, ◌∙◌}
-use Rattle.std.specs.Arc.{arc_value}
-use Rattle.mst_key.specs.History.{after}
-use Rattle.mst_key.specs.Map.{map_get}
-use Rattle.mst_store.specs.Passes.{Known, Looks, StoreId}
-use Rattle.mst_shards.specs.BlockHistory.{Whole}
-use Rattle.mst_shards.specs.Laid.{AreOf}
-use Rattle.mst_shards.specs.Sharding.{place, sharding, Routes}
-use Rattle.mst_blocks.specs.Blocks.{last_made, LeavesAll}
-use Rattle.mst_blocks.specs.Writing.{block_map, HasMade}
+use Rattle.mst_blocks.proofs.Names.{◌≡◌, ◌≢◌, ◌≤◌, ◌+◌, ℕ, List, length, set, vec_items, vec_len, rules, sym, ap, subst, ◌∙◌, arc_value, after, map_get, Known, Looks, StoreId, Whole, AreOf, place, sharding, Routes, last_made, LeavesAll, block_map, HasMade}
 use Rattle.mst_blocks.proofs.Blocked.{writes_still, map_still, made_no_block}
 use Rattle.mst_blocks.proofs.Reading.{writer_sharding, set_back, routed, left_by_look, still_own, found_last, if_found}
 use Rattle.mst_blocks.proofs.writer.Writer.get.Given.{Over}

@@ -1,15 +1,7 @@
-use Rattle.std.proofs.Common.{◌≡◌, ◌∙◌, ◌+◌, List, length, vec_items, rules, sym, ap, subst}
-use Rattle.std.specs.Arc.{arc_value}
-use Rattle.std.proofs.lemmas.List.{length-map}
-use Rattle.mst_key.specs.History.{after}
+use Rattle.mst_blocks.proofs.Names.{◌≡◌, ◌∙◌, ◌+◌, List, length, vec_items, rules, sym, ap, subst, arc_value, length-map, after, Known, StoreId, format_seen, whole, Shards, IsSplits, AddsBatch, IsWriterOf, empty_listings}
 use Rattle.mst_node.specs.Text.{root as root_of}
-use Rattle.mst_store.specs.Passes.{Known, StoreId, format_seen}
 use Rattle.mst_sharded_proof.specs.Shards.{shards as shards_at}
-use Rattle.mst_shards.specs.BlockHistory.{whole}
-use Rattle.mst_shards.specs.Opening.{Shards, Dealt, IsLot}
-use Rattle.mst_shards.specs.Sharding.{IsSplits}
-use Rattle.mst_blocks.specs.Blocks.{AddsBatch}
-use Rattle.mst_blocks.specs.Writing.{IsWriterOf, empty_listings}
+use Rattle.mst_shards.specs.Opening.{Dealt, IsLot}
 use Rattle.mst_blocks.proofs.Begun.{begun_writer, begun_none}
 use Rattle.mst_blocks.proofs.Kept.{begun_rooted}
 use Rattle.mst_blocks.proofs.writer.Writer.new.Given.{Over}

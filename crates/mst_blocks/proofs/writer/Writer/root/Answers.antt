@@ -1,9 +1,4 @@
-use Rattle.std.proofs.Common.{vec_items, subst}
-use Rattle.std.specs.Arc.{arc_value}
-use Rattle.mst_store.specs.Passes.{format_seen}
-use Rattle.mst_sharded_proof.specs.Theorem.{HasShardedRoot}
-use Rattle.mst_shards.specs.BlockHistory.{Whole, whole}
-use Rattle.mst_blocks.specs.Writing.{at_last, block_map}
+use Rattle.mst_blocks.proofs.Names.{vec_items, subst, arc_value, format_seen, HasShardedRoot, Whole, whole, at_last, block_map}
 use Rattle.mst_blocks.proofs.Blocked.{writer_root}
 use Rattle.mst_blocks.proofs.writer.Writer.root.Goals as goal
 

@@ -6,12 +6,12 @@ use denote.RawPtr.{Ptr}
 use denote.Struct.Struct.{exits_of}
 use denote.Struct.Owning.{shape, fields, to}
 use denote.Param.Send.{IsSend, AllSend, owning_send, struct_send, sendable}
-use Rattle.std.specs.Prelude.{None, Some}
+use Rattle.mst_c.proofs.Names.{None, Some, hand_owns}
 use Rattle.std.specs.Global.{Global}
 use Rattle.std.proofs.Crossing as heap
 use Rattle.std_alloc.proofs.SendSync.{quiet, lies}
 use Rattle.std_heap.proofs.Global.TheSendSync as handle
-use Rattle.mst_c.specs.Owning.{HeldNow, hand_owns}
+use Rattle.mst_c.specs.Owning.{HeldNow}
 use Rattle.mst_c.specs.contracts.pass_box.PassBox as PassBox
 use Rattle.mst_c.proofs.pass_box.PassBox.TheSendSync.{the_send as held}
 use Rattle.mst_c.specs.contracts.hand.Hand.{the_row, the_type}

@@ -1,7 +1,5 @@
 -- An empty hand is null beside the handle that it was given.
-use Rattle.std.proofs.Common.{List, [], ◌∷◌, ◌++◌, refl, sym, subst}
-use Rattle.std.proofs.raw_atomic.Walks.{proved_at}
-use Rattle.std.specs.Prelude.{None}
+use Rattle.mst_c.proofs.Names.{List, [], ◌∷◌, ◌++◌, refl, sym, subst, proved_at, None, handle_tells, handle}
 use base.Logic.{ent}
 use base.Fml.{ftrue}
 use contract.Running.{tables}
@@ -17,8 +15,6 @@ use types.Kit.{‵, ◌⊛◌, ◌$◌, ◌∵◌, !, qed, by, drop, keep, split
 use types.Logic.{sem}
 use types.Part.{agg}
 use types.Run.{enter, lit, no_more, and_then, returns}
-use Rattle.core.proofs.alloc.Calls.{handle_tells}
-use Rattle.std_alloc.proofs.BoxSteps.Form.{handle}
 use Rattle.mst_c.proofs.AsBox.{E}
 use Rattle.mst_c.proofs.Values.{both, nil, nil_good, hand_empty}
 use Rattle.mst_c.specs.contracts.hand.Hand.empty as f

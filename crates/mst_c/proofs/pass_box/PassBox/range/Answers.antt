@@ -1,4 +1,4 @@
-use Rattle.std.proofs.Common.{rules}
+use Rattle.mst_c.proofs.Names.{rules}
 use Rattle.mst_c.proofs.Listing.{range_few}
 use Rattle.mst_c.proofs.pass_box.PassBox.range.Goals as goal
 

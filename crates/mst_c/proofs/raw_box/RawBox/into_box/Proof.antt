@@ -1,5 +1,5 @@
 -- A box that is made of parts owns what they owned.
-use Rattle.std.proofs.Common.{◌≡◌, List, [], ◌∷◌, ◌++◌, refl, sym, ap, subst}
+use Rattle.mst_c.proofs.Names.{◌≡◌, List, [], ◌∷◌, ◌++◌, refl, sym, ap, subst, token, Goes-blank, box_owns, Bx, B, R, handle, box_ty, word, box_typed, box_out, box_in, after}
 use seplogic.Ra.Ura.{Ura}
 use mir.MapTy.{inst_fn}
 use mir.Syntax.{Fn, Args, Callee, a_type, dcons, dnil}
@@ -31,14 +31,10 @@ use types.Kit.{Item, ‵, raw, ◌⊛◌, at_ret, some, later, ◌$◌, ◌∵�
 use types.Logic.{Logic}
 use types.Part.{whole, sub}
 use types.Run.{stop, fld, no_more, and_then, of_opd, first, blocks, exec, returns, enter}
-use Rattle.core.proofs.alloc.Calls.{token, Goes-blank}
-use Rattle.std_alloc.specs.Box.Ownership.{box_owns}
 use Rattle.std_alloc.specs.contracts.boxed.Box.from_raw as Raised
 use Rattle.std_alloc.proofs.boxed.Box.from_raw.Symbol as raised
 use Rattle.std_alloc.proofs.boxed.Box.from_raw.Met as raised_met
-use Rattle.std_alloc.proofs.BoxSteps.Form.{Bx, B, R, D, handle, box_ty, word, box_typed}
-use Rattle.std_alloc.proofs.BoxSteps.Steps.{box_out, box_in}
-use Rattle.std_alloc.proofs.VecSteps.Shapes.{after}
+use Rattle.std_alloc.proofs.BoxSteps.Form.{D}
 use Rattle.mst_c.proofs.RawBoxSteps.{Part, parts_out}
 use Rattle.mst_c.specs.contracts.raw_box.RawBox.into_box as f
 use Rattle.mst_c.proofs.raw_box.RawBox.into_box.Statement.{statement}

@@ -1,5 +1,5 @@
 -- The parts of a box are its pointer and its handle, and own what the box owned.
-use Rattle.std.proofs.Common.{◌≡◌, List, [], ◌∷◌, ◌++◌, refl, sym, ap, subst, ◌∙◌}
+use Rattle.mst_c.proofs.Names.{◌≡◌, List, [], ◌∷◌, ◌++◌, refl, sym, ap, subst, ◌∙◌, token, handle_tells, Goes-blank, box_owns, Bx, B, R, τ, word, box_typed, box_out, box_in}
 use seplogic.Ra.Ura.{Ura}
 use mir.MapTy.{inst_fn}
 use mir.Raw.{raw as bare}
@@ -33,13 +33,9 @@ use types.Kit.{Item, ‵, raw, ◌⊛◌, some, later, ◌$◌, ◌∵◌, !, qe
 use types.Logic.{Logic, sem}
 use types.Part.{whole, sub, agg}
 use types.Run.{stop, fld, no_more, and_then, of_opd, returns, enter}
-use Rattle.core.proofs.alloc.Calls.{token, handle_tells, Goes-blank}
-use Rattle.std_alloc.specs.Box.Ownership.{box_owns}
 use Rattle.std_alloc.specs.contracts.boxed.Box.into_raw_with_allocator as Taken
 use Rattle.std_alloc.proofs.boxed.Box.into_raw_with_allocator.Symbol as taken
 use Rattle.std_alloc.proofs.boxed.Box.into_raw_with_allocator.Met as taken_met
-use Rattle.std_alloc.proofs.BoxSteps.Form.{Bx, B, R, τ, word, box_typed}
-use Rattle.std_alloc.proofs.BoxSteps.Steps.{box_out, box_in}
 use Rattle.mst_c.proofs.RawBoxSteps.{parts_in}
 use Rattle.mst_c.specs.contracts.raw_box.RawBox.of as f
 use Rattle.mst_c.proofs.raw_box.RawBox.of.Statement.{statement}

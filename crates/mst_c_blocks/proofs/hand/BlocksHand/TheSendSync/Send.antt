@@ -6,12 +6,11 @@ use denote.RawPtr.{Ptr}
 use denote.Struct.Struct.{exits_of}
 use denote.Struct.Owning.{shape, fields, to}
 use denote.Param.Send.{IsSend, AllSend, owning_send, struct_send, sendable}
-use Rattle.std.specs.Prelude.{None, Some}
+use Rattle.mst_c_blocks.proofs.Names.{None, Some, HeldNow, hand_owns}
 use Rattle.std.specs.Global.{Global}
 use Rattle.std.proofs.Crossing as heap
 use Rattle.std_alloc.proofs.SendSync.{quiet, lies}
 use Rattle.std_heap.proofs.Global.TheSendSync as handle
-use Rattle.mst_c_blocks.specs.Owning.{HeldNow, hand_owns}
 use Rattle.mst_c_blocks.specs.contracts.role_box.RoleBox as RoleBox
 use Rattle.mst_c_blocks.proofs.Sent.{box_send}
 use Rattle.mst_c_blocks.specs.contracts.hand.BlocksHand.{the_row, the_type}

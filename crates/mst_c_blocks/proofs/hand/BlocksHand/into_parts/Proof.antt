@@ -1,7 +1,5 @@
 -- A hand gives back the parts of its box, or none where it is null.
-use Rattle.std.proofs.Common.{List, [], ◌∷◌, ◌++◌, refl, sym, subst, lit<}
-use Rattle.std.proofs.raw_atomic.Walks.{proved_at}
-use Rattle.std.specs.Prelude.{Some, None}
+use Rattle.mst_c_blocks.proofs.Names.{List, [], ◌∷◌, ◌++◌, refl, sym, subst, lit<, proved_at, Some, None, true, ◌&&◌, token, box_owns, R, word, handle, box_typed, and_tt, Part}
 use base.Logic.{ent, sep}
 use base.Fml.{ftrue, fsep}
 use contract.Running.{tables}
@@ -10,7 +8,6 @@ use denote.RawPtr.{block_ptr, tests_null}
 use denote.Steps.{nothing}
 use denote.Triple.Walked.{Stays, walk_of, says, stay_dropped, Goes-dropped, ends_at}
 use lib.Dec.{T}
-use mathlib.Core.Bool.{true, ◌&&◌}
 use mir.Val.{Val, vcons, vnil, has_ty, WT}
 use prog.Wp.{WpFn}
 use types.ByLocal.{alloc_all, pass_all, free_all, look_at, get, get_in, sets, sets_last, env}
@@ -19,16 +16,13 @@ use types.Logic.{sem}
 use types.Match.{live}
 use types.Part.{whole, sub, agg}
 use types.Run.{enter, stop, fld, of_opd, lit, bin, first, branches, exec, no_more, and_then, returns}
-use Rattle.core.proofs.alloc.Calls.{token}
 use Rattle.core.proofs.option.Made.{Some-of, none_of}
-use Rattle.std_alloc.specs.Box.Ownership.{box_owns}
-use Rattle.std_alloc.proofs.BoxSteps.Form.{R, word, handle, box_ty, box_typed}
-use Rattle.std_alloc.proofs.ResultValues.{and_tt}
+use Rattle.std_alloc.proofs.BoxSteps.Form.{box_ty}
 use Rattle.std_alloc.proofs.VecSteps.Shapes.{after}
 use Rattle.core.specs.contracts.option.Option as Opt
 use Rattle.mst_c_blocks.specs.contracts.hand.BlocksHand as Hand
 use Rattle.mst_c_blocks.proofs.BoxParts.{E, FromHand}
-use Rattle.mst_c.proofs.RawBoxSteps.{Part, Apart, parts_in}
+use Rattle.mst_c.proofs.RawBoxSteps.{Apart, parts_in}
 use Rattle.mst_c_blocks.proofs.HandValues.{nil_good, hand_out}
 use Rattle.mst_c_blocks.specs.contracts.hand.BlocksHand.into_parts as f
 use Rattle.mst_c_blocks.proofs.hand.BlocksHand.into_parts.Statement.{statement}

@@ -1,7 +1,5 @@
 -- A hand that is made of parts holds what their box held.
-use Rattle.std.proofs.Common.{List, [], ◌∷◌, ◌++◌, refl, sym, subst}
-use Rattle.std.proofs.raw_atomic.Walks.{proved_at}
-use Rattle.std.specs.Prelude.{Some}
+use Rattle.mst_c_blocks.proofs.Names.{List, [], ◌∷◌, ◌++◌, refl, sym, subst, proved_at, Some, token, box_owns, R, word, handle, box_typed, Part}
 use base.Logic.{ent, sep}
 use base.Fml.{ftrue, fsep}
 use contract.Running.{tables}
@@ -16,11 +14,8 @@ use types.Kit.{‵, ◌⊛◌, ◌$◌, ◌∵◌, !, qed, by, drop, keep, split
 use types.Logic.{sem}
 use types.Part.{whole, sub, agg}
 use types.Run.{enter, stop, fld, of_opd, no_more, and_then, returns}
-use Rattle.core.proofs.alloc.Calls.{token}
-use Rattle.std_alloc.specs.Box.Ownership.{box_owns}
-use Rattle.std_alloc.proofs.BoxSteps.Form.{R, word, handle, box_typed}
 use Rattle.mst_c_blocks.proofs.BoxParts.{E, FromRawBox}
-use Rattle.mst_c.proofs.RawBoxSteps.{Part, parts_out}
+use Rattle.mst_c.proofs.RawBoxSteps.{parts_out}
 use Rattle.mst_c_blocks.proofs.HandValues.{hand_full}
 use Rattle.mst_c_blocks.specs.contracts.hand.BlocksHand.of_parts as f
 use Rattle.mst_c_blocks.proofs.hand.BlocksHand.of_parts.Statement.{statement}

@@ -1,4 +1,4 @@
-use Rattle.std.proofs.Common.{rules}
+use Rattle.mst_key.proofs.Names.{rules}
 use Rattle.mst_key.proofs.key.Key.copy.Goals as goal
 
 pub new-bytes-requires : goal.new-bytes-requires

@@ -1,5 +1,4 @@
-use Rattle.std.proofs.Common.{arith, rules}
-use Rattle.std.proofs.lemmas.Grind.{elements}
+use Rattle.mst_key.proofs.Names.{arith, rules, elements}
 use Rattle.mst_key.proofs.key.Key.new.Goals as goal
 
 pub returns-then-is_empty-clause-ok : goal.returns-then-is_empty-clause-ok

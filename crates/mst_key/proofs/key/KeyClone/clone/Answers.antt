@@ -1,4 +1,4 @@
-use Rattle.std.proofs.Common.{rules}
+use Rattle.mst_key.proofs.Names.{rules}
 use Rattle.mst_key.proofs.key.KeyClone.clone.Goals as goal
 
 pub returns : goal.returns

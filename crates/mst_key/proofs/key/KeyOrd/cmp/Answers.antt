@@ -1,4 +1,4 @@
-use Rattle.std.proofs.Common.{rules}
+use Rattle.mst_key.proofs.Names.{rules}
 use Rattle.mst_key.proofs.key.KeyOrd.cmp.Goals as goal
 
 pub cmp-requires : goal.cmp-requires

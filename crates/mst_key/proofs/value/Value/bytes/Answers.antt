@@ -1,4 +1,4 @@
-use Rattle.std.proofs.Common.{rules}
+use Rattle.mst_key.proofs.Names.{rules}
 use Rattle.mst_key.proofs.value.Value.bytes.Goals as goal
 
 pub as_slice-requires : goal.as_slice-requires

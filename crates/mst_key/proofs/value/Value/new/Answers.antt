@@ -1,5 +1,4 @@
-use Rattle.std.proofs.Common.{arith, rules}
-use Rattle.std.proofs.lemmas.Grind.{elements}
+use Rattle.mst_key.proofs.Names.{arith, rules, elements}
 use Rattle.mst_key.proofs.value.Value.new.Goals as goal
 
 pub try_from-requires : goal.try_from-requires

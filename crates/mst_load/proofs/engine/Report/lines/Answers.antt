@@ -1,4 +1,4 @@
-use Rattle.std.proofs.Common.{rules}
+use Rattle.mst_load.proofs.Names.{rules}
 use Rattle.mst_load.specs.Lines.{lines_of}
 use Rattle.mst_load.proofs.engine.Report.lines.Goals as goal
 

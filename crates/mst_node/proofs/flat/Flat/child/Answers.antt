@@ -1,6 +1,4 @@
-use Rattle.std.proofs.Common.{◌≤◌, length, sym, ap, ◌∙◌, arith, rules}
-use Rattle.std.specs.Prelude.{option_copied}
-use Rattle.mst_node.specs.Seen.{seen}
+use Rattle.mst_node.proofs.Names.{◌≤◌, length, sym, ap, ◌∙◌, arith, rules, option_copied, seen}
 use Rattle.mst_node.proofs.EntryPlaces.{child_before-at, child_before-end}
 use Rattle.mst_node.proofs.flat.Flat.child.Goals as goal
 use Rattle.mst_node.proofs.flat.Flat.child.Goals.{then-i-len, else-i-len}

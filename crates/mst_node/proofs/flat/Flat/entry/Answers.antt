@@ -1,8 +1,4 @@
-use Rattle.std.proofs.Common.{Some, List, ℕ, sym, ap, ◌∙◌, subst}
-use Rattle.mst_node.specs.Text.{FlatEntry, FlatNode}
-use Rattle.mst_node.specs.Reading.{entry_at}
-use Rattle.mst_node.specs.Seen.{seen}
-use Rattle.mst_node.specs.Held.{HasSize}
+use Rattle.mst_node.proofs.Names.{Some, List, ℕ, sym, ap, ◌∙◌, subst, FlatEntry, FlatNode, entry_at, seen, HasSize}
 use Rattle.mst_node.proofs.ReadIsSpelled.{some_same}
 use Rattle.mst_node.proofs.EntryPlaces.{seen-place, none-some, read-same}
 use Rattle.mst_node.proofs.flat.Flat.entry.Goals as goal

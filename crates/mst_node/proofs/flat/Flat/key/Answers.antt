@@ -1,5 +1,4 @@
-use Rattle.std.proofs.Common.{arith, rules}
-use Rattle.std.proofs.lemmas.Grind.{elements}
+use Rattle.mst_node.proofs.Names.{arith, rules, elements}
 use Rattle.mst_node.proofs.flat.Flat.key.Goals as goal
 
 pub entry-requires : goal.entry-requires

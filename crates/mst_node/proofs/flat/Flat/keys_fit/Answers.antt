@@ -1,9 +1,4 @@
-use Rattle.std.proofs.Common.{◌≡◌, ◌-◌, ◌+◌, ◌↔◌, ℕ, None, sym, ap, ◌∙◌, refl, arith, subst, rules}
-use Rattle.std.specs.Prelude.{option_copied}
-use Rattle.mst_node.specs.Text.{FlatNode}
-use Rattle.mst_node.specs.Grammar.{KeysFit}
-use Rattle.mst_node.specs.Reading.{entries_at, body_or_empty}
-use Rattle.mst_node.specs.Seen.{seen}
+use Rattle.mst_node.proofs.Names.{◌≡◌, ◌-◌, ◌+◌, ◌↔◌, ℕ, None, sym, ap, ◌∙◌, refl, arith, subst, rules, option_copied, FlatNode, KeysFit, entries_at, body_or_empty, seen}
 use Rattle.mst_node.proofs.FittingKeys.{FitsFrom, fits-all, entries-step, entries-none, entries-first}
 use Rattle.mst_node.proofs.EntryPlaces.{parts}
 use Rattle.mst_node.proofs.flat.Flat.keys_fit.Goals as goal

@@ -1,8 +1,4 @@
-use Rattle.std.proofs.Common.{◌≡◌, ◌-◌, List, ℕ, Some, ◌↔◌}
-use Rattle.std.specs.Prelude.{option_copied}
-use Rattle.mst_node.specs.Grammar.{KeysFit}
-use Rattle.mst_node.specs.Text.{FlatEntry}
-use Rattle.mst_node.specs.Reading.{entries_at}
+use Rattle.mst_node.proofs.Names.{◌≡◌, ◌-◌, List, ℕ, Some, ◌↔◌, option_copied, KeysFit, FlatEntry, entries_at}
 use Rattle.mst_node.proofs.FittingKeys.{FitsFrom}
 use Rattle.mst_node.proofs.flat.Flat.keys_fit.Given as goal
 

@@ -1,5 +1,4 @@
-use Rattle.std.proofs.Common.{ap}
-use Rattle.mst_node.specs.Text.{FlatNode}
+use Rattle.mst_node.proofs.Names.{ap, FlatNode}
 use Rattle.mst_node.proofs.EntryPlaces.{seen-count}
 use Rattle.mst_node.proofs.flat.Flat.len.Goals as goal
 

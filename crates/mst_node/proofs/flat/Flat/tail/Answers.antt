@@ -1,7 +1,4 @@
-use Rattle.std.proofs.Common.{Option, List, ℕ, [], sym, ap, ◌∙◌}
-use Rattle.std.specs.Prelude.{option_copied}
-use Rattle.mst_node.specs.Text.{FlatNode}
-use Rattle.mst_node.specs.Reading.{child_at, body_or_empty}
+use Rattle.mst_node.proofs.Names.{Option, List, ℕ, [], sym, ap, ◌∙◌, option_copied, FlatNode, child_at, body_or_empty}
 use Rattle.mst_node.proofs.ReadIsSpelled.{some_same}
 use Rattle.mst_node.proofs.EntryPlaces.{parts, parts-behind, none-some, read-same}
 use Rattle.mst_node.proofs.flat.Flat.tail.Goals as goal

@@ -1,8 +1,6 @@
-use Rattle.std.proofs.Common.{◌≡◌, ℕ, length, take, ap, sym, ◌∙◌, subst}
-use Rattle.std.proofs.Math.Seq.{take-length}
-use Rattle.mst_key.specs.declared.format.Format.{Format}
+use Rattle.mst_node.proofs.Names.{◌≡◌, ℕ, length, take, ap, sym, ◌∙◌, subst, take-length, Format, HasSize}
 use Rattle.mst_node.specs.declared.held.Held.TheVariants.{Hash}
-use Rattle.mst_node.specs.Held.{held_as, HasSize}
+use Rattle.mst_node.specs.Held.{held_as}
 use Rattle.mst_node.proofs.held.Held.of.Goals as goal
 
 pub returns-in-Some : goal.returns-in-Some

@@ -1,4 +1,4 @@
-use Rattle.std.proofs.Common.{rules}
+use Rattle.mst_node.proofs.Names.{rules}
 use Rattle.mst_node.proofs.key_place.Span.has.Goals as goal
 
 pub returns-then-above : goal.returns-then-above

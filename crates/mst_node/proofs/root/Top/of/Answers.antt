@@ -1,6 +1,4 @@
-use Rattle.std.proofs.Common.{take, arith}
-use Rattle.std.proofs.lemmas.List.{length-take}
-use Rattle.mst_key.specs.Layer.{layer_in}
+use Rattle.mst_node.proofs.Names.{take, arith, length-take, layer_in}
 use Rattle.mst_node.proofs.TopNodes.{at_layer-le}
 use Rattle.mst_node.proofs.root.Top.of.Goals as goal
 

@@ -1,5 +1,4 @@
-use Rattle.std.proofs.Common.{take}
-use Rattle.mst_node.specs.Top.{IsTop}
+use Rattle.mst_node.proofs.Names.{take, IsTop}
 use Rattle.mst_node.proofs.root.Top.of.Given as goal
 
 -- the top of the pairs so far

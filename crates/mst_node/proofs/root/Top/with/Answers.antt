@@ -1,4 +1,4 @@
-use Rattle.std.proofs.Common.{arith}
+use Rattle.mst_node.proofs.Names.{arith}
 use Rattle.mst_node.proofs.TopNodes.{is_top-above, is_top-same, is_top-below}
 use Rattle.mst_node.proofs.root.Top.with.Goals as goal
 

@@ -1,4 +1,4 @@
-use Rattle.std.proofs.Common.{rules}
+use Rattle.mst_node.proofs.Names.{rules}
 use Rattle.mst_node.proofs.sinks.Sha256TextSink.take.Goals as goal
 
 pub returns : goal.returns

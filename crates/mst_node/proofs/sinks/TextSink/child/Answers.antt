@@ -1,5 +1,4 @@
-use Rattle.std.proofs.Common.{arith, rules}
-use Rattle.std.proofs.lemmas.Grind.{common_steps}
+use Rattle.mst_node.proofs.Names.{arith, rules, common_steps}
 use Rattle.mst_node.proofs.sinks.TextSink.child.Goals as goal
 
 pub as_slice-requires : goal.as_slice-requires

@@ -1,5 +1,5 @@
-use Rattle.std.proofs.Common.{◌≡◌, List, ℕ, [], ◌++◌, ap, sym, subst, ◌∙◌, append_assoc}
-use Rattle.mst_node.specs.Text.{child_text, counted, held_of, held_text, told_text}
+use Rattle.mst_node.proofs.Names.{◌≡◌, List, ℕ, [], ◌++◌, ap, sym, subst, ◌∙◌, append_assoc, child_text, counted, held_of, held_text}
+use Rattle.mst_node.specs.Text.{told_text}
 use Rattle.mst_node.proofs.TextBuffers.{bytes_taken}
 use Rattle.mst_node.proofs.sinks.TextSink.entry.Goals as goal
 

@@ -1,11 +1,4 @@
-use Rattle.std.proofs.Common.{◌≡◌, ◌∙◌, List, length, vec_items, sym, ap, subst, arith}
-use Rattle.std.specs.Arc.{arc_value}
-use Rattle.mst_store.specs.Passes.{Known}
-use Rattle.mst_shards.specs.BlockHistory.{whole}
-use Rattle.mst_shards.specs.Opening.{Shards}
-use Rattle.mst_parts.specs.Origins.{Origin, begun, passes_of, edits_of, IsOf}
-use Rattle.mst_blocks.specs.Writing.{IsWriterOf}
-use Rattle.mst_blocks.proofs.Blocked.{writer_count}
+use Rattle.mst_parts.proofs.Names.{◌≡◌, ◌∙◌, List, length, vec_items, sym, ap, subst, arith, arc_value, Known, whole, Shards, Origin, begun, passes_of, edits_of, IsOf, IsWriterOf, writer_count}
 use Rattle.mst_parts.proofs.block.Block.begin.Given.{Over}
 use Rattle.mst_parts.proofs.block.Block.begin.Goals.{After-of-begun}
 use Rattle.mst_parts.proofs.block.Block.begin.Goals as goal

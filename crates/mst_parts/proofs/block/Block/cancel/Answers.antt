@@ -1,6 +1,4 @@
-use Rattle.std.proofs.Common.{◌≡◌, ◌∙◌, List, vec_items, sym, ap}
-use Rattle.std.specs.Arc.{arc_value}
-use Rattle.mst_parts.specs.Origins.{Origin, Begun}
+use Rattle.mst_parts.proofs.Names.{◌≡◌, ◌∙◌, List, vec_items, sym, ap, arc_value, Origin, Begun}
 use Rattle.mst_parts.proofs.Canceled.{taken_writer, taken_splits, taken_left, taken_map, taken_same}
 use Rattle.mst_parts.proofs.block.Block.cancel.Goals as goal
 

@@ -1,15 +1,6 @@
-use Rattle.std.proofs.Common.{◌≡◌, ◌∙◌, ℕ, List, [], ◌∷◌, ◌++◌, length, map, vec_items, rules, refl, sym, ap, subst, arith}
-use Rattle.std.specs.Arc.{arc_value}
-use Rattle.std.proofs.lemmas.List.{length-map}
-use Rattle.mst_blocks.specs.Blocks.{MakesNothing, version_made}
-use Rattle.mst_parts.specs.Origins.{Origin, Begun, passes_of, edits_of}
-use Rattle.mst_blocks.specs.Staging.{canceled_stage}
-use Rattle.mst_blocks.specs.Writing.{AddsBlock, RefusesBlock, HasMade}
-use Rattle.mst_blocks.specs.declared.faults.BlockFault.{BlockFault}
-use Rattle.mst_shards.specs.BlockHistory.{whole}
-use Rattle.mst_blocks.proofs.Blocked.{from_ok, from_err_of, writer_count}
+use Rattle.mst_parts.proofs.Names.{◌≡◌, ◌∙◌, ℕ, List, [], ◌∷◌, ◌++◌, length, map, vec_items, rules, refl, sym, ap, subst, arith, arc_value, length-map, MakesNothing, Origin, Begun, passes_of, edits_of, canceled_stage, AddsBlock, RefusesBlock, HasMade, BlockFault, whole, from_ok, from_err_of, writer_count, all_step_length}
+use Rattle.mst_blocks.specs.Blocks.{version_made}
 use Rattle.mst_parts.proofs.PartsCommitted.{from_err, parts_added, parts_refused, parts_more, parts_same, parts_writer, parts_last_root, parts_count}
-use Rattle.mst_shards.proofs.PinningAll.{all_step_length}
 use Rattle.mst_parts.proofs.block.Block.commit.Goals as goal
 
 -- a growth of the lists was refused

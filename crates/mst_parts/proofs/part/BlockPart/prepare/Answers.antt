@@ -1,5 +1,5 @@
-use Rattle.std.proofs.Common.{sym, subst}
-use Rattle.mst_parts.specs.Origins.{Origin, ComesFrom}
+use Rattle.mst_parts.proofs.Names.{sym, subst, Origin}
+use Rattle.mst_parts.specs.Origins.{ComesFrom}
 use Rattle.mst_parts.proofs.part.BlockPart.prepare.Goals as goal
 
 pub invariant_of-self : goal.invariant_of-self

@@ -1,5 +1,4 @@
-use Rattle.std.proofs.Common.{[], ◌∷◌, sym, subst, arith, rules}
-use Rattle.mst_path.specs.Takes.{Takes}
+use Rattle.mst_path.proofs.Names.{[], ◌∷◌, sym, subst, arith, rules, Takes}
 use Rattle.mst_path.proofs.lemmas.rows.Taking.{takes_append, takes_count, takes_small}
 use Rattle.mst_path.proofs.node_writer.NodeWriter.begin.Goals as goal
 

@@ -1,12 +1,4 @@
-use Rattle.std.proofs.Common.{rules}
-use Rattle.std.proofs.lemmas.Grind.{elements}
-use Rattle.std.proofs.Common.{◌≡◌, ◌≢◌, ◌+◌, ◌∷◌, [], ℕ, List, Option, Some, sym, ◌∙◌, ap, subst, arith, length-append}
-use Rattle.std.specs.List.{AllByRecursion}
-use Rattle.mst_prefix.specs.Kept.{HasTaken}
-use Rattle.mst_arena.specs.declared.row.Row.TheVariants.{Entry}
-use Rattle.mst_arena.specs.Standing.{rows_of, used, link_of, HasRows}
-use Rattle.mst_arena.proofs.Stands.{all-append, placed_frame, same_of_write}
-use Rattle.mst_path.specs.Writing.{PlacedEntry, link_from, link_to, entry_rows, entries_used}
+use Rattle.mst_path.proofs.Names.{rules, elements, ◌≡◌, ◌≢◌, ◌+◌, ◌∷◌, [], ℕ, List, Option, Some, sym, ◌∙◌, ap, subst, arith, length-append, AllByRecursion, HasTaken, Entry, rows_of, used, link_of, HasRows, all-append, placed_frame, same_of_write, PlacedEntry, link_from, link_to, entry_rows, entries_used}
 use Rattle.mst_path.proofs.lemmas.rows.Taking.{out_front, out_back, out_flip}
 use Rattle.mst_path.proofs.lemmas.rows.Entries.{link_from-push, entry_rows-push, text_up_to-push, entries_frame}
 use Rattle.mst_path.proofs.node_writer.NodeWriter.entry.Goals as goal

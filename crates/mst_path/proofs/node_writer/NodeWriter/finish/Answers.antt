@@ -1,11 +1,4 @@
-use Rattle.std.proofs.Common.{rules}
-use Rattle.std.proofs.Common.{◌≡◌, ◌+◌, ◌++◌, ℕ, List, length, Option, None, Some, refl, sym, ◌∙◌, ap, subst, arith}
-use Rattle.sha2.specs.Sha256.{sha256}
-use Rattle.mst_node.specs.Text.{child_text, child_digest}
-use Rattle.mst_arena.specs.declared.row.Row.TheVariants.{Head}
-use Rattle.mst_arena.specs.Standing.{tree_of, rows_of, used, count_of, first_of, tail_of, HasRows}
-use Rattle.mst_arena.proofs.Stands.{all-append, placed_frame, same_of_write}
-use Rattle.mst_path.specs.Writing.{chain_of, link_from, link_to, IsAhead, entry_rows, entries_used, text_up_to}
+use Rattle.mst_path.proofs.Names.{rules, ◌≡◌, ◌+◌, ◌++◌, ℕ, List, length, Option, None, Some, refl, sym, ◌∙◌, ap, subst, arith, sha256, child_text, child_digest, Head, tree_of, rows_of, used, count_of, first_of, tail_of, HasRows, all-append, placed_frame, same_of_write, chain_of, link_from, link_to, IsAhead, entry_rows, entries_used, text_up_to}
 use Rattle.mst_path.proofs.lemmas.rows.Taking.{out_front, out_back, out_flip}
 use Rattle.mst_path.proofs.lemmas.rows.Entries.{entries_frame, first_chain, tail_chain, count_chain, rows_chain, text_chain}
 use Rattle.mst_path.proofs.node_writer.NodeWriter.finish.Goals as goal

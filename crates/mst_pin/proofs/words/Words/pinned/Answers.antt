@@ -1,4 +1,4 @@
-use Rattle.std.proofs.Common.{rules}
+use Rattle.mst_pin.proofs.Names.{rules}
 use Rattle.mst_pin.proofs.words.Words.pinned.Goals as goal
 
 pub offset_bounds-self-number : goal.offset_bounds-self-number

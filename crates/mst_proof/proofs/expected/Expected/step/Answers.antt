@@ -1,10 +1,5 @@
-use Rattle.std.proofs.Common.{◌≡◌, ◌∙◌, refl, sym, ap, arith, ℕ, Bool, true, false, Some, rules}
-use Rattle.std.specs.Prelude.{not}
-use Rattle.std.specs.declared.result.Result.TheVariants.{Ok}
+use Rattle.mst_proof.proofs.Names.{◌≡◌, ◌∙◌, refl, sym, ap, arith, ℕ, Bool, true, false, Some, rules, not, Ok, FlatNode, bytes-at, node_in, is_under, step_of}
 use Rattle.mst_node.specs.Found.{IsFound}
-use Rattle.mst_node.specs.Text.{FlatNode}
-use Rattle.mst_node.proofs.ReadIsSpelled.{bytes-at}
-use Rattle.mst_proof.specs.Verdict.{node_in, is_under, step_of}
 use Rattle.mst_proof.proofs.Decisions.{node_in-none, node_in-read, keys_inside}
 use Rattle.mst_proof.proofs.Steps.{step-no_node, step-other_digest, step-not_below, step-outside, step-passed}
 use Rattle.mst_proof.proofs.expected.Expected.step.Goals.{In-Some}

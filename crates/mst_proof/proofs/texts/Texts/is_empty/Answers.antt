@@ -1,5 +1,4 @@
-use Rattle.std.proofs.Common.{◌≡◌, ◌∙◌, ap, sym, length, List, ℕ}
-use Rattle.mst_proof.specs.Frame.{texts_or_none}
+use Rattle.mst_proof.proofs.Names.{◌≡◌, ◌∙◌, ap, sym, length, List, ℕ, texts_or_none}
 use Rattle.mst_proof.proofs.Frames.{texts-count, is_empty}
 use Rattle.mst_proof.proofs.texts.Texts.is_empty.Goals as goal
 

@@ -1,4 +1,4 @@
-use Rattle.std.proofs.Common.{◌-◌, ◌∙◌, sym, ap, arith, List, ℕ, ◌∷◌}
+use Rattle.mst_proof.proofs.Names.{◌-◌, ◌∙◌, sym, ap, arith, List, ℕ, ◌∷◌}
 use Rattle.mst_proof.proofs.Frames.{is_none, texts-step, texts-first, seen_texts, holds_texts}
 use Rattle.mst_proof.proofs.texts.Texts.next.Goals as goal
 

@@ -1,10 +1,4 @@
-use Rattle.std.proofs.Common.{◌∙◌, sym, ap, List, ℕ}
-use Rattle.std.specs.declared.result.Result.{Result}
-use Rattle.std.specs.declared.result.Result.TheVariants.{Ok}
-use Rattle.mst_key.specs.declared.format.Format.{Format}
-use Rattle.mst_proof.specs.declared.fault.ProofFault.{ProofFault}
-use Rattle.mst_proof.specs.declared.claim.Claim.{Claim}
-use Rattle.mst_proof.specs.Frame.{texts_at, texts_or_none, claimed_at, ◌>>◌}
+use Rattle.mst_proof.proofs.Names.{◌∙◌, sym, ap, List, ℕ, Result, Ok, Format, ProofFault, Claim, texts_at, texts_or_none, claimed_at, ◌>>◌}
 use Rattle.mst_proof.proofs.Frames.{texts-short, texts-whole}
 use Rattle.mst_proof.proofs.texts.Texts.of.Goals as goal
 

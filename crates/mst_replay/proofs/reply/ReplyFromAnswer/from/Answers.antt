@@ -1,4 +1,4 @@
-use Rattle.std.proofs.Common.{rules}
+use Rattle.mst_replay.proofs.Names.{rules}
 use Rattle.mst_replay.proofs.reply.ReplyFromAnswer.from.Goals as goal
 
 pub returns-in-Record : goal.returns-in-Record

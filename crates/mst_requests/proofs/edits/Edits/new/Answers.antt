@@ -1,6 +1,4 @@
-use Rattle.std.proofs.Common.{sym, ◌∙◌}
-use Rattle.mst_requests.specs.Fields.{fields_behind}
-use Rattle.mst_requests.specs.Batches.{edits_read}
+use Rattle.mst_requests.proofs.Names.{sym, ◌∙◌, fields_behind, edits_read}
 use Rattle.mst_requests.proofs.Batching.{has_fault, has_none}
 use Rattle.mst_requests.proofs.edits.Edits.new.Goals as goal
 

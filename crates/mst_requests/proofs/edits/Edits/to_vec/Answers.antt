@@ -1,6 +1,4 @@
-use Rattle.std.proofs.Common.{rules, ap, ◌∙◌, subst}
-use Rattle.mst_requests.specs.Fields.{fields_behind}
-use Rattle.mst_requests.specs.Batches.{before, edits_in}
+use Rattle.mst_requests.proofs.Names.{rules, ap, ◌∙◌, subst, fields_behind, before, edits_in}
 use Rattle.mst_requests.proofs.Batching.{IsRead, on_err, fault_left, one_read, some_left}
 use Rattle.mst_requests.proofs.edits.Edits.to_vec.Goals as goal
 

@@ -1,7 +1,4 @@
-use Rattle.std.proofs.Common.{◌≤◌, length, IfSome}
-use Rattle.mst_lines.specs.Lines.{longest_line}
-use Rattle.mst_requests.specs.Fields.{fields_behind}
-use Rattle.mst_requests.specs.Batches.{edits_in}
+use Rattle.mst_requests.proofs.Names.{◌≤◌, length, IfSome, longest_line, fields_behind, edits_in}
 use Rattle.mst_requests.proofs.Batching.{left, IsRead}
 use Rattle.mst_requests.proofs.edits.Edits.to_vec.Given as goal
 

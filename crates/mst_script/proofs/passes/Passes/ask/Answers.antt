@@ -1,4 +1,4 @@
-use Rattle.std.proofs.Common.{◌≡◌, ◌<◌, length, set, rules, sym, ap, subst}
+use Rattle.mst_script.proofs.Names.{◌≡◌, ◌<◌, length, set, rules, sym, ap, subst}
 use Rattle.mst_script.proofs.Finding.{stands_at}
 use Rattle.mst_script.proofs.passes.Passes.ask.Goals as goal
 

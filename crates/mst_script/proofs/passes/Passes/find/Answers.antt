@@ -1,5 +1,5 @@
+use Rattle.mst_script.proofs.Names.{◌≡◌, rules, arith, sym, ◌∙◌}
 use Rattle.std.proofs.lemmas.Grind.{common_steps}
-use Rattle.std.proofs.Common.{◌≡◌, rules, arith, sym, ◌∙◌}
 use Rattle.mst_script.proofs.Finding.{not_there, not_yet, nowhere, found_at}
 use Rattle.mst_script.proofs.passes.Passes.find.Goals as goal
 

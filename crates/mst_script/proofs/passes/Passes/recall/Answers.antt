@@ -1,5 +1,4 @@
-use Rattle.std.proofs.Common.{◌≡◌, ◌<◌, length, set, rules, sym, ap, ◌∙◌, subst}
-use Rattle.mst_script.specs.Serving.{roster}
+use Rattle.mst_script.proofs.Names.{◌≡◌, ◌<◌, length, set, rules, sym, ap, ◌∙◌, subst, roster}
 use Rattle.mst_script.proofs.Finding.{stands_at, set_same}
 use Rattle.mst_script.proofs.passes.Passes.recall.Goals as goal
 

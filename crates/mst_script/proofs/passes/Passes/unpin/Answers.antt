@@ -1,5 +1,4 @@
-use Rattle.std.proofs.Common.{◌≡◌, ◌++◌, ◌∷◌, [], get_or, rules, ap, ◌∙◌}
-use Rattle.std.specs.List.{swap_remove}
+use Rattle.mst_script.proofs.Names.{◌≡◌, ◌++◌, ◌∷◌, [], get_or, rules, ap, ◌∙◌, swap_remove}
 use Rattle.mst_script.proofs.passes.Passes.unpin.Goals as goal
 
 pub returns : goal.returns

@@ -1,7 +1,4 @@
-use Rattle.std.proofs.Common.{◌≡◌, ◌++◌, [], arith, rules, ap, ◌∙◌, subst, append-nil}
-use Rattle.std.specs.List.Sorted.{IsPermutation}
-use Rattle.std.proofs.lemmas.List.Sorted.{IsPermutation-refl}
-use Rattle.mst_script.specs.Serving.{Roster, roster, everyone}
+use Rattle.mst_script.proofs.Names.{◌≡◌, ◌++◌, [], arith, rules, ap, ◌∙◌, subst, append-nil, IsPermutation, IsPermutation-refl, Roster, roster, everyone}
 use Rattle.mst_script.proofs.Finding.{one_freed}
 use Rattle.mst_script.proofs.passes.Passes.unpin_all.Goals as goal
 

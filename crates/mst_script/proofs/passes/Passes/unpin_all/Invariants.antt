@@ -1,6 +1,5 @@
-use Rattle.std.proofs.Common.{◌++◌, ◌+◌, ◌≤◌, vec_len, vec_capacity}
-use Rattle.std.specs.List.Sorted.{IsPermutation}
-use Rattle.mst_script.specs.Serving.{everyone}
+use Rattle.mst_script.proofs.Names.{◌++◌, ◌+◌, ◌≤◌, IsPermutation, everyone}
+use Rattle.std.proofs.Common.{vec_len, vec_capacity}
 use Rattle.mst_script.proofs.passes.Passes.unpin_all.Given as goal
 
 -- the passes are still all there, with room on either side

@@ -1,8 +1,5 @@
-use Rattle.std.proofs.Common.{◌≡◌, ◌∙◌, ◌-◌, ◌≤◌, List, length, vec_items, sym, ap, subst, arith}
-use Rattle.std.specs.List.{AllByRecursion}
+use Rattle.mst_shards.proofs.Names.{◌≡◌, ◌∙◌, ◌-◌, ◌≤◌, List, length, vec_items, sym, ap, subst, arith, AllByRecursion, StoreId, Shards, Dealt, IsLot, lot, first_lots}
 use Rattle.std.proofs.lemmas.Result.{IfOk-from_err}
-use Rattle.mst_store.specs.Passes.{StoreId}
-use Rattle.mst_shards.specs.Opening.{Shards, Dealt, IsLot, lot, first_lots}
 use Rattle.mst_shards.proofs.Dealing.{last_dealt, length-first_lots, lot_is, lots_are, shapes_format, shapes_passes}
 use Rattle.mst_shards.proofs.sharded.Sharded.deal.Given.{Over}
 use Rattle.mst_shards.proofs.sharded.Sharded.deal.Goals.{In-Some}

@@ -1,8 +1,4 @@
-use Rattle.std.proofs.Common.{◌≡◌, Option, ap, sym, subst, ◌∙◌}
-use Rattle.std.specs.Prelude.{IsSome, unwrap_or}
-use Rattle.mst_store.specs.Passes.{format_seen}
-use Rattle.mst_store.specs.Passes.{Known}
-use Rattle.mst_snapshots.specs.Reading.{no_pass}
+use Rattle.mst_snapshots.proofs.Names.{◌≡◌, Option, ap, sym, subst, ◌∙◌, IsSome, unwrap_or, format_seen, Known, no_pass}
 use Rattle.mst_snapshots.proofs.directory_pin.DirectoryPin.format.Goals as goal
 
 pub lifted-pinned-requires-clause-there : goal.lifted-pinned-requires-clause-there

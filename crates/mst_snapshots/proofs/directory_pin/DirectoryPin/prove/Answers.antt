@@ -1,11 +1,4 @@
-use Rattle.std.proofs.Common.{◌≡◌, Option, ap, sym, subst, ◌∙◌, vec_items}
-use Rattle.std.specs.Prelude.{IsSome, unwrap_or}
-use Rattle.std.specs.Prelude.{IfOk}
-use Rattle.mst_key.specs.History.{after}
-use Rattle.mst_node.specs.Trail.{proof_text}
-use Rattle.mst_store.specs.Passes.{format_seen}
-use Rattle.mst_store.specs.Passes.{Known}
-use Rattle.mst_snapshots.specs.Reading.{no_pass}
+use Rattle.mst_snapshots.proofs.Names.{◌≡◌, Option, ap, sym, subst, ◌∙◌, vec_items, IsSome, unwrap_or, IfOk, after, proof_text, format_seen, Known, no_pass}
 use Rattle.mst_snapshots.proofs.directory_pin.DirectoryPin.prove.Goals as goal
 
 pub lifted-pinned-requires-clause-there : goal.lifted-pinned-requires-clause-there

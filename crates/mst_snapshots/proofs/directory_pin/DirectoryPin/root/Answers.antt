@@ -1,10 +1,5 @@
-use Rattle.std.proofs.Common.{◌≡◌, Option, ap, sym, subst, ◌∙◌}
-use Rattle.std.specs.Prelude.{IsSome, unwrap_or}
-use Rattle.mst_key.specs.History.{after}
+use Rattle.mst_snapshots.proofs.Names.{◌≡◌, Option, ap, sym, subst, ◌∙◌, IsSome, unwrap_or, after, format_seen, Known, no_pass}
 use Rattle.mst_node.specs.Text.{root as root_of}
-use Rattle.mst_store.specs.Passes.{format_seen}
-use Rattle.mst_store.specs.Passes.{Known}
-use Rattle.mst_snapshots.specs.Reading.{no_pass}
 use Rattle.mst_snapshots.proofs.directory_pin.DirectoryPin.root.Goals as goal
 
 pub lifted-pinned-requires-clause-there : goal.lifted-pinned-requires-clause-there

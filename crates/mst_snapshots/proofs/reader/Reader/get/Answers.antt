@@ -1,11 +1,5 @@
-use Rattle.std.proofs.Common.{◌≡◌, ◌≤◌, ◌+◌, ℕ, List, length, set, vec_items, vec_len, rules, arith, sym, ap, subst, ◌∙◌}
-use Rattle.std.specs.Arc.{arc_value}
-use Rattle.mst_key.specs.declared.format.Format.{Format}
-use Rattle.mst_key.specs.Map.{Pair, map_get}
-use Rattle.mst_store.specs.Passes.{Known, Answers, StoreId}
-use Rattle.mst_shards.specs.BlockHistory.{Whole}
-use Rattle.mst_shards.specs.Laid.{AreOf}
-use Rattle.mst_shards.specs.Sharding.{sharding, place, Routes}
+use Rattle.mst_snapshots.proofs.Names.{◌≡◌, ◌≤◌, ◌+◌, ℕ, List, length, set, vec_items, vec_len, rules, arith, sym, ap, subst, ◌∙◌, arc_value, Format, Pair, map_get, Known, StoreId, Whole, AreOf, sharding, place, Routes}
+use Rattle.mst_store.specs.Passes.{Answers}
 use Rattle.mst_snapshots.proofs.Routed.{set_back, routed, reader_routed}
 use Rattle.mst_snapshots.proofs.reader.Reader.get.Given.{Over}
 use Rattle.mst_snapshots.proofs.reader.Reader.get.Goals as goal

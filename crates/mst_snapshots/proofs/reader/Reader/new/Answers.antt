@@ -1,10 +1,4 @@
-use Rattle.std.proofs.Common.{◌≡◌, ◌+◌, length, vec_items, rules, sym, ap, subst, arith, ◌∙◌}
-use Rattle.std.specs.Arc.{arc_value}
-use Rattle.mst_shards.specs.BlockHistory.{whole}
-use Rattle.mst_shards.specs.Opening.{Shards, Dealt, IsLot}
-use Rattle.mst_shards.specs.Sharding.{IsSplits}
-use Rattle.mst_shards.proofs.Owned.{as_many}
-use Rattle.mst_snapshots.specs.Reading.{IsReader}
+use Rattle.mst_snapshots.proofs.Names.{◌≡◌, ◌+◌, length, vec_items, rules, sym, ap, subst, arith, ◌∙◌, arc_value, whole, Shards, Dealt, IsLot, IsSplits, as_many, IsReader}
 use Rattle.mst_snapshots.proofs.Routed.{new_reader}
 use Rattle.mst_snapshots.proofs.reader.Reader.new.Goals as goal
 

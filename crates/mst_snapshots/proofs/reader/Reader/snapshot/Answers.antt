@@ -1,4 +1,4 @@
-use Rattle.std.proofs.Common.{rules}
+use Rattle.mst_snapshots.proofs.Names.{rules}
 use Rattle.mst_snapshots.proofs.Later.{SeesOn-itself, tried_on, not_tried, tried_again, tried_then}
 use Rattle.mst_snapshots.proofs.reader.Reader.snapshot.Goals as goal
 

@@ -1,4 +1,4 @@
-use Rattle.mst_snapshots.specs.Reading.{SeesOn}
+use Rattle.mst_snapshots.proofs.Names.{SeesOn}
 use Rattle.mst_snapshots.proofs.Later.{HasTried}
 use Rattle.mst_snapshots.proofs.reader.Reader.snapshot.Given as goal
 

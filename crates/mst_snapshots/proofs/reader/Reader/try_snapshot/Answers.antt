@@ -1,10 +1,4 @@
-use Rattle.std.proofs.Common.{◌≡◌, ℕ, List, vec_items, vec_len, vec_capacity, rules, sym, ap, subst, arith, ◌∙◌}
-use Rattle.std.specs.Arc.{arc_value}
-use Rattle.mst_store.specs.Passes.{Known, StoreId}
-use Rattle.mst_shards.specs.BlockHistory.{Whole, whole, IsOneBlock}
-use Rattle.mst_shards.specs.Laid.{AreOf}
-use Rattle.mst_shards.specs.Opening.{Shards}
-use Rattle.mst_snapshots.specs.Reading.{PinsWhole, IsReader, IsSnapshot}
+use Rattle.mst_snapshots.proofs.Names.{◌≡◌, ℕ, List, vec_items, vec_len, vec_capacity, rules, sym, ap, subst, arith, ◌∙◌, arc_value, Known, StoreId, Whole, whole, IsOneBlock, AreOf, Shards, PinsWhole, IsReader, IsSnapshot}
 use Rattle.mst_snapshots.proofs.Staying.{as_long}
 use Rattle.mst_snapshots.proofs.Tried.{pinned_reader, as_many_pins, whole_as, tried, failed, pinned_as}
 use Rattle.mst_snapshots.proofs.reader.Reader.try_snapshot.Goals as goal

@@ -1,12 +1,4 @@
-use Rattle.std.proofs.Common.{◌≡◌, ◌≤◌, length, vec_items, rules, sym, ap, subst, ◌∙◌}
-use Rattle.std.specs.Arc.{arc_value}
-use Rattle.std.specs.Prelude.{IfOk}
-use Rattle.std.proofs.lemmas.Result.{IfOk-weaker}
-use Rattle.mst_sharded_proof.specs.Shards.{directory}
-use Rattle.mst_store.specs.Passes.{Known}
-use Rattle.mst_shards.specs.BlockHistory.{Whole, whole}
-use Rattle.mst_shards.specs.Directory.{OfClean}
-use Rattle.mst_snapshots.specs.Reading.{IsSnapshot}
+use Rattle.mst_snapshots.proofs.Names.{◌≡◌, ◌≤◌, length, vec_items, rules, sym, ap, subst, ◌∙◌, arc_value, IfOk, IfOk-weaker, directory, Known, Whole, whole, OfClean, IsSnapshot}
 use Rattle.mst_snapshots.proofs.Shown.{pairs_shown, few_shown}
 use Rattle.mst_snapshots.proofs.snapshot.Snapshot.directory.Goals as goal
 

@@ -1,10 +1,4 @@
-use Rattle.std.proofs.Common.{◌≡◌, vec_items, rules, sym, ap, subst, ◌∙◌}
-use Rattle.std.specs.Arc.{arc_value}
-use Rattle.mst_key.specs.declared.format.Format.{Format}
-use Rattle.mst_store.specs.Passes.{Known}
-use Rattle.mst_shards.specs.BlockHistory.{Whole, whole}
-use Rattle.mst_shards.specs.Directory.{AllIn}
-use Rattle.mst_snapshots.specs.Reading.{IsSnapshot}
+use Rattle.mst_snapshots.proofs.Names.{◌≡◌, vec_items, rules, sym, ap, subst, ◌∙◌, arc_value, Format, Known, Whole, whole, AllIn, IsSnapshot}
 use Rattle.mst_snapshots.proofs.Shown.{format_shown}
 use Rattle.mst_snapshots.proofs.snapshot.Snapshot.format.Goals as goal
 

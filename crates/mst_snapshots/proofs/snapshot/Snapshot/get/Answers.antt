@@ -1,12 +1,5 @@
-use Rattle.std.proofs.Common.{◌≡◌, ◌≤◌, ℕ, List, length, vec_items, rules, refl, sym, ap, subst, arith, ◌∙◌}
-use Rattle.std.specs.Arc.{arc_value}
-use Rattle.mst_key.specs.Map.{map_get}
-use Rattle.mst_store.specs.Passes.{Known, StoreId}
-use Rattle.mst_shards.specs.BlockHistory.{Whole, whole}
-use Rattle.mst_shards.specs.Laid.{AreOf}
-use Rattle.mst_shards.specs.Sharding.{place, map_of}
+use Rattle.mst_snapshots.proofs.Names.{◌≡◌, ◌≤◌, ℕ, List, length, vec_items, rules, refl, sym, ap, subst, arith, ◌∙◌, arc_value, map_get, Known, StoreId, Whole, whole, AreOf, place, map_of, pass_at, IsSnapshot}
 use Rattle.mst_shards.proofs.Nexts.{routed_get, map_here}
-use Rattle.mst_snapshots.specs.Reading.{pass_at, IsSnapshot}
 use Rattle.mst_snapshots.proofs.Staying.{read_at, low_at_place, there_is, as_long}
 use Rattle.mst_snapshots.proofs.snapshot.Snapshot.get.Goals as goal
 

@@ -1,10 +1,4 @@
-use Rattle.std.proofs.Common.{◌≡◌, ◌+◌, List, length, vec_items, rules, sym, ap, subst, arith, ◌∙◌}
-use Rattle.std.specs.Arc.{arc_value}
-use Rattle.mst_store.specs.Passes.{Known, StoreId}
-use Rattle.mst_shards.specs.BlockHistory.{Whole, whole}
-use Rattle.mst_shards.specs.Laid.{AreOf}
-use Rattle.mst_shards.specs.Sharding.{map_of}
-use Rattle.mst_snapshots.specs.Reading.{IsSnapshot}
+use Rattle.mst_snapshots.proofs.Names.{◌≡◌, ◌+◌, List, length, vec_items, rules, sym, ap, subst, arith, ◌∙◌, arc_value, Known, StoreId, Whole, whole, AreOf, map_of, IsSnapshot}
 use Rattle.mst_snapshots.proofs.Lengths.{pairs_shown}
 use Rattle.mst_snapshots.proofs.Staying.{as_long}
 use Rattle.mst_snapshots.proofs.snapshot.Snapshot.len.Goals as goal

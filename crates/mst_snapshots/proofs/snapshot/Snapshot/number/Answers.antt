@@ -1,6 +1,4 @@
-use Rattle.std.proofs.Common.{◌-◌, vec_items, subst}
-use Rattle.std.specs.Arc.{arc_value}
-use Rattle.mst_shards.specs.BlockHistory.{Whole, whole, IsNumber, IsOneBlock}
+use Rattle.mst_snapshots.proofs.Names.{◌-◌, vec_items, subst, arc_value, Whole, whole, IsNumber, IsOneBlock}
 use Rattle.mst_snapshots.proofs.Kept.{number_is, number_some}
 use Rattle.mst_snapshots.proofs.snapshot.Snapshot.number.Goals as goal
 

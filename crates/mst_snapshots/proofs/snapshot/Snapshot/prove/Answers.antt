@@ -1,14 +1,4 @@
-use Rattle.std.proofs.Common.{◌≡◌, List, vec_items, rules, sym, ap, subst, arith, ◌∙◌}
-use Rattle.std.specs.Arc.{arc_value}
-use Rattle.std.specs.Prelude.{IfOk}
-use Rattle.mst_sharded_proof.specs.Frame.{sharded_proof}
-use Rattle.mst_store.specs.Passes.{Known}
-use Rattle.mst_shards.specs.BlockHistory.{Whole, whole, IsOneBlock}
-use Rattle.mst_shards.specs.Directory.{OfClean}
-use Rattle.mst_shards.specs.Laid.{AreOf}
-use Rattle.mst_shards.specs.Opening.{Shards}
-use Rattle.mst_shards.specs.Sharding.{sharding}
-use Rattle.mst_snapshots.specs.Reading.{IsSnapshot}
+use Rattle.mst_snapshots.proofs.Names.{◌≡◌, List, vec_items, rules, sym, ap, subst, arith, ◌∙◌, arc_value, IfOk, sharded_proof, Known, Whole, whole, IsOneBlock, OfClean, AreOf, Shards, sharding, IsSnapshot}
 use Rattle.mst_snapshots.proofs.Staying.{as_long}
 use Rattle.mst_snapshots.proofs.snapshot.Snapshot.prove.Goals as goal
 

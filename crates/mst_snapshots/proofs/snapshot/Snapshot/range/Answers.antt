@@ -1,13 +1,4 @@
-use Rattle.std.proofs.Common.{◌≡◌, List, ℕ, vec_items, rules, sym, ap, subst, arith, ◌∙◌}
-use Rattle.std.specs.Arc.{arc_value}
-use Rattle.std.specs.Option.{option_copied}
-use Rattle.std.specs.Prelude.{IfOk}
-use Rattle.mst_key.specs.Map.{map_range}
-use Rattle.mst_store.specs.Passes.{Known, StoreId}
-use Rattle.mst_shards.specs.BlockHistory.{Whole, whole}
-use Rattle.mst_shards.specs.Laid.{AreOf}
-use Rattle.mst_shards.specs.Sharding.{sharding, IsSharding, map_of}
-use Rattle.mst_snapshots.specs.Reading.{IsSnapshot}
+use Rattle.mst_snapshots.proofs.Names.{◌≡◌, List, ℕ, vec_items, rules, sym, ap, subst, arith, ◌∙◌, arc_value, option_copied, IfOk, map_range, Known, StoreId, Whole, whole, AreOf, sharding, IsSharding, map_of, IsSnapshot}
 use Rattle.mst_snapshots.proofs.Staying.{as_long}
 use Rattle.mst_snapshots.proofs.snapshot.Snapshot.range.Goals as goal
 

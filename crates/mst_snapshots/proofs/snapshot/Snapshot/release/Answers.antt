@@ -1,9 +1,4 @@
-use Rattle.std.proofs.Common.{◌≡◌, List, ℕ, vec_items, rules, sym, ap, subst, arith, ◌∙◌}
-use Rattle.std.specs.Arc.{arc_value}
-use Rattle.mst_store.specs.Passes.{Known, StoreId}
-use Rattle.mst_shards.specs.BlockHistory.{whole}
-use Rattle.mst_shards.specs.Laid.{AreOf}
-use Rattle.mst_snapshots.specs.Reading.{IsReader}
+use Rattle.mst_snapshots.proofs.Names.{◌≡◌, List, ℕ, vec_items, rules, sym, ap, subst, arith, ◌∙◌, arc_value, Known, StoreId, whole, AreOf, IsReader}
 use Rattle.mst_snapshots.proofs.Kept.{released}
 use Rattle.mst_snapshots.proofs.Staying.{as_long}
 use Rattle.mst_snapshots.proofs.snapshot.Snapshot.release.Goals as goal

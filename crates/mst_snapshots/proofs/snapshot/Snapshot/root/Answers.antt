@@ -1,10 +1,4 @@
-use Rattle.std.proofs.Common.{◌≡◌, vec_items, rules, sym, ap, subst, ◌∙◌}
-use Rattle.std.specs.Arc.{arc_value}
-use Rattle.mst_sharded_proof.specs.Theorem.{HasShardedRoot}
-use Rattle.mst_store.specs.Passes.{Known}
-use Rattle.mst_shards.specs.BlockHistory.{Whole, whole}
-use Rattle.mst_shards.specs.Directory.{OfClean}
-use Rattle.mst_snapshots.specs.Reading.{IsSnapshot}
+use Rattle.mst_snapshots.proofs.Names.{◌≡◌, vec_items, rules, sym, ap, subst, ◌∙◌, arc_value, HasShardedRoot, Known, Whole, whole, OfClean, IsSnapshot}
 use Rattle.mst_snapshots.proofs.Shown.{root_shown}
 use Rattle.mst_snapshots.proofs.snapshot.Snapshot.root.Goals as goal
 

@@ -1,5 +1,4 @@
-use Rattle.std.proofs.Common.{◌≡◌, rules}
-use Rattle.mst_key.specs.History.{events_of}
+use Rattle.mst_store.proofs.Names.{◌≡◌, rules, events_of}
 use Rattle.mst_versions.specs.Counting.{CountsFree}
 use Rattle.mst_store.proofs.FromSeats.{at_made, own_counted}
 use Rattle.mst_store.proofs.pass.Pass.free_rows.Goals as goal

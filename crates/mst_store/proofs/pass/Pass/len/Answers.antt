@@ -1,4 +1,4 @@
-use Rattle.std.proofs.Common.{◌≤◌, rules}
+use Rattle.mst_store.proofs.Names.{◌≤◌, rules}
 use Rattle.mst_store.proofs.FewPairs.{counted_pinned}
 use Rattle.mst_store.proofs.pass.Pass.len.Goals as goal
 

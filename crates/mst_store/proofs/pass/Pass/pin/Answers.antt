@@ -1,4 +1,4 @@
-use Rattle.std.proofs.Common.{◌≤◌, rules}
+use Rattle.mst_store.proofs.Names.{◌≤◌, rules}
 use Rattle.mst_store.proofs.FewPairs.{few_pinned}
 use Rattle.mst_store.proofs.pass.Pass.pin.Goals as goal
 

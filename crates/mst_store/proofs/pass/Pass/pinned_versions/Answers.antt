@@ -1,6 +1,5 @@
-use Rattle.std.proofs.Common.{◌≡◌, ℕ, rules}
+use Rattle.mst_store.proofs.Names.{◌≡◌, ℕ, rules, events_of}
 use Rattle.arrayvec.specs.ArrayVec.{ArrayVec}
-use Rattle.mst_key.specs.History.{events_of}
 use Rattle.mst_versions.specs.Listing.{FindsPinned}
 use Rattle.mst_store.proofs.FromSeats.{at_made, own_counted}
 use Rattle.mst_store.proofs.pass.Pass.pinned_versions.Goals as goal

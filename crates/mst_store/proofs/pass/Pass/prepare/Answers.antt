@@ -1,8 +1,5 @@
-use Rattle.std.proofs.Common.{◌≡◌, List, subst, ◌∙◌, arith}
-use Rattle.mst_key.specs.declared.history.Edit.{Edit}
-use Rattle.mst_store.specs.Passes.{Known, known}
+use Rattle.mst_store.proofs.Names.{◌≡◌, List, subst, ◌∙◌, arith, Edit, Known, known, IsPrepared}
 use Rattle.mst_store.specs.Preparing.{Prepares}
-use Rattle.mst_batching.specs.Preparing.{IsPrepared}
 use Rattle.mst_store.proofs.FewPairs.{prepared_map, prepared_few}
 use Rattle.mst_store.proofs.FromSeats.{own_refused_batch}
 use Rattle.mst_store.proofs.pass.Pass.prepare.Goals as goal

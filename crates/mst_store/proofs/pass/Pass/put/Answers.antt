@@ -1,4 +1,4 @@
-use Rattle.std.proofs.Common.{rules}
+use Rattle.mst_store.proofs.Names.{rules}
 use Rattle.mst_key.specs.History.{had}
 use Rattle.mst_key.specs.declared.history.Change.TheVariants.{Put}
 use Rattle.mst_store.specs.declared.faults.ChangeFault.TheVariants.{VersionsSpent, NoRoom}

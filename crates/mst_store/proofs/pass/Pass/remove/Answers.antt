@@ -1,4 +1,4 @@
-use Rattle.std.proofs.Common.{rules}
+use Rattle.mst_store.proofs.Names.{rules}
 use Rattle.mst_store.proofs.Waits.{tried_again, wrote_then, refused_then}
 use Rattle.mst_store.proofs.pass.Pass.remove.Goals as goal
 

@@ -1,4 +1,4 @@
-use Rattle.mst_store.specs.Waiting.{HasTried}
+use Rattle.mst_store.proofs.Names.{HasTried}
 use Rattle.mst_store.proofs.pass.Pass.remove.Given as goal
 
 -- so far the turn was tried in vain

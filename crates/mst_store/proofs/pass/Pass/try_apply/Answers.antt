@@ -1,5 +1,4 @@
-use Rattle.std.proofs.Common.{◌≡◌, None, rules}
-use Rattle.mst_key.specs.History.{events_of}
+use Rattle.mst_store.proofs.Names.{◌≡◌, None, rules, events_of}
 use Rattle.mst_store.proofs.FromSeats.{own_refused_batch}
 use Rattle.mst_store.proofs.pass.Pass.try_apply.Goals as goal
 

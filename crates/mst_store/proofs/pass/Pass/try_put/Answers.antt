@@ -1,4 +1,4 @@
-use Rattle.std.proofs.Common.{rules}
+use Rattle.mst_store.proofs.Names.{rules}
 use Rattle.mst_store.proofs.pass.Pass.try_put.Goals as goal
 
 pub returns-clause-ok : goal.returns-clause-ok

@@ -1,4 +1,4 @@
-use Rattle.std.proofs.Common.{rules}
+use Rattle.mst_store.proofs.Names.{rules}
 use Rattle.mst_store.proofs.pinned.Pinned.get.Goals as goal
 
 pub get-requires : goal.get-requires

@@ -1,4 +1,4 @@
-use Rattle.std.proofs.Common.{rules}
+use Rattle.mst_store.proofs.Names.{rules}
 use Rattle.mst_store.proofs.FewPairs.{counted_at_pin}
 use Rattle.mst_store.proofs.pinned.Pinned.len.Goals as goal
 

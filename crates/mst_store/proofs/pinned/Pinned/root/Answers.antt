@@ -1,4 +1,4 @@
-use Rattle.std.proofs.Common.{rules}
+use Rattle.mst_store.proofs.Names.{rules}
 use Rattle.mst_store.proofs.pinned.Pinned.root.Goals as goal
 
 pub root-requires : goal.root-requires

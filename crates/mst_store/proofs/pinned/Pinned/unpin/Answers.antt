@@ -1,4 +1,4 @@
-use Rattle.std.proofs.Common.{rules}
+use Rattle.mst_store.proofs.Names.{rules}
 use Rattle.mst_store.proofs.pinned.Pinned.unpin.Goals as goal
 
 pub unpin-requires-clause-pinned : goal.unpin-requires-clause-pinned

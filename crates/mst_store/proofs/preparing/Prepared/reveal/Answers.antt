@@ -1,7 +1,5 @@
-use Rattle.std.proofs.Common.{List, ap, ◌∙◌}
-use Rattle.mst_key.specs.declared.history.Edit.{Edit}
-use Rattle.mst_store.specs.Passes.{known}
-use Rattle.mst_store.specs.Preparing.{Waiting, published}
+use Rattle.mst_store.proofs.Names.{List, ap, ◌∙◌, Edit, known, Waiting}
+use Rattle.mst_store.specs.Preparing.{published}
 use Rattle.mst_store.proofs.preparing.Prepared.reveal.Goals as goal
 
 pub returns : goal.returns

@@ -1,15 +1,7 @@
-use Rattle.std.proofs.Common.{◌≡◌, ℕ, List, [], ◌∷◌, ◌++◌, ap, ◌∙◌}
-use Rattle.mst_key.specs.declared.format.Format.{Format}
-use Rattle.mst_key.specs.declared.history.Edit.{Edit}
-use Rattle.mst_key.specs.History.{after, format_after, batched}
-use Rattle.mst_key.specs.Map.{Pair}
-use Rattle.mst_key.proofs.HistoryLaws.{after-push, format_after-push}
+use Rattle.mst_store.proofs.Names.{◌≡◌, ℕ, List, [], ◌∷◌, ◌++◌, ap, ◌∙◌, Format, Edit, after, format_after, batched, Pair, after-push, Preparation, batch_of, IsPrepared, SeatState, Waiting}
+use Rattle.mst_key.proofs.HistoryLaws.{format_after-push}
 use Rattle.mst_node.specs.Text as text
-use Rattle.mst_batching.specs.declared.preparing.Preparation.{Preparation}
-use Rattle.mst_batching.specs.Preparing.{batch_of, IsPrepared}
-use Rattle.mst_versions.specs.Turns.{SeatState}
 use Rattle.mst_store.specs.Passes.{format_seen}
-use Rattle.mst_store.specs.Preparing.{Waiting}
 use Rattle.mst_store.proofs.preparing.Prepared.root.Goals as goal
 
 -- the map after the edits stands at the root

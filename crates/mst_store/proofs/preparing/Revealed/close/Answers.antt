@@ -1,4 +1,4 @@
-use Rattle.std.proofs.Common.{Some, ◌∙◌}
+use Rattle.mst_store.proofs.Names.{Some, ◌∙◌}
 use Rattle.mst_batching.proofs.Prepared.{closed_known}
 use Rattle.mst_store.proofs.preparing.Revealed.close.Goals as goal
 

@@ -1,4 +1,4 @@
-use Rattle.std.proofs.Common.{rules}
+use Rattle.mst_store.proofs.Names.{rules}
 use Rattle.mst_store.proofs.store.Store.deal.Goals as goal
 
 pub overflow_cast-count : goal.overflow_cast-count

@@ -1,6 +1,6 @@
-use Rattle.std.proofs.Common.{◌≡◌, ◌+◌, [], vec_len, vec_capacity}
+use Rattle.mst_store.proofs.Names.{◌≡◌, ◌+◌, [], first_passes}
+use Rattle.std.proofs.Common.{vec_len, vec_capacity}
 use Rattle.mst_words.specs.World.{dealer}
-use Rattle.mst_store.specs.Passes.{first_passes}
 use Rattle.mst_store.proofs.store.Store.deal.Given as goal
 
 abbrev pub invariant-loop-index : goal.invariant-loop-index

@@ -1,4 +1,4 @@
-use Rattle.std.proofs.Common.{rules}
+use Rattle.mst_store.proofs.Names.{rules}
 use Rattle.mst_store.proofs.store.Store.open.Goals as goal
 
 pub returns-then-not-is_shape-clause-shape : goal.returns-then-not-is_shape-clause-shape

@@ -1,5 +1,4 @@
-use Rattle.std.proofs.Common.{rules}
-use Rattle.std.proofs.Common.{ℕ, [], ◌∷◌, ◌++◌, refl, sym, ap, ◌∙◌}
+use Rattle.mst_versions.proofs.Names.{rules, ℕ, [], ◌∷◌, ◌++◌, refl, sym, ap, ◌∙◌}
 use Rattle.mst_versions.proofs.Asked.{asked_current, asked_drained, asked_blocked, asks_drained, asks_blocked, not_asked}
 use Rattle.mst_versions.proofs.turn.Asked.ask.Goals as goal
 

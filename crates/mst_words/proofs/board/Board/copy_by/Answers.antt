@@ -1,10 +1,6 @@
-use Rattle.std.proofs.Common.{◌≡◌, ◌++◌, ◌∙◌, ◌%◌, ◌/◌, ℕ, take, arith, subst, sym}
-use Rattle.mst_node.specs.Text.{child_text, counted, held_of, held_text}
+use Rattle.mst_words.proofs.Names.{◌≡◌, ◌++◌, ◌∙◌, ◌%◌, ◌/◌, ℕ, take, arith, subst, sym, child_text, counted, held_of, held_text, bytes_in, View, IsPadded}
 use Rattle.mst_prefix.specs.Kept.{HasTaken}
-use Rattle.mst_arena.specs.Words.{bytes_in}
-use Rattle.mst_words.specs.declared.view.View.{View}
 use Rattle.mst_words.specs.Records as records
-use Rattle.mst_words.specs.Access.{IsPadded}
 use Rattle.mst_words.proofs.EntryRows.{PairAt, lengths_at, pair_at}
 use Rattle.mst_words.proofs.ShortRows.{source_of}
 use Rattle.mst_words.proofs.board.Board.copy_by.Goals as goal

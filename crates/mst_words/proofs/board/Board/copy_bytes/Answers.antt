@@ -1,12 +1,6 @@
-use Rattle.std.proofs.Common.{◌≡◌, ◌∙◌, ◌+◌, ◌<◌, ℕ, List, Option, true, ap, map, arith, subst, sym}
+use Rattle.mst_words.proofs.Names.{◌≡◌, ◌∙◌, ◌+◌, ◌<◌, ℕ, List, Option, true, ap, map, arith, subst, sym, Me, IsTrue, range_with_len, View, table_words, IsAt, PartStored, may_read, may_write}
 use Rattle.mst_words.specs.Records as records
-use Rattle.atomic_table.specs.Table.{Me}
 use Rattle.mst_arena.specs.Lives as lives
-use Rattle.std.specs.Prelude.{IsTrue}
-use Rattle.std.specs.List.{range_with_len}
-use Rattle.mst_words.specs.declared.view.View.{View}
-use Rattle.mst_words.specs.Layout.{table_words}
-use Rattle.mst_words.specs.Access.{IsAt, PartStored, may_read, may_write}
 use Rattle.mst_words.proofs.Accesses.{blank_parts, inside}
 use Rattle.mst_words.proofs.Copied.{beyond, still_blank, parts_joined, same_words}
 use Rattle.mst_words.proofs.ShortRows.{key_four, value_words}

@@ -1,11 +1,6 @@
-use Rattle.std.proofs.Common.{◌≡◌, ◌∙◌, ℕ, List, Option, ap, subst}
-use Rattle.atomic_table.specs.Table.{Me}
-use Rattle.mst_arena.specs.Content.{part_at}
+use Rattle.mst_words.proofs.Names.{◌≡◌, ◌∙◌, ℕ, List, Option, ap, subst, Me, part_at, entry_pair, View, RowStored, content_of, relinked_list}
 use Rattle.mst_arena.specs.Lives as lives
-use Rattle.mst_arena.specs.Row.{entry_pair}
-use Rattle.mst_words.specs.declared.view.View.{View}
 use Rattle.mst_words.specs.Records as records
-use Rattle.mst_words.specs.Access.{RowStored, content_of, relinked_list}
 use Rattle.mst_words.proofs.board.Board.copy_entry.Goals as goal
 
 -- the load of the lengths changes nothing of the seat

@@ -1,11 +1,7 @@
-use Rattle.std.proofs.Common.{◌≡◌, ◌∙◌, ◌+◌, ◌<◌, ℕ, Option, length, ap, arith, sym, subst, length-set}
-use Rattle.atomic_table.specs.Table.{Me}
+use Rattle.mst_words.proofs.Names.{◌≡◌, ◌∙◌, ◌+◌, ◌<◌, ℕ, Option, length, ap, arith, sym, subst, length-set, Me, View, row_word, table_words, IsTrue, PartStored, may_write}
 use Rattle.mst_arena.specs.Lives as lives
-use Rattle.mst_words.specs.declared.view.View.{View}
-use Rattle.mst_words.specs.Layout.{row_word, table_words}
 use Rattle.mst_words.specs.Records as records
-use Rattle.std.specs.Prelude.{IsTrue, slice_set as set}
-use Rattle.mst_words.specs.Access.{PartStored, may_write}
+use Rattle.std.specs.Prelude.{slice_set as set}
 use Rattle.mst_words.proofs.Accesses.{blank_parts, inside, stored_once, fill_from}
 use Rattle.mst_words.proofs.Copied.{still_blank, part_next, beyond, filled_more}
 use Rattle.mst_words.proofs.board.Board.copy_part.Goals as goal

@@ -1,6 +1,5 @@
-use Rattle.std.proofs.Common.{◌≡◌, ◌+◌, ◌<◌, ℕ, length, get_or}
+use Rattle.mst_words.proofs.Names.{◌≡◌, ◌+◌, ◌<◌, ℕ, length, get_or, PartStored}
 use Rattle.mst_words.specs.Records as records
-use Rattle.mst_words.specs.Access.{PartStored}
 use Rattle.mst_words.proofs.board.Board.copy_part.Given as goal
 
 abbrev pub invariant-loop-k : goal.invariant-loop-k

@@ -1,10 +1,6 @@
-use Rattle.std.proofs.Common.{◌≡◌, ◌∙◌, ◌<◌, ◌≤◌, ◌∷◌, [], ℕ, List, Option, ap, arith, refl, subst, sym}
-use Rattle.atomic_table.specs.Table.{Me}
+use Rattle.mst_words.proofs.Names.{◌≡◌, ◌∙◌, ◌<◌, ◌≤◌, ◌∷◌, [], ℕ, List, Option, ap, arith, refl, subst, sym, Me, View, table_words, PartStored, RowStored, may_read, relinked_list}
 use Rattle.mst_arena.specs.Lives as lives
-use Rattle.mst_words.specs.declared.view.View.{View}
-use Rattle.mst_words.specs.Layout.{table_words}
 use Rattle.mst_words.specs.Records as records
-use Rattle.mst_words.specs.Access.{PartStored, RowStored, may_read, relinked_list}
 use Rattle.mst_words.proofs.Accesses.{blank_parts, inside}
 use Rattle.mst_words.proofs.Copied.{behind_front, entry_stored, same_words, still_blank, still_ends}
 use Rattle.mst_words.proofs.board.Board.copy_words.Given.{Over}

@@ -1,6 +1,4 @@
-use Rattle.std.proofs.Common.{rules, arith, ap}
-use Rattle.atomic_table.specs.Seated.{TableId}
-use Rattle.mst_words.specs.Stored.{stored}
+use Rattle.mst_words.proofs.Names.{rules, arith, ap, TableId, stored}
 use Rattle.mst_words.proofs.Framed.{stored_framed}
 use Rattle.mst_words.proofs.Opens.{deal_splits}
 use Rattle.mst_words.proofs.board.Board.deal.Goals as goal

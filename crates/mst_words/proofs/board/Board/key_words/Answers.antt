@@ -1,5 +1,4 @@
-use Rattle.std.proofs.Common.{◌≡◌, ℕ, ◌∷◌, [], arith}
-use Rattle.mst_words.specs.declared.view.View.{View}
+use Rattle.mst_words.proofs.Names.{◌≡◌, ℕ, ◌∷◌, [], arith, View}
 use Rattle.mst_words.specs.Records as records
 use Rattle.mst_words.proofs.ShortRows.{key_of, key_four}
 use Rattle.mst_words.proofs.board.Board.key_words.Goals as goal

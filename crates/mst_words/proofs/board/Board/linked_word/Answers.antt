@@ -1,8 +1,4 @@
-use Rattle.std.proofs.Common.{◌≡◌, ◌+◌, ◌*◌, ◌-◌, ◌<◌, ◌∙◌, ℕ, ap, arith, subst, sym}
-use Rattle.std.specs.Prelude.{slice_index}
-use Rattle.mst_words.specs.declared.view.View.{View}
-use Rattle.mst_words.specs.Layout.{row_word}
-use Rattle.mst_words.specs.Steps.{IsReadable}
+use Rattle.mst_words.proofs.Names.{◌≡◌, ◌+◌, ◌*◌, ◌-◌, ◌<◌, ◌∙◌, ℕ, ap, arith, subst, sym, slice_index, View, row_word, IsReadable}
 use Rattle.mst_words.proofs.Accesses.{inside, readable}
 use Rattle.mst_words.proofs.Places.{place_below, place_front}
 use Rattle.mst_words.proofs.board.Board.linked_word.Goals as goal

@@ -1,5 +1,4 @@
-use Rattle.std.proofs.Common.{◌∙◌, Some, sym, ap, arith}
-use Rattle.mst_words.specs.Access.{may_read}
+use Rattle.mst_words.proofs.Names.{◌∙◌, Some, sym, ap, arith, may_read}
 use Rattle.mst_words.proofs.ShortRows.{key_of, links_of}
 use Rattle.mst_words.proofs.WordWays.{loaded_still}
 use Rattle.mst_words.proofs.board.Board.links.Goals as goal

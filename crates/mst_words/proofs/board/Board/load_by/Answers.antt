@@ -1,4 +1,4 @@
-use Rattle.std.proofs.Common.{rules}
+use Rattle.mst_words.proofs.Names.{rules}
 use Rattle.mst_words.proofs.ByDeed.{by_deed}
 use Rattle.mst_words.proofs.board.Board.load_by.Goals as goal
 

@@ -1,12 +1,5 @@
-use Rattle.std.proofs.Common.{rules}
-use Rattle.std.proofs.Common.{◌≡◌, ◌<◌, ◌∷◌, [], ℕ, List, Some, Option, refl, ap, ◌∙◌, sym, subst, arith}
-use Rattle.std.specs.Prelude.{slice_index}
-use Rattle.atomic_table.specs.Table.{opening}
-use Rattle.mst_key.specs.declared.format.Format.{Format}
+use Rattle.mst_words.proofs.Names.{rules, ◌≡◌, ◌<◌, ◌∷◌, [], ℕ, List, Some, Option, refl, ap, ◌∙◌, sym, subst, arith, slice_index, opening, Format, dealer, Ruled, stored, fresh_desk, desk_state}
 use Rattle.mst_arena.specs.Lives.{State}
-use Rattle.mst_words.specs.World.{dealer}
-use Rattle.mst_words.specs.Rule.{Ruled}
-use Rattle.mst_words.specs.Stored.{stored, fresh_desk, desk_state}
 use Rattle.mst_words.proofs.Framed.{stored_framed}
 use Rattle.mst_words.proofs.Fresh.{fresh_standing, fresh_is_desk}
 use Rattle.mst_words.proofs.Opens.{opens}

@@ -1,4 +1,4 @@
-use Rattle.std.proofs.Common.{rules}
+use Rattle.mst_words.proofs.Names.{rules}
 use Rattle.mst_words.proofs.board.Board.order.Goals as goal
 
 pub bounds-words-0 : goal.bounds-words-0

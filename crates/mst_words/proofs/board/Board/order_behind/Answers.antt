@@ -1,4 +1,4 @@
-use Rattle.std.proofs.Common.{rules}
+use Rattle.mst_words.proofs.Names.{rules}
 use Rattle.mst_words.proofs.board.Board.order_behind.Goals as goal
 
 pub bounds-words-1 : goal.bounds-words-1

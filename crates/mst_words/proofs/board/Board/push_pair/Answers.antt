@@ -1,9 +1,4 @@
-use Rattle.std.proofs.Common.{◌∙◌, ◌++◌, ◌∷◌, [], ap, sym}
-use Rattle.std.proofs.lemmas.Option.{same_Some}
-use Rattle.mst_key.specs.Map.{Pair}
-use Rattle.mst_arena.specs.Content.{part_at}
-use Rattle.mst_arena.specs.Row.{entry_pair}
-use Rattle.mst_words.specs.Access.{content_of}
+use Rattle.mst_words.proofs.Names.{◌∙◌, ◌++◌, ◌∷◌, [], ap, sym, same_Some, Pair, part_at, entry_pair, content_of}
 use Rattle.mst_words.proofs.board.Board.push_pair.Goals as goal
 
 pub returns-then-lengths-eq-COMMON_LENGTHS-clause-pushed :

@@ -1,5 +1,5 @@
-use Rattle.std.proofs.Common.{◌-◌, refl, ◌∙◌, arith}
-use Rattle.mst_arena.proofs.StopLemmas.{from_first, entry_met, behind_all}
+use Rattle.mst_words.proofs.Names.{◌-◌, refl, ◌∙◌, arith, entry_met}
+use Rattle.mst_arena.proofs.StopLemmas.{from_first, behind_all}
 use Rattle.mst_words.proofs.WordWays.{may_be_read, met, loaded_still, stops_before, stops_at, goes_on}
 use Rattle.mst_words.proofs.board.Board.search.Goals as goal
 

@@ -1,6 +1,4 @@
-use Rattle.std.proofs.Common.{◌≡◌, ◌<◌, ◌^◌}
-use Rattle.mst_words.specs.Access.{content_of}
-use Rattle.mst_arena.proofs.StopLemmas.{Goes}
+use Rattle.mst_words.proofs.Names.{◌≡◌, ◌<◌, ◌^◌, content_of, Goes}
 use Rattle.mst_words.proofs.board.Board.search.Given as goal
 
 -- the search in the entries that are left ends where the search in all ends

@@ -1,11 +1,4 @@
-use Rattle.std.proofs.Common.{◌≡◌, ◌∙◌, ◌++◌, ℕ, List, ap, refl, subst, sym}
-use Rattle.std.proofs.lemmas.Option.{same_Some}
-use Rattle.mst_key.specs.Bytes.{IsKey, IsValue}
-use Rattle.mst_key.specs.Map.{Pair}
-use Rattle.mst_node.specs.Text.{child_text, counted, held_of, held_text}
-use Rattle.mst_arena.specs.Content.{part_at}
-use Rattle.mst_arena.specs.Row.{entry_pair}
-use Rattle.mst_words.specs.Access.{content_of}
+use Rattle.mst_words.proofs.Names.{◌≡◌, ◌∙◌, ◌++◌, ℕ, List, ap, refl, subst, sym, same_Some, IsKey, IsValue, Pair, child_text, counted, held_of, held_text, part_at, entry_pair, content_of}
 use Rattle.mst_words.proofs.board.Board.spell.Goals as goal
 use Rattle.mst_words.proofs.board.Board.spell.Goals.{then-eq+then-word-eq-COMMON_LENGTHS+else-take_common, else-eq, else-eq-via-then-eq+else-word-eq-COMMON_LENGTHS, else-eq-via-else-eq}
 

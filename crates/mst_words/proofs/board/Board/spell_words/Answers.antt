@@ -1,8 +1,4 @@
-use Rattle.std.proofs.Common.{◌≡◌, ◌++◌, ◌∙◌, ◌%◌, ◌/◌, ℕ, map, take, subst, ap, arith}
-use Rattle.std.specs.List.{range_with_len}
-use Rattle.mst_node.specs.Text.{child_text, counted}
-use Rattle.mst_arena.specs.Words.{bytes_in}
-use Rattle.mst_words.specs.declared.view.View.{View}
+use Rattle.mst_words.proofs.Names.{◌≡◌, ◌++◌, ◌∙◌, ◌%◌, ◌/◌, ℕ, map, take, subst, ap, arith, range_with_len, child_text, counted, bytes_in, View}
 use Rattle.mst_words.specs.Records as records
 use Rattle.mst_words.proofs.EntryRows.{PairAt, lengths_at, pair_at}
 use Rattle.mst_words.proofs.board.Board.spell_words.Goals as goal

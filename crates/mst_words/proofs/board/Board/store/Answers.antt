@@ -1,4 +1,4 @@
-use Rattle.std.proofs.Common.{refl, rules}
+use Rattle.mst_words.proofs.Names.{refl, rules}
 use Rattle.mst_words.proofs.board.Board.store.Goals as goal
 
 pub store_by-requires-clause-own : goal.store_by-requires-clause-own

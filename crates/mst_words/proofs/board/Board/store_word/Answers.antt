@@ -1,12 +1,5 @@
-use Rattle.std.proofs.Common.{◌≡◌, ◌∙◌, ◌<◌, ℕ, Option, true, ap, arith, subst, sym}
-use Rattle.atomic_table.specs.Seated.{TableId}
-use Rattle.atomic_table.specs.Table.{Me}
+use Rattle.mst_words.proofs.Names.{◌≡◌, ◌∙◌, ◌<◌, ℕ, Option, true, ap, arith, subst, sym, TableId, Me, View, row_word, row_words, table_words, IsWritable, stored, IsAt, may_write}
 use Rattle.mst_arena.specs.Lives as lives
-use Rattle.mst_words.specs.declared.view.View.{View}
-use Rattle.mst_words.specs.Layout.{row_word, row_words, table_words}
-use Rattle.mst_words.specs.Steps.{IsWritable}
-use Rattle.mst_words.specs.Stored.{stored}
-use Rattle.mst_words.specs.Access.{IsAt, may_write}
 use Rattle.mst_words.proofs.Accesses.{blank_may, blank_parts, rows_of_table, writable}
 use Rattle.mst_words.proofs.Places.{place_below}
 use Rattle.mst_words.proofs.board.Board.store_word.Goals as goal

@@ -1,6 +1,4 @@
-use Rattle.std.proofs.Common.{rules}
-use Rattle.std.proofs.Common.{◌≡◌, ◌∙◌, ℕ, get_or, arith, refl, subst}
-use Rattle.mst_words.specs.Access.{RowStored}
+use Rattle.mst_words.proofs.Names.{rules, ◌≡◌, ◌∙◌, ℕ, get_or, arith, refl, subst, RowStored}
 use Rattle.mst_words.proofs.Accesses.{stored_once, stored_next}
 use Rattle.mst_words.proofs.board.Board.store_words.Goals as goal
 

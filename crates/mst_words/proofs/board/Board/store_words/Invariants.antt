@@ -1,5 +1,4 @@
-use Rattle.std.proofs.Common.{◌≡◌}
-use Rattle.mst_words.specs.Access.{RowStored}
+use Rattle.mst_words.proofs.Names.{◌≡◌, RowStored}
 use Rattle.mst_words.proofs.board.Board.store_words.Given as goal
 
 abbrev pub invariant-loop-k : goal.invariant-loop-k

@@ -1,5 +1,4 @@
-use Rattle.std.proofs.Common.{◌≡◌, ℕ, ◌∷◌, [], arith}
-use Rattle.mst_words.specs.declared.view.View.{View}
+use Rattle.mst_words.proofs.Names.{◌≡◌, ℕ, ◌∷◌, [], arith, View}
 use Rattle.mst_words.specs.Records as records
 use Rattle.mst_words.proofs.ShortRows.{value_of, value_words}
 use Rattle.mst_words.proofs.board.Board.value_words.Goals as goal

@@ -1,11 +1,6 @@
-use Rattle.std.proofs.Common.{◌≡◌, ◌+◌, ◌-◌, ◌∙◌, ℕ, List, Option, ap, subst, arith}
-use Rattle.atomic_table.specs.Table.{Me}
+use Rattle.mst_words.proofs.Names.{◌≡◌, ◌+◌, ◌-◌, ◌∙◌, ℕ, List, Option, ap, subst, arith, Me, View, known_row, may_read, words_order}
 use Rattle.mst_arena.specs.Lives as lives
-use Rattle.mst_words.specs.declared.view.View.{View}
-use Rattle.mst_words.specs.Records.{known_row}
-use Rattle.mst_words.specs.Access.{may_read}
 use Rattle.std.specs.declared.cmp.Ordering.{Ordering}
-use Rattle.mst_arena.specs.Ways.{words_order}
 use Rattle.mst_words.proofs.ShortRows.{key_of}
 use Rattle.mst_words.proofs.WordWays.{WayAt, way_of_row, way_to_child, way_here, way_to_next}
 use Rattle.mst_words.proofs.board.Board.way.Given.{Over}

@@ -1,7 +1,4 @@
-use Rattle.std.proofs.Common.{◌≡◌, ◌∙◌, ℕ, ap, arith, subst, sym}
-use Rattle.std.specs.Prelude.{slice_index}
-use Rattle.mst_words.specs.Layout.{row_word}
-use Rattle.mst_words.specs.Steps.{IsReadable}
+use Rattle.mst_words.proofs.Names.{◌≡◌, ◌∙◌, ℕ, ap, arith, subst, sym, slice_index, row_word, IsReadable}
 use Rattle.mst_words.proofs.Accesses.{inside, readable, rows_of_table}
 use Rattle.mst_words.proofs.Places.{place_below}
 use Rattle.mst_words.proofs.board.Board.word_of.Given.{Over}

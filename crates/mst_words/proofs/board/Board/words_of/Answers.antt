@@ -1,5 +1,4 @@
-use Rattle.std.proofs.Common.{arith}
-use Rattle.std.proofs.lemmas.Grind.{common_steps}
+use Rattle.mst_words.proofs.Names.{arith, common_steps}
 use Rattle.mst_words.specs.Records as records
 use Rattle.mst_words.proofs.Accesses.{fill_from}
 use Rattle.mst_words.proofs.board.Board.words_of.Goals as goal

@@ -1,4 +1,4 @@
-use Rattle.std.proofs.Common.{◌≡◌, ◌+◌, ◌<◌, ℕ, length, get_or}
+use Rattle.mst_words.proofs.Names.{◌≡◌, ◌+◌, ◌<◌, ℕ, length, get_or}
 use Rattle.mst_words.specs.Records as records
 use Rattle.mst_words.proofs.board.Board.words_of.Given as goal
 

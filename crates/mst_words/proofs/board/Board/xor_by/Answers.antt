@@ -1,4 +1,4 @@
-use Rattle.std.proofs.Common.{bit_xor, rules}
+use Rattle.mst_words.proofs.Names.{bit_xor, rules}
 use Rattle.mst_words.proofs.ByDeed.{by_deed}
 use Rattle.mst_words.proofs.board.Board.xor_by.Goals as goal
 

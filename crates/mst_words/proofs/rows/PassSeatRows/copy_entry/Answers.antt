@@ -1,12 +1,6 @@
-use Rattle.std.proofs.Common.{◌≡◌, ◌∙◌, Option, Some, ap, refl, sym, arith, rules, subst}
-use Rattle.std.specs.Prelude.{IsSome}
-use Rattle.atomic_table.specs.Table.{Me}
-use Rattle.mst_arena.specs.Content.{Writes, part_at}
+use Rattle.mst_words.proofs.Names.{◌≡◌, ◌∙◌, Option, Some, ap, refl, sym, arith, rules, subst, IsSome, Me, Writes, part_at, keyed_links, entry_pair, View, Seated, with_words, content_of, RowStored, relinked_list}
 use Rattle.mst_arena.specs.Lives as lives
-use Rattle.mst_arena.specs.Row.{keyed_links, entry_pair}
-use Rattle.mst_words.specs.declared.view.View.{View}
 use Rattle.mst_words.specs.Records as records
-use Rattle.mst_words.specs.Access.{Seated, with_words, content_of, RowStored, relinked_list}
 use Rattle.mst_words.proofs.Accesses.{entry_copied, row_written, blank_stays, blank_parts, beside_stays, same_seated}
 use Rattle.mst_words.proofs.rows.PassSeatRows.copy_entry.Given.{Over}
 use Rattle.mst_words.proofs.rows.PassSeatRows.copy_entry.Goals as goal

@@ -1,4 +1,4 @@
-use Rattle.std.proofs.Common.{rules}
+use Rattle.mst_words.proofs.Names.{rules}
 use Rattle.mst_words.proofs.rows.PassSeatRows.digest.Goals as goal
 
 pub returns-clause-value : goal.returns-clause-value

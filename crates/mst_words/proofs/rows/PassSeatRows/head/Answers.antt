@@ -1,7 +1,4 @@
-use Rattle.std.proofs.Common.{◌≡◌, Some, rules}
-use Rattle.mst_arena.specs.Content.{part_at}
-use Rattle.mst_arena.specs.Row.{head_links}
-use Rattle.mst_words.specs.Access.{content_of}
+use Rattle.mst_words.proofs.Names.{◌≡◌, Some, rules, part_at, head_links, content_of}
 use Rattle.mst_words.proofs.Limits.{head_within}
 use Rattle.mst_words.proofs.rows.PassSeatRows.head.Goals as goal
 

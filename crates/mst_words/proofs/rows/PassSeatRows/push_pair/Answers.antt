@@ -1,7 +1,4 @@
-use Rattle.std.proofs.Common.{◌≡◌, ◌∙◌, Some, ap}
-use Rattle.mst_arena.specs.Content.{part_at}
-use Rattle.mst_arena.specs.Row.{entry_pair}
-use Rattle.mst_words.specs.Access.{content_of}
+use Rattle.mst_words.proofs.Names.{◌≡◌, ◌∙◌, Some, ap, part_at, entry_pair, content_of}
 use Rattle.mst_words.proofs.rows.PassSeatRows.push_pair.Goals as goal
 
 pub returns-clause-pushed : goal.returns-clause-pushed

@@ -1,5 +1,4 @@
-use Rattle.std.proofs.Common.{arith, rules}
-use Rattle.std.proofs.lemmas.Grind.{elements}
+use Rattle.mst_words.proofs.Names.{arith, rules, elements}
 use Rattle.mst_words.proofs.rows.PassSeatRows.read.Goals as goal
 
 pub unreachable-requires : goal.unreachable-requires

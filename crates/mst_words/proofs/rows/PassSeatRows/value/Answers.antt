@@ -1,4 +1,4 @@
-use Rattle.std.proofs.Common.{rules}
+use Rattle.mst_words.proofs.Names.{rules}
 use Rattle.mst_words.proofs.rows.PassSeatRows.value.Goals as goal
 
 pub word-lengths-requires-clause-readable : goal.word-lengths-requires-clause-readable

@@ -1,4 +1,4 @@
-use Rattle.std.proofs.Common.{rules}
+use Rattle.mst_words.proofs.Names.{rules}
 use Rattle.mst_words.proofs.rows.PassSeatRows.write.Goals as goal
 
 pub words-words-requires : goal.words-words-requires

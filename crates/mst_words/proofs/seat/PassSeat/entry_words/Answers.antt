@@ -1,8 +1,4 @@
-use Rattle.std.proofs.Common.{◌≡◌, ℕ, ◌∷◌, [], List, ◌∙◌, ap, arith, map}
-use Rattle.std.specs.Prelude.{slice_index_or}
-use Rattle.std.specs.List.{range_with_len}
-use Rattle.mst_words.specs.declared.view.View.{View}
-use Rattle.mst_words.specs.Access.{Seated}
+use Rattle.mst_words.proofs.Names.{◌≡◌, ℕ, ◌∷◌, [], List, ◌∙◌, ap, arith, map, slice_index_or, range_with_len, View, Seated}
 use Rattle.mst_words.specs.Records as records
 use Rattle.mst_words.proofs.ShortRows.{key_of, key_words}
 use Rattle.mst_words.proofs.seat.PassSeat.entry_words.Goals as goal

@@ -1,5 +1,4 @@
-use Rattle.std.proofs.Common.{ℕ, ◌-◌, ◌^◌, bit_xor, sym, ◌∙◌, ap, arith, refl, rules}
-use Rattle.mst_words.specs.Steps.{IsPinned}
+use Rattle.mst_words.proofs.Names.{ℕ, ◌-◌, ◌^◌, bit_xor, sym, ◌∙◌, ap, arith, refl, rules, IsPinned}
 use Rattle.mst_words.proofs.seat.PassSeat.forget.Goals as goal
 
 pub xor_by-requires-clause-own : goal.xor_by-requires-clause-own

@@ -1,4 +1,4 @@
-use Rattle.std.proofs.Common.{arith, refl, rules}
+use Rattle.mst_words.proofs.Names.{arith, refl, rules}
 use Rattle.mst_words.proofs.seat.PassSeat.give_turn.Goals as goal
 
 pub store_by-requires-clause-own : goal.store_by-requires-clause-own

@@ -1,4 +1,4 @@
-use Rattle.std.proofs.Common.{refl, rules}
+use Rattle.mst_words.proofs.Names.{refl, rules}
 use Rattle.mst_words.proofs.seat.PassSeat.glance.Goals as goal
 
 pub load_by-requires-clause-own : goal.load_by-requires-clause-own

@@ -1,7 +1,4 @@
-use Rattle.std.proofs.Common.{◌∙◌, sym, rules, arith, ap}
-use Rattle.atomic_table.specs.Seated.{TableId}
-use Rattle.mst_words.specs.Access.{Seated}
-use Rattle.mst_words.specs.Stored.{stored}
+use Rattle.mst_words.proofs.Names.{◌∙◌, sym, rules, arith, ap, TableId, Seated, stored}
 use Rattle.mst_words.proofs.Framed.{stored_framed}
 use Rattle.mst_words.proofs.Hearing.{note_joins}
 use Rattle.mst_words.proofs.seat.PassSeat.hear_note.Goals as goal

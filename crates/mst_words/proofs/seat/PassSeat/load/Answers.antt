@@ -1,9 +1,5 @@
-use Rattle.std.proofs.Common.{Option, ap, sym, subst, rules}
-use Rattle.atomic_table.specs.Table.{Me}
+use Rattle.mst_words.proofs.Names.{Option, ap, sym, subst, rules, Me, View, Seated, IsReadable}
 use Rattle.mst_arena.specs.Lives as lives
-use Rattle.mst_words.specs.declared.view.View.{View}
-use Rattle.mst_words.specs.Access.{Seated}
-use Rattle.mst_words.specs.Steps.{IsReadable}
 use Rattle.mst_words.proofs.seat.PassSeat.load.Goals as goal
 
 pub load-requires-clause-own : goal.load-requires-clause-own

@@ -1,10 +1,6 @@
-use Rattle.std.proofs.Common.{◌≡◌, ℕ, ◌-◌, ◌/◌, ◌^◌, Option, bit_xor, sym, subst, ◌∙◌, ap, arith, refl, rules}
-use Rattle.atomic_table.specs.Table.{Me}
+use Rattle.mst_words.proofs.Names.{◌≡◌, ℕ, ◌-◌, ◌/◌, ◌^◌, Option, bit_xor, sym, subst, ◌∙◌, ap, arith, refl, rules, Me, View, Seated, IsFree, stored}
 use Rattle.mst_arena.specs.Lives.{State}
-use Rattle.mst_words.specs.declared.view.View.{View}
-use Rattle.mst_words.specs.Access.{Seated}
-use Rattle.mst_words.specs.Steps.{IsFree, PinsNow}
-use Rattle.mst_words.specs.Stored.{stored}
+use Rattle.mst_words.specs.Steps.{PinsNow}
 use Rattle.mst_words.proofs.ByDeed.{own_free}
 use Rattle.mst_words.proofs.seat.PassSeat.pin.Goals as goal
 

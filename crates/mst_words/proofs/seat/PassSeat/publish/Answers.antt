@@ -1,8 +1,4 @@
-use Rattle.std.proofs.Common.{ℕ, ◌*◌, List, rules, arith, ap}
-use Rattle.atomic_table.specs.Seated.{TableId}
-use Rattle.mst_pin.specs.WordParts.{masks}
-use Rattle.mst_words.specs.Steps.{IsReady}
-use Rattle.mst_words.specs.Stored.{desk_state, stored}
+use Rattle.mst_words.proofs.Names.{ℕ, ◌*◌, List, rules, arith, ap, TableId, masks, IsReady, desk_state, stored}
 use Rattle.mst_words.proofs.Formats.{publishes_by}
 use Rattle.mst_words.proofs.seat.PassSeat.publish.Goals as goal
 

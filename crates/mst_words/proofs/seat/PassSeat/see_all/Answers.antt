@@ -1,4 +1,4 @@
-use Rattle.std.proofs.Common.{arith, refl, rules}
+use Rattle.mst_words.proofs.Names.{arith, refl, rules}
 use Rattle.mst_words.proofs.seat.PassSeat.see_all.Goals as goal
 
 pub load_by-requires-clause-own : goal.load_by-requires-clause-own

@@ -1,4 +1,4 @@
-use Rattle.std.proofs.Common.{rules}
+use Rattle.mst_words.proofs.Names.{rules}
 use Rattle.mst_words.proofs.seat.PassSeat.store.Goals as goal
 
 pub store-requires-clause-own : goal.store-requires-clause-own

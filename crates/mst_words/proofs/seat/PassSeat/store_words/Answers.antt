@@ -1,8 +1,5 @@
-use Rattle.std.proofs.Common.{◌≡◌, ◌∙◌, Option, ap, arith, rules, subst}
-use Rattle.atomic_table.specs.Table.{Me}
+use Rattle.mst_words.proofs.Names.{◌≡◌, ◌∙◌, Option, ap, arith, rules, subst, Me, View, Seated, with_words, RowStored}
 use Rattle.mst_arena.specs.Lives as lives
-use Rattle.mst_words.specs.declared.view.View.{View}
-use Rattle.mst_words.specs.Access.{Seated, with_words, RowStored}
 use Rattle.mst_words.proofs.Accesses.{row_written, blank_stays, blank_parts, beside_stays, same_seated}
 use Rattle.mst_words.proofs.seat.PassSeat.store_words.Given.{Over}
 use Rattle.mst_words.proofs.seat.PassSeat.store_words.Goals as goal

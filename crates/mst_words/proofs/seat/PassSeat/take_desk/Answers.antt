@@ -1,5 +1,4 @@
-use Rattle.std.proofs.Common.{rules, ◌≡◌, ◌∷◌, [], List, ℕ, ap, sym, ◌∙◌, Some, Option}
-use Rattle.atomic_table.specs.Table.{rest}
+use Rattle.mst_words.proofs.Names.{rules, ◌≡◌, ◌∷◌, [], List, ℕ, ap, sym, ◌∙◌, Some, Option, rest}
 use Rattle.mst_arena.specs.Lives.{State}
 use Rattle.mst_words.proofs.seat.PassSeat.take_desk.Goals as goal
 

@@ -1,5 +1,4 @@
-use Rattle.std.proofs.Common.{ℕ, eqb, cond, sym, ◌∙◌, ap, arith, refl, rules}
-use Rattle.mst_words.specs.Steps.{IsFree}
+use Rattle.mst_words.proofs.Names.{ℕ, eqb, cond, sym, ◌∙◌, ap, arith, refl, rules, IsFree}
 use Rattle.mst_words.proofs.ByDeed.{own_free}
 use Rattle.mst_words.proofs.seat.PassSeat.take_turn.Goals as goal
 

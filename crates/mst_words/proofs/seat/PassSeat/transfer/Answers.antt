@@ -1,4 +1,4 @@
-use Rattle.std.proofs.Common.{◌≡◌, ℕ, bit_xor, true, Some, sym, ap, arith, refl, rules}
+use Rattle.mst_words.proofs.Names.{◌≡◌, ℕ, bit_xor, true, Some, sym, ap, arith, refl, rules}
 use Rattle.mst_words.proofs.seat.PassSeat.transfer.Goals as goal
 
 pub xor_by-requires-clause-own : goal.xor_by-requires-clause-own
