@@ -25,7 +25,7 @@ LOOKS = {
 TOLD, HALF = 10_000, (450, 550)
 TITLE = "{:,} chosen keys: a put takes {:.0f} times as long, and a proof has half a megabyte"
 # By how many percent hashed keys may lie below random ones.
-BELOW = 3
+BELOW = 7
 LAYERS = 3
 CELL, HIGH, TREE = 20, 26, 58
 CAPTION = [
